@@ -1,0 +1,11 @@
+//! Lists and boxes that contracts see as what they hold, so that a value made of them equals
+//! what a definition computes, and a copy equals its original.
+#![tactic(auto)]
+
+mod boxed;
+mod memory;
+mod seq;
+
+pub use boxed::Boxed;
+pub use memory::Memory;
+pub use seq::{Seq, Text};
