@@ -1,0 +1,3 @@
+pub mod UnderNames
+pub mod Gained
+pub mod Taken

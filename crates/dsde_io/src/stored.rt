@@ -1,0 +1,8 @@
+use dsde_values::Text;
+
+/// Bytes under a name.
+#[derive(Debug, Drop)]
+pub struct Stored {
+    pub name: Text,
+    pub bytes: Text,
+}
