@@ -1,0 +1,7 @@
+use Rattle.std.proofs.Common.{◌≡◌, drop}
+use Rattle.dsde_sim.specs.Meaning.{block}
+use Rattle.dsde_sim.proofs.mean.run_block.Given as goal
+
+abbrev pub invariant-loop-set : goal.invariant-loop-set
+invariant-loop-set l =
+    block l.states l.values (drop l.set-index l.sets) ≡ block l.states l.initial.values l.sets

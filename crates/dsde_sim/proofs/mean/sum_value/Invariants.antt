@@ -1,0 +1,7 @@
+use Rattle.std.proofs.Common.{◌≡◌, drop}
+use Rattle.dsde_sim.specs.Meaning.{sum_from, sum_value}
+use Rattle.dsde_sim.proofs.mean.sum_value.Given as goal
+
+abbrev pub invariant-loop-part : goal.invariant-loop-part
+invariant-loop-part l =
+    sum_from l.states l.values l.total (drop l.part-index l.sum.parts) ≡ sum_value l.states l.values l.sum

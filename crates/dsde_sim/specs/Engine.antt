@@ -1,0 +1,21 @@
+-- An engine, as contracts see it: a model at work.
+use Rattle.std.specs.Prelude.{ℕ, ◌<◌, ◌^◌, Bool}
+use Rattle.dsde_syntax.specs.declared.first.FirstModel.{FirstModel}
+use Rattle.dsde_values.specs.declared.when.When.{When}
+use Rattle.dsde_values.specs.declared.when.When.TheVariants.{At, Never}
+use Rattle.dsde_sim.specs.declared.leaf.Leaf.{Leaf}
+
+pub record Engine : Type 0 where
+  pub model : FirstModel
+  pub leaf : Leaf
+  -- how many turns are done
+  pub turn : ℕ
+  -- the time of the last of them
+  pub time : ℕ
+  -- a turn of it did not come to its end
+  pub spent : Bool
+
+-- not past the last moment of a run
+abbrev pub IsInTime : When → Type 0
+IsInTime (At time) = time < 2 ^ 63
+IsInTime Never = Unit {0}

@@ -1,0 +1,6 @@
+pub mod Engine
+pub mod Leaf
+pub mod Meaning
+pub mod Run
+pub mod Text
+pub mod Turn

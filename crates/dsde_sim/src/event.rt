@@ -1,0 +1,65 @@
+use crate::Fault;
+use dsde_values::{Seq, When};
+
+/// What a run tells: a line of its trace each. Times are in the model's whole time units.
+#[derive(Debug, Drop)]
+pub enum Event {
+    /// The component has started, in this state.
+    AddLeaf {
+        state: Seq<i64>,
+        next: When,
+    },
+    /// A turn begins. Turns are numbered from 1.
+    Turn {
+        number: u64,
+        time: u64,
+    },
+    /// The root sends a value by an out port. Ports are numbered from 0 in declaration order.
+    Out {
+        port: u32,
+        value: i64,
+    },
+    /// The component has moved to this state.
+    Move {
+        kind: MoveKind,
+        state: Seq<i64>,
+        next: When,
+    },
+    /// The run has ended after this many turns, at this time.
+    Finish {
+        how: Finish,
+        turns: u64,
+        time: u64,
+    },
+}
+
+/// Which transition a component takes: the internal one where it is due without input, the
+/// external one where it has input and is not due, the confluent one where it is due with input
+/// (A. C. Chow and B. P. Zeigler, "Parallel DEVS", WSC 1994).
+#[derive(Clone, Copy, Debug, PartialEq, Eq)]
+pub enum MoveKind {
+    Internal,
+    External,
+    Confluent,
+}
+
+/// How a run ends.
+#[derive(Debug, Drop)]
+pub enum Finish {
+    /// All its turns are done.
+    Bound,
+    /// There is no input left, and nothing will ever be due.
+    Quiet,
+    /// A line of the input is wanted that is no record.
+    Input { kind: InputKind, line: u64 },
+    /// An expression of the model has no value.
+    Fault(Fault),
+}
+
+/// What is wrong with a line of the input.
+#[derive(Clone, Copy, Debug, PartialEq, Eq)]
+pub enum InputKind {
+    BadLine,
+    Backwards,
+    LineTooLong,
+}
