@@ -1,4 +1,5 @@
-ghost use Rattle.std.specs.Prelude.{◌<◌, ◌≤◌, ◌^◌, length, IfOk, IfSome};
+ghost use Rattle.std.specs.Prelude.{◌≤◌, IsTrue, IfOk};
+ghost use Rattle.dsde_sim.specs.Engine.{HasFewPorts};
 
 use crate::command::{Command, MOST_TURNS, read_command};
 use crate::run::run;
@@ -11,6 +12,9 @@ use std::alloc::Global;
 
 /// The most bytes of a model's text.
 const LONGEST_MODEL: u64 = 1_048_576;
+
+/// The most out ports of a model, since their numbers have 32 bits.
+const MOST_PORTS: usize = 4_294_967_295;
 
 /// Does what the words ask for, and says in one line on `notes` how it ended where not all went well.
 ///
@@ -47,21 +51,28 @@ fn run_model<F: Shelf, W: Sink>(
 }
 
 fn load_model<F: Shelf>(alloc: Global, name: &str, shelf: &mut F) -> Result<FirstModel, Status>
-    ensures ports { IfOk result (λ model. length model.outs < 2 ^ 32) }
+    ensures ports { IfOk result HasFewPorts }
 {
     let bytes = match shelf.load(alloc, name, LONGEST_MODEL) {
         Ok(bytes) => bytes,
         Err(end) => return Err(unread_model(end)),
     };
     match read_first(alloc, bytes.as_slice()) {
-        Ok(model) => Ok(model),
-        Err(ReadFirst::NotFirst) => Err(Status::Refused {
+        Ok(model) if is_built(&model) => Ok(model),
+        Ok(_) | Err(ReadFirst::NotFirst) => Err(Status::Refused {
             kind: Refusal::NotBuilt,
             line: 0,
             column: 0,
         }),
         Err(ReadFirst::Memory) => Err(Status::Memory),
     }
+}
+
+/// Whether a model is run: so far it must have no in ports, since no input is read.
+fn is_built(model: &FirstModel) -> bool
+    ensures { IsTrue result → HasFewPorts model.now }
+{
+    model.ins.is_empty() && model.outs.len() <= MOST_PORTS
 }
 
 fn unread_model(end: ShelfEnd) -> Status {
@@ -79,7 +90,7 @@ fn unread_model(end: ShelfEnd) -> Status {
 
 /// Runs the model, and then writes its whole trace.
 fn write_run<W: Sink>(alloc: Global, model: &FirstModel, turns: u64, out: &mut W) -> Status
-    requires ports { length model.now.outs < 2 ^ 32 }
+    requires ports { HasFewPorts model.now }
     requires turns { turns ≤ MOST_TURNS }
 {
     let mut text = Text::new(alloc);

@@ -1,6 +1,7 @@
-ghost use Rattle.std.specs.Prelude.{◌≡◌, ◌+◌, ◌<◌, ◌^◌, ◌++◌, ℕ, suc, false, Some, Ok, length, IfOk, IfSome, IfNone, OnOk, OnErr, MatchResult};
-ghost use Rattle.dsde_sim.specs.Engine.{Engine};
-ghost use Rattle.dsde_sim.specs.Run.{Run, run, go, cut_short, time_of, ended};
+ghost use Rattle.std.specs.Prelude.{◌≡◌, ◌+◌, ◌<◌, ◌^◌, ◌++◌, ℕ, suc, false, Some, None, Ok, unwrap_or, IfOk, IfSome, IfNone, OnOk, OnErr, MatchResult};
+ghost use Rattle.dsde_sim.specs.Engine.{HasFewPorts};
+ghost use Rattle.dsde_sim.specs.Run.{run, go, cut_short, ended};
+ghost use Rattle.dsde_sim.specs.Turn.{turn_time};
 ghost use Rattle.dsde_sim.specs.Text.{event_text, end_text, trace_text};
 ghost use Rattle.dsde_cli.specs.Runs.{Tells, GoesOn};
 
@@ -17,7 +18,7 @@ pub(crate) fn run(
     turns: u64,
     text: &mut Text,
 ) -> Result<Finish, Memory>
-    requires ports { length model.now.outs < 2 ^ 32 }
+    requires ports { HasFewPorts model.now }
     requires turns { turns < 2 ^ 63 }
     ensures { IfOk result (Tells model.now (run model.now turns) text.old text.new) }
 {
@@ -70,7 +71,7 @@ fn turn(
     let last = plain.time();
     let next = plain.next();
     let mut events = Seq::new(alloc);
-    let step = plain.advance(&mut events);
+    let step = plain.advance(None, &mut events);
     write_events(events.as_slice(), model, text)?;
     match step {
         Ok(Step::Turned { .. }) => Ok(None),
@@ -119,7 +120,7 @@ fn write_events(events: &[Event], model: &FirstModel, text: &mut Text) -> Result
 
 /// The time of the turn that comes next.
 fn time_of(next: When, last: u64) -> u64
-    ensures { result ≡ time_of next last }
+    ensures { result ≡ unwrap_or (turn_time next None) last }
 {
     match next {
         When::At(time) => time,

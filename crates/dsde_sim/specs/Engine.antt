@@ -1,5 +1,5 @@
 -- An engine, as contracts see it: a model at work.
-use Rattle.std.specs.Prelude.{ℕ, ◌<◌, ◌^◌, Bool}
+use Rattle.std.specs.Prelude.{ℕ, ◌<◌, ◌^◌, Bool, length}
 use Rattle.dsde_syntax.specs.declared.first.FirstModel.{FirstModel}
 use Rattle.dsde_values.specs.declared.when.When.{When}
 use Rattle.dsde_values.specs.declared.when.When.TheVariants.{At, Never}
@@ -12,6 +12,8 @@ pub record Engine : Type 0 where
   pub turn : ℕ
   -- the time of the last of them
   pub time : ℕ
+  -- how many records of the input are taken
+  pub taken : ℕ
   -- a turn of it did not come to its end
   pub spent : Bool
 
@@ -19,3 +21,7 @@ pub record Engine : Type 0 where
 abbrev pub IsInTime : When → Type 0
 IsInTime (At time) = time < 2 ^ 63
 IsInTime Never = Unit {0}
+
+-- fewer ports in each direction than there are numbers of 32 bits
+abbrev pub HasFewPorts : FirstModel → Type 0
+HasFewPorts model = (length model.ins < 2 ^ 32) × (length model.outs < 2 ^ 32)

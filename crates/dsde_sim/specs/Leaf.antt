@@ -1,20 +1,25 @@
 -- The functions of a leaf: its initial state, when it is due, what it sends, and its moves.
-use Rattle.std.specs.Prelude.{ℕ, ◌+◌, ◌^◌, ◌≡◌, ◌==◌, ℤ, pos, negsuc, Bool, false, List, [], ◌∷◌, length, position, unwrap_or, Result, Ok, Err, nat_lt, if◌then◌else◌}
+use Rattle.std.specs.Prelude.{ℕ, ◌+◌, ◌-◌, ◌^◌, ◌≡◌, ◌==◌, ℤ, pos, negsuc, Bool, false, List, [], ◌∷◌, length, position, unwrap_or, Option, Some, None, Result, Ok, Err, nat_lt, if◌then◌else◌}
+use Rattle.std.specs.List.{list_any}
 use Rattle.std.specs.Str.{bytes_eq}
 use Rattle.dsde_syntax.specs.declared.first.FirstModel.{FirstModel}
 use Rattle.dsde_syntax.specs.declared.first.FirstSet.{FirstSet}
 use Rattle.dsde_syntax.specs.declared.first.FirstState.{FirstState}
 use Rattle.dsde_values.specs.declared.when.When.{When}
 use Rattle.dsde_values.specs.declared.when.When.TheVariants.{At, Never}
+use Rattle.dsde_sim.specs.declared.event.MoveKind.{MoveKind}
+use Rattle.dsde_sim.specs.declared.event.MoveKind.TheVariants as move
 use Rattle.dsde_sim.specs.declared.fault.FaultKind.{FaultKind}
-use Rattle.dsde_sim.specs.declared.fault.FaultKind.TheVariants.{NegativeAdvance, TimeTooFar}
+use Rattle.dsde_sim.specs.declared.fault.FaultKind.TheVariants.{NegativeAdvance, TimeTooFar, RangeTooLong}
 use Rattle.dsde_sim.specs.declared.fault.LeafEnd.{LeafEnd}
 use Rattle.dsde_sim.specs.declared.fault.LeafEnd.TheVariants.{Fault, Memory}
 use Rattle.dsde_sim.specs.declared.fault.Site.{Site}
-use Rattle.dsde_sim.specs.declared.fault.Site.TheVariants.{Init, Advance, Output, Internal}
-use Rattle.dsde_sim.specs.declared.leaf.Item.{Item}
+use Rattle.dsde_sim.specs.declared.fault.Site.TheVariants.{Init, Advance, Output, Internal, External, Confluent}
+use Rattle.dsde_sim.specs.declared.leaf.Sent.{Sent}
 use Rattle.dsde_sim.specs.declared.leaf.Leaf.{Leaf}
-use Rattle.dsde_sim.specs.Meaning.{◌>>=◌, fitting, sum_value, block}
+use Rattle.dsde_sim.specs.declared.leaf.TheConstants.{MOST_VALUES}
+use Rattle.dsde_sim.specs.declared.mean.Input.{Input}
+use Rattle.dsde_sim.specs.Meaning.{◌>>=◌, no_input, fitting, sum_value, block}
 
 -- The result is this one, unless memory ran out.
 abbrev pub Gives : {A : Type 0} → Result A LeafEnd → Result A LeafEnd → Type 0
@@ -43,7 +48,7 @@ is_due leaf time = elim leaf.next [ At next ↦ next == time | Never ↦ false ]
 
 -- when a leaf of this state with an event at this time is due next
 abbrev pub due : FirstModel → List ℤ → ℕ → Result When FaultKind
-due model state time = sum_value model.states state model.advance >>= after time
+due model state time = sum_value model state no_input model.advance >>= after time
 
 -- the leaf in this state after an event at this time
 abbrev pub settled : FirstModel → List ℤ → ℕ → Result Leaf FaultKind
@@ -55,14 +60,50 @@ abbrev pub port_of : List (List ℕ) → List ℕ → ℕ
 port_of ports name = unwrap_or (position (λ port. bytes_eq port name) ports) (length ports)
 
 -- the values that an output block sends, in the order in which they are sent
-abbrev pub sends : FirstModel → List ℤ → List FirstSet → Result (List Item) FaultKind
+abbrev pub sends : FirstModel → List ℤ → List FirstSet → Result (List Sent) FaultKind
 sends model state [] = Ok []
 sends model state (send ∷ later) =
-    sum_value model.states state send.value >>= (λ value.
-    sends model state later >>= (λ items. Ok (record { port = port_of model.outs send.name; value = value } ∷ items)))
+    sum_value model state no_input send.value >>= (λ value.
+    sends model state later >>= (λ sent. Ok (record { port = port_of model.outs send.name; value = value } ∷ sent)))
 
-abbrev pub internal : FirstModel → List ℤ → Result (List ℤ) FaultKind
-internal model state = block model.states state model.sets
+-- too many values came at one in port
+abbrev pub is_flooded : List (List ℤ) → Bool
+is_flooded got = list_any (λ values. nat_lt MOST_VALUES (length values)) got
+
+-- a block that sees the input
+abbrev pub seeing : FirstModel → List ℤ → Input → List FirstSet → Result (List ℤ) FaultKind
+seeing model state input sets = if is_flooded input.got then Err RangeTooLong else block model state input sets
+
+abbrev pub internal : FirstModel → List ℤ → Result (List ℤ) LeafEnd
+internal model state = at_site Internal (block model state no_input model.sets)
+
+-- an external block that is left out changes nothing; a model with an in port has one
+abbrev pub external : FirstModel → List ℤ → Input → Result (List ℤ) LeafEnd
+external model state input = at_site External (seeing model state input (unwrap_or model.external []))
+
+-- a confluent block that is left out is the internal transition, and then the external one with no time elapsed
+abbrev pub confluent : FirstModel → List ℤ → Input → Result (List ℤ) LeafEnd
+confluent model state input = elim model.confluent [
+  | Some sets ↦ at_site Confluent (seeing model state input sets)
+  | None ↦ internal model state >>= (λ moved. external model moved (record { got = input.got; elapsed = 0 }))
+]
+
+-- the state after a transition
+abbrev pub transition : FirstModel → List ℤ → MoveKind → Input → Result (List ℤ) LeafEnd
+transition model state move.Internal input = internal model state
+transition model state move.External input = external model state input
+transition model state move.Confluent input = confluent model state input
+
+-- some value came
+abbrev pub has_come : List (List ℤ) → Bool
+has_come got = list_any (λ values. nat_lt 0 (length values)) got
+
+-- which transition a leaf takes at this time: none where it is not due and nothing came
+abbrev pub kind_of : Leaf → ℕ → List (List ℤ) → Option MoveKind
+kind_of leaf time got =
+    if is_due leaf time
+    then (if has_come got then Some move.Confluent else Some move.Internal)
+    else (if has_come got then Some move.External else None)
 
 -- a leaf that starts at this time
 abbrev pub start_leaf : FirstModel → ℕ → Result Leaf LeafEnd
@@ -70,11 +111,12 @@ start_leaf model time =
     at_site Init (init model.states) >>= (λ state. at_site Advance (settled model state time))
 
 -- what a leaf sends at this time: its output where it is due, else nothing
-abbrev pub output_leaf : FirstModel → Leaf → ℕ → Result (List Item) LeafEnd
+abbrev pub output_leaf : FirstModel → Leaf → ℕ → Result (List Sent) LeafEnd
 output_leaf model leaf time =
     if is_due leaf time then at_site Output (sends model leaf.state model.sends) else Ok []
 
 -- a leaf after its move at this time
-abbrev pub move_leaf : FirstModel → Leaf → ℕ → Result Leaf LeafEnd
-move_leaf model leaf time =
-    at_site Internal (internal model leaf.state) >>= (λ state. at_site Advance (settled model state time))
+abbrev pub move_leaf : FirstModel → Leaf → MoveKind → ℕ → List (List ℤ) → Result Leaf LeafEnd
+move_leaf model leaf kind time got =
+    transition model leaf.state kind (record { got = got; elapsed = time - leaf.last }) >>= (λ state.
+    at_site Advance (settled model state time))

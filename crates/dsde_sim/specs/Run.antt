@@ -1,8 +1,6 @@
 -- A whole run: its events, of which the last says how it ended.
-use Rattle.std.specs.Prelude.{ℕ, zero, suc, ◌+◌, List, [], ◌∷◌, ◌++◌, Option, Some, None, Ok, Err}
+use Rattle.std.specs.Prelude.{ℕ, zero, suc, ◌+◌, List, [], ◌∷◌, ◌++◌, Option, Some, None, unwrap_or, Ok, Err}
 use Rattle.dsde_syntax.specs.declared.first.FirstModel.{FirstModel}
-use Rattle.dsde_values.specs.declared.when.When.{When}
-use Rattle.dsde_values.specs.declared.when.When.TheVariants.{At, Never}
 use Rattle.dsde_sim.specs.declared.event.Event.{Event}
 use Rattle.dsde_sim.specs.declared.event.Event.TheVariants as event
 use Rattle.dsde_sim.specs.declared.event.Finish.{Finish}
@@ -11,7 +9,7 @@ use Rattle.dsde_sim.specs.declared.fault.TurnEnd.{TurnEnd}
 use Rattle.dsde_sim.specs.declared.fault.TurnEnd.TheVariants.{Fault, Memory}
 use Rattle.dsde_sim.specs.declared.plain.Step.TheVariants.{Turned, Quiet}
 use Rattle.dsde_sim.specs.Engine.{Engine}
-use Rattle.dsde_sim.specs.Turn.{start, advance}
+use Rattle.dsde_sim.specs.Turn.{start, advance, turn_time}
 
 -- what a run tells, and how it ended; a definition ends in every case, and want of memory in none
 pub record Run : Type 0 where
@@ -32,20 +30,15 @@ cut_short (Fault path site kind at) turns time =
     ended (how.Fault (record { path = path; site = site; kind = kind; line = 0; column = 0 })) turns time
 cut_short Memory turns time = record { events = []; end = None }
 
--- the time of the next turn, if there is one, else that of the last
-abbrev pub time_of : When → ℕ → ℕ
-time_of (At time) last = time
-time_of Never last = last
-
--- at most this many turns of an engine
+-- at most this many turns of an engine that gets no input
 abbrev pub go : ℕ → Engine → Run
 go zero engine = ended how.Bound engine.turn engine.time
-go (suc later) engine = preceded (advance engine).events (elim (advance engine).end [
+go (suc later) engine = preceded (advance engine None).events (elim (advance engine None).end [
   | Ok answer ↦ elim answer.0 [
     | Turned took_input ↦ go later answer.1
     | Quiet ↦ ended how.Quiet engine.turn engine.time
   ]
-  | Err end ↦ cut_short end (engine.turn + 1) (time_of engine.leaf.next engine.time)
+  | Err end ↦ cut_short end (engine.turn + 1) (unwrap_or (turn_time engine.leaf.next None) engine.time)
 ])
 
 -- a model's start, and then at most this many turns

@@ -8,7 +8,7 @@ use Rattle.dsde_values.specs.declared.when.When.{When}
 use Rattle.dsde_values.specs.declared.when.When.TheVariants.{At, Never}
 use Rattle.dsde_values.specs.Path.{path_text}
 use Rattle.dsde_sim.specs.declared.event.Event.{Event}
-use Rattle.dsde_sim.specs.declared.event.Event.TheVariants.{AddLeaf, Turn, Out, Move, Finish}
+use Rattle.dsde_sim.specs.declared.event.Event.TheVariants.{AddLeaf, Turn, Out, Get, Move, Finish}
 use Rattle.dsde_sim.specs.declared.event.Finish as finish
 use Rattle.dsde_sim.specs.declared.event.Finish.TheVariants as how
 use Rattle.dsde_sim.specs.declared.event.InputKind.{InputKind}
@@ -101,6 +101,8 @@ event_text model (AddLeaf state next) = codes "add root " ++ model.name ++ settl
 event_text model (Turn number time) = codes "turn " ++ decimal number ++ codes " at " ++ decimal time ++ codes "\n"
 event_text model (Out port value) =
     codes "out root " ++ slice_index_or model.outs port [] ++ codes " " ++ signed_decimal value ++ codes "\n"
+event_text model (Get port value) =
+    codes "get root " ++ slice_index_or model.ins port [] ++ codes " " ++ signed_decimal value ++ codes "\n"
 event_text model (Move kind state next) = codes "move root " ++ move_text kind ++ settled_text model state next
 event_text model (Finish end turns time) = end_text end turns time
 

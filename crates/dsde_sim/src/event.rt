@@ -19,6 +19,11 @@ pub enum Event {
         port: u32,
         value: i64,
     },
+    /// The component receives a value at an in port. Ports are numbered from 0 in declaration order.
+    Get {
+        port: u32,
+        value: i64,
+    },
     /// The component has moved to this state.
     Move {
         kind: MoveKind,

@@ -10,6 +10,6 @@ mod text;
 
 pub use event::{Event, Finish, InputKind, MoveKind};
 pub use fault::{Fault, FaultKind, LeafEnd, Site, TurnEnd, WrongKind};
-pub use leaf::{Item, Leaf};
+pub use leaf::{Leaf, Sent};
 pub use plain::{Plain, Step};
 pub use text::{input_text, write_end, write_event, write_fault};

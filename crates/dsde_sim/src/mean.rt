@@ -1,18 +1,40 @@
-ghost use Rattle.std.specs.Prelude.{◌≡◌, pos, length, MatchResult};
-ghost use Rattle.dsde_sim.specs.Meaning.{fitting, place_of, value_of, part_value, sum_value, assigned, block};
+ghost use Rattle.std.specs.Prelude.{◌≡◌, pos, length, position, MatchResult};
+ghost use Rattle.std.specs.Str.{bytes_eq};
+ghost use Rattle.dsde_sim.specs.Meaning.{no_input, fitting, place_of, value_of, came_at, part_value, sum_value, assigned, block};
 
 use crate::FaultKind;
-use dsde_syntax::{FirstPart, FirstSet, FirstState, FirstSum};
+use dsde_syntax::{FirstModel, FirstPart, FirstSet, FirstState, FirstSum, Word};
 use dsde_values::Seq;
+use std::alloc::Global;
 
-/// A number of the model's text.
+/// What a block sees of the input: the values that came at each in port, and the time since the
+/// component's last event.
+#[derive(Debug, Drop)]
+pub(crate) struct Input {
+    pub got: Seq<Seq<i64>>,
+    pub elapsed: u64,
+}
+
+impl Input {
+    /// What is seen where there is no input.
+    pub(crate) fn none(alloc: Global) -> Input
+        ensures { result ≡ no_input }
+    {
+        Input {
+            got: Seq::new(alloc),
+            elapsed: 0,
+        }
+    }
+}
+
+/// A number of the model's text, or of values.
 pub(crate) fn number_value(number: u64) -> Result<i64, FaultKind>
     ensures { result ≡ fitting (pos number) }
 {
     i64::try_from(number).map_err(|_| FaultKind::Overflow)
 }
 
-pub(crate) fn place_of(states: &[FirstState], name: &[u8]) -> Option<usize>
+fn place_of(states: &[FirstState], name: &[u8]) -> Option<usize>
     ensures { result ≡ place_of states.now name.now }
 {
     states
@@ -29,27 +51,53 @@ fn value_of(states: &[FirstState], values: &[i64], name: &[u8]) -> i64
     }
 }
 
-fn part_value(states: &[FirstState], values: &[i64], part: &FirstPart) -> Result<i64, FaultKind>
-    ensures { result ≡ part_value states.now values.now part.now }
+fn place_of_port(ports: &[Word], name: &[u8]) -> Option<usize>
+    ensures { result ≡ position (λ port. bytes_eq port name.now) ports.now }
 {
-    match part {
-        FirstPart::Number(number) => number_value(*number),
-        FirstPart::Name(name) => Ok(value_of(states, values, name.as_slice())),
+    ports.iter().position(|port| port.as_slice() == name)
+}
+
+/// How many values came at an in port.
+fn count_at(ports: &[Word], got: &[Seq<i64>], name: &[u8]) -> usize
+    ensures { result ≡ length (came_at ports.now got.now name.now) }
+{
+    match place_of_port(ports, name) {
+        Some(place) if place < got.len() => got[place].len(),
+        _ => 0,
     }
 }
 
-/// The value of a sum over the values of the state variables, added from left to right.
-/// `Overflow` where a part or a sum so far is no whole number of 64 signed bits.
-pub(crate) fn sum_value(
-    states: &[FirstState],
+fn part_value(
+    model: &FirstModel,
     values: &[i64],
+    input: &Input,
+    part: &FirstPart,
+) -> Result<i64, FaultKind>
+    ensures { result ≡ part_value model.now values.now input.now part.now }
+{
+    match part {
+        FirstPart::Number(number) => number_value(*number),
+        FirstPart::Name(name) => Ok(value_of(model.states.as_slice(), values, name.as_slice())),
+        FirstPart::Len(port) => number_value(
+            count_at(model.ins.as_slice(), input.got.as_slice(), port.as_slice()) as u64,
+        ),
+        FirstPart::Elapsed => number_value(input.elapsed),
+    }
+}
+
+/// The value of a sum over the values of the state variables and what is seen of the input, added
+/// from left to right. `Overflow` where a part or a sum so far is no whole number of 64 signed bits.
+pub(crate) fn sum_value(
+    model: &FirstModel,
+    values: &[i64],
+    input: &Input,
     sum: &FirstSum,
 ) -> Result<i64, FaultKind>
-    ensures { result ≡ sum_value states.now values.now sum.now }
+    ensures { result ≡ sum_value model.now values.now input.now sum.now }
 {
     let mut total = 0i64;
     for part in sum.parts.as_slice() {
-        let value = part_value(states, values, part)?;
+        let value = part_value(model, values, input, part)?;
         total = total.checked_add(value).ok_or(FaultKind::Overflow)?;
     }
     Ok(total)
@@ -67,17 +115,18 @@ fn assign(states: &[FirstState], values: &mut [i64], name: &[u8], value: i64)
 
 /// Runs assignments in their order, each over the values that the one before left.
 pub(crate) fn run_block(
-    states: &[FirstState],
+    model: &FirstModel,
     values: &mut [i64],
+    input: &Input,
     sets: &[FirstSet],
 ) -> Result<(), FaultKind>
     ensures { MatchResult result
-        (λ _. block states.now values.old sets.now ≡ Ok values.new)
-        (λ kind. block states.now values.old sets.now ≡ Err kind) }
+        (λ _. block model.now values.old input.now sets.now ≡ Ok values.new)
+        (λ kind. block model.now values.old input.now sets.now ≡ Err kind) }
 {
     for set in sets {
-        let value = sum_value(states, values, &set.value)?;
-        assign(states, values, set.name.as_slice(), value);
+        let value = sum_value(model, values, input, &set.value)?;
+        assign(model.states.as_slice(), values, set.name.as_slice(), value);
     }
     Ok(())
 }

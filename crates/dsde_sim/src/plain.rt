@@ -1,12 +1,13 @@
-ghost use Rattle.std.specs.Prelude.{◌≡◌, ◌+◌, ◌<◌, ◌^◌, ◌++◌, false, length, take, is_err, Result, Ok, Err, IfOk, IfErr, OnOk};
+ghost use Rattle.std.specs.Prelude.{◌≡◌, ◌<◌, ◌≤◌, ◌^◌, ◌++◌, false, length, take, is_err, Result, Ok, Err, IfOk, IfErr, IfSome, OnOk};
+ghost use Rattle.std.specs.Option.{option_copied};
 ghost use Rattle.std.specs.List.{flat_map, range_with_len};
-ghost use Rattle.dsde_sim.specs.Engine.{IsInTime};
-ghost use Rattle.dsde_sim.specs.Turn.{Told, start, advance, turn, output_phase, move_phase, outs, outs_at, at_root, IsAtRoot, Tells, IsCut};
+ghost use Rattle.dsde_sim.specs.Engine.{HasFewPorts, IsInTime};
+ghost use Rattle.dsde_sim.specs.Turn.{start, advance, turn, turn_time, is_taken, items_at, output_phase, move_phase, take_move, outs, outs_at, whole, received, values_at, gets, gets_at, at_root, IsAtRoot, Tells, IsCut};
 
-use crate::leaf::{move_leaf, output_leaf, start_leaf};
-use crate::{Event, Item, Leaf, LeafEnd, MoveKind, TurnEnd};
+use crate::leaf::{kind_of, move_leaf, output_leaf, start_leaf};
+use crate::{Event, Leaf, LeafEnd, MoveKind, Sent, TurnEnd};
 use dsde_syntax::FirstModel;
-use dsde_values::{Memory, Path, Seq, When};
+use dsde_values::{Arrival, Item, Memory, Path, Seq, Value, When};
 use std::alloc::Global;
 use std::marker::Model;
 
@@ -27,12 +28,13 @@ pub struct Plain<'p> {
     leaf: Leaf,
     turn: u64,
     time: u64,
+    taken: u64,
     spent: bool,
 }
 
 impl<'p> Model for Plain<'p> {
-    ghost use Rattle.std.specs.Prelude.{◌<◌, ◌^◌, length};
-    ghost use Rattle.dsde_sim.specs.Engine.{Engine, IsInTime};
+    ghost use Rattle.std.specs.Prelude.{◌≤◌};
+    ghost use Rattle.dsde_sim.specs.Engine.{Engine, HasFewPorts, IsInTime};
 
     ghost Value = { Engine };
 
@@ -41,10 +43,11 @@ impl<'p> Model for Plain<'p> {
       leaf = plain.leaf;
       turn = plain.turn;
       time = plain.time;
+      taken = plain.taken;
       spent = plain.spent;
     } };
 
-    ghost invariant = { λ plain. (length plain.model.now.outs < 2 ^ 32) × IsInTime plain.leaf.next };
+    ghost invariant = { λ plain. HasFewPorts plain.model.now × IsInTime plain.leaf.next × (plain.taken ≤ plain.turn) };
 }
 
 /// What the end of the one component's step is for the whole model: a fault is at the path `root`.
@@ -64,7 +67,7 @@ fn at_root<T>(alloc: Global, outcome: Result<T, LeafEnd>) -> Result<T, TurnEnd>
 }
 
 /// Tells what the root sends, port by port in declaration order.
-fn tell_outs(ports: u32, sent: &[Item], events: &mut Seq<Event>) -> Result<(), Memory>
+fn tell_outs(ports: u32, sent: &[Sent], events: &mut Seq<Event>) -> Result<(), Memory>
     ensures ok { OnOk result (events.new ≡ events.old ++ outs ports sent.now) }
     ensures cut { IsCut events.old (outs ports sent.now) events.new }
 {
@@ -74,7 +77,7 @@ fn tell_outs(ports: u32, sent: &[Item], events: &mut Seq<Event>) -> Result<(), M
     Ok(())
 }
 
-fn tell_port(port: u32, sent: &[Item], events: &mut Seq<Event>) -> Result<(), Memory>
+fn tell_port(port: u32, sent: &[Sent], events: &mut Seq<Event>) -> Result<(), Memory>
     ensures ok { OnOk result (events.new ≡ events.old ++ outs_at sent.now port) }
     ensures cut { IsCut events.old (outs_at sent.now port) events.new }
 {
@@ -111,25 +114,138 @@ fn output_phase(
     Ok(())
 }
 
+/// A value as a whole number, which is what every value is in a model of the form.
+fn whole(value: &Value) -> i64
+    ensures { result ≡ whole value.now }
+{
+    match value {
+        Value::Int(number) => *number,
+        _ => 0,
+    }
+}
+
+/// The values that items have, port by port.
+fn received(alloc: Global, ports: u32, items: &[Item]) -> Result<Seq<Seq<i64>>, Memory>
+    ensures value { IfOk result (λ got. got ≡ received ports items.now) }
+    ensures ports { IfOk result (λ got. length got ≡ ports) }
+{
+    let mut got = Seq::new(alloc);
+    for port in 0..ports {
+        got.push(values_at(alloc, items, port)?)?;
+    }
+    Ok(got)
+}
+
+fn values_at(alloc: Global, items: &[Item], port: u32) -> Result<Seq<i64>, Memory>
+    ensures { IfOk result (λ values. values ≡ values_at items.now port) }
+{
+    let mut values = Seq::new(alloc);
+    for item in items {
+        if item.port == port {
+            values.push(whole(&item.value))?;
+        }
+    }
+    Ok(values)
+}
+
+/// Tells what the root receives, port by port in declaration order.
+fn tell_gets(got: &[Seq<i64>], events: &mut Seq<Event>) -> Result<(), Memory>
+    requires { length got.now < 2 ^ 32 }
+    ensures ok { OnOk result (events.new ≡ events.old ++ gets got.now) }
+    ensures cut { IsCut events.old (gets got.now) events.new }
+{
+    for (port, values) in got.iter().enumerate() {
+        tell_got(port as u32, values.as_slice(), events)?;
+    }
+    Ok(())
+}
+
+fn tell_got(port: u32, values: &[i64], events: &mut Seq<Event>) -> Result<(), Memory>
+    ensures ok { OnOk result (events.new ≡ events.old ++ gets_at port values.now) }
+    ensures cut { IsCut events.old (gets_at port values.now) events.new }
+{
+    for value in values {
+        events.push(Event::Get {
+            port,
+            value: *value,
+        })?;
+    }
+    Ok(())
+}
+
+fn copy_leaf(alloc: Global, leaf: &Leaf) -> Result<Leaf, Memory>
+    ensures { IfOk result (λ copy. copy ≡ leaf.now) }
+{
+    Ok(Leaf {
+        state: copy_state(alloc, leaf)?,
+        last: leaf.last,
+        next: leaf.next,
+    })
+}
+
 /// Takes the move phase, and tells it.
 fn move_phase(
     alloc: Global,
     model: &FirstModel,
     leaf: &Leaf,
     time: u64,
+    got: Seq<Seq<i64>>,
     events: &mut Seq<Event>,
 ) -> Result<Leaf, TurnEnd>
-    requires { time < 2 ^ 63 }
-    ensures told { Tells (move_phase model.now leaf.now time) events.old events.new result }
+    requires time { time < 2 ^ 63 }
+    requires ports { length got < 2 ^ 32 }
+    requires in_time { IsInTime leaf.now.next }
+    ensures told { Tells (move_phase model.now leaf.now time got) events.old events.new result }
     ensures in_time { IfOk result (λ moved. IsInTime moved.next) }
 {
-    let moved = at_root(alloc, move_leaf(alloc, model, leaf, time))?;
+    match kind_of(leaf, time, got.as_slice()) {
+        Some(kind) => take_move(alloc, model, leaf, kind, time, got, events),
+        None => Ok(copy_leaf(alloc, leaf)?),
+    }
+}
+
+/// Tells what the component receives, takes its transition, and tells its move.
+fn take_move(
+    alloc: Global,
+    model: &FirstModel,
+    leaf: &Leaf,
+    kind: MoveKind,
+    time: u64,
+    got: Seq<Seq<i64>>,
+    events: &mut Seq<Event>,
+) -> Result<Leaf, TurnEnd>
+    requires time { time < 2 ^ 63 }
+    requires ports { length got < 2 ^ 32 }
+    ensures told { Tells (take_move model.now leaf.now kind time got) events.old events.new result }
+    ensures in_time { IfOk result (λ moved. IsInTime moved.next) }
+{
+    tell_gets(got.as_slice(), events)?;
+    let moved = at_root(alloc, move_leaf(alloc, model, leaf, kind, time, got))?;
     events.push(Event::Move {
-        kind: MoveKind::Internal,
+        kind,
         state: copy_state(alloc, &moved)?,
         next: moved.next,
     })?;
     Ok(moved)
+}
+
+/// Takes the move phase with these items of input, and tells it.
+fn receive(
+    alloc: Global,
+    model: &FirstModel,
+    leaf: &Leaf,
+    time: u64,
+    items: &[Item],
+    events: &mut Seq<Event>,
+) -> Result<Leaf, TurnEnd>
+    requires ports { HasFewPorts model.now }
+    requires time { time < 2 ^ 63 }
+    requires in_time { IsInTime leaf.now.next }
+    ensures told { Tells (move_phase model.now leaf.now time (received (length model.now.ins) items.now)) events.old events.new result }
+    ensures in_time { IfOk result (λ moved. IsInTime moved.next) }
+{
+    let got = received(alloc, model.ins.len() as u32, items)?;
+    move_phase(alloc, model, leaf, time, got, events)
 }
 
 /// Takes one turn, and tells it.
@@ -139,16 +255,50 @@ fn turn(
     leaf: &Leaf,
     number: u64,
     time: u64,
+    items: &[Item],
     events: &mut Seq<Event>,
 ) -> Result<Leaf, TurnEnd>
-    requires ports { length model.now.outs < 2 ^ 32 }
+    requires ports { HasFewPorts model.now }
     requires time { time < 2 ^ 63 }
-    ensures told { Tells (turn model.now leaf.now number time) events.old events.new result }
+    requires in_time { IsInTime leaf.now.next }
+    ensures told { Tells (turn model.now leaf.now number time items.now) events.old events.new result }
     ensures in_time { IfOk result (λ moved. IsInTime moved.next) }
 {
     events.push(Event::Turn { number, time })?;
     output_phase(alloc, model, leaf, time, events)?;
-    move_phase(alloc, model, leaf, time, events)
+    receive(alloc, model, leaf, time, items, events)
+}
+
+/// The time of the next turn: that of the next event or of the head of the input, the lesser if
+/// there are both.
+fn turn_time(next: When, head: Option<&Arrival>) -> Option<u64>
+    ensures { result ≡ turn_time next (option_copied head.entry) }
+{
+    match (next, head) {
+        (When::At(time), Some(head)) => Some(time.min(head.time)),
+        (When::At(time), None) => Some(time),
+        (When::Never, Some(head)) => Some(head.time),
+        (When::Never, None) => None,
+    }
+}
+
+fn is_taken(head: Option<&Arrival>, time: u64) -> bool
+    ensures { result ≡ is_taken (option_copied head.entry) time }
+{
+    match head {
+        Some(head) => head.time == time,
+        None => false,
+    }
+}
+
+/// The items of a head that is taken in the turn at this time.
+fn items_at(head: Option<&Arrival>, time: u64) -> &[Item]
+    ensures { result.now ≡ items_at (option_copied head.entry) time }
+{
+    match head {
+        Some(head) if head.time == time => head.items.as_slice(),
+        _ => &[],
+    }
 }
 
 impl<'p> Plain<'p> {
@@ -159,7 +309,7 @@ impl<'p> Plain<'p> {
         model: &'p FirstModel,
         events: &mut Seq<Event>,
     ) -> Result<Plain<'p>, TurnEnd>
-        requires { length model.now.outs < 2 ^ 32 }
+        requires { HasFewPorts model.now }
         ensures { Tells (start model.now) events.old events.new result }
     {
         let leaf = at_root(alloc, start_leaf(alloc, model, 0))?;
@@ -173,33 +323,50 @@ impl<'p> Plain<'p> {
             leaf,
             turn: 0,
             time: 0,
+            taken: 0,
             spent: false,
         })
     }
 
-    /// Takes one turn at the time of the next event, and tells it.
+    /// Takes one turn with this head of the input, and tells it: at the lesser of the time of the
+    /// next event and of the head, which is taken where the turn is at its time.
     ///
     /// After a fault the events before it were told, and without memory some of the events, from
-    /// their front. After either the engine is spent. `Quiet` comes exactly where nothing will
-    /// ever be due, and changes nothing.
-    pub fn advance(&mut self, events: &mut Seq<Event>) -> Result<Step, TurnEnd>
+    /// their front. After either the engine is spent. `Quiet` comes exactly where there is no head
+    /// and nothing will ever be due, and changes nothing.
+    pub fn advance(
+        &mut self,
+        head: Option<&Arrival>,
+        events: &mut Seq<Event>,
+    ) -> Result<Step, TurnEnd>
         requires fresh { self.old.spent ≡ false }
         requires turns { self.old.turn < 2 ^ 63 }
-        ensures ok { IfOk result (λ step. Tells (advance self.old) events.old events.new (Ok (step, self.new))) }
-        ensures err { IfErr result (λ end. Tells (advance self.old) events.old events.new (Err end)) }
+        requires head { IfSome (option_copied head) (λ arrival. arrival.time < 2 ^ 63) }
+        ensures ok { IfOk result (λ step. Tells (advance self.old (option_copied head.entry)) events.old events.new (Ok (step, self.new))) }
+        ensures err { IfErr result (λ end. Tells (advance self.old (option_copied head.entry)) events.old events.new (Err end)) }
         ensures spent { self.new.spent ≡ is_err result }
     {
-        let When::At(time) = self.leaf.next else {
+        let Some(time) = turn_time(self.leaf.next, head) else {
             return Ok(Step::Quiet);
         };
         let number = self.turn + 1;
+        let took_input = is_taken(head, time);
         // Until the turn has come to its end.
         self.spent = true;
-        self.leaf = turn(self.alloc, self.model, &self.leaf, number, time, events)?;
+        self.leaf = turn(
+            self.alloc,
+            self.model,
+            &self.leaf,
+            number,
+            time,
+            items_at(head, time),
+            events,
+        )?;
         self.turn = number;
         self.time = time;
+        self.taken += u64::from(took_input);
         self.spent = false;
-        Ok(Step::Turned { took_input: false })
+        Ok(Step::Turned { took_input })
     }
 
     /// How many turns are done.
@@ -218,7 +385,16 @@ impl<'p> Plain<'p> {
         self.time
     }
 
-    /// The time of the next turn, if there is one.
+    /// How many records of the input are taken.
+    pub fn taken(&self) -> u64
+        requires { self.now.spent ≡ false }
+        ensures value { result ≡ self.now.taken }
+        ensures within { result ≤ self.now.turn }
+    {
+        self.taken
+    }
+
+    /// The time of the next event, if there is one.
     pub fn next(&self) -> When
         requires { self.now.spent ≡ false }
         ensures value { result ≡ self.now.leaf.next }

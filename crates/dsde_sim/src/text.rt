@@ -3,7 +3,7 @@ ghost use Rattle.std.specs.Fmt.{signed_decimal};
 ghost use Rattle.dsde_sim.specs.Text.{event_text, end_text, finish_text, fault_text, settled_text, bindings_text, separator, when_text, move_text, input_text, site_text, kind_text};
 
 use crate::{Event, Fault, FaultKind, Finish, InputKind, MoveKind, Site};
-use dsde_syntax::{FirstModel, FirstState};
+use dsde_syntax::{FirstModel, FirstState, Word};
 use dsde_values::{Memory, Text, When, write_path};
 use itoa::Buffer;
 
@@ -60,7 +60,14 @@ fn append_event(event: &Event, model: &FirstModel, text: &mut Text) -> Result<()
             append_settled(model, state.as_slice(), *next, text)
         }
         Event::Turn { number, time } => append_turn(*number, *time, text),
-        Event::Out { port, value } => append_out(*port, *value, model, text),
+        Event::Out { port, value } => {
+            text.extend_from_slice(b"out root ")?;
+            append_value(port_name(model.outs.as_slice(), *port), *value, text)
+        }
+        Event::Get { port, value } => {
+            text.extend_from_slice(b"get root ")?;
+            append_value(port_name(model.ins.as_slice(), *port), *value, text)
+        }
         Event::Move { kind, state, next } => {
             text.extend_from_slice(b"move root ")?;
             text.extend_from_slice(move_text(*kind).as_bytes())?;
@@ -95,21 +102,21 @@ fn append_signed(value: i64, text: &mut Text) -> Result<(), Memory>
     text.extend_from_slice(Buffer::new().format(value).as_bytes())
 }
 
-fn port_name(model: &FirstModel, port: u32) -> &[u8]
-    ensures { result.now ≡ slice_index_or model.now.outs port [] }
+fn port_name(ports: &[Word], port: u32) -> &[u8]
+    ensures { result.now ≡ slice_index_or ports.now port [] }
 {
-    match model.outs.get(port as usize) {
+    match ports.get(port as usize) {
         Some(name) => name.as_slice(),
         None => b"",
     }
 }
 
-fn append_out(port: u32, value: i64, model: &FirstModel, text: &mut Text) -> Result<(), Memory>
-    ensures ok { OnOk result (text.new ≡ text.old ++ event_text model.now (Event.Out port value)) }
+/// The end of a line: a port and a value at it.
+fn append_value(port: &[u8], value: i64, text: &mut Text) -> Result<(), Memory>
+    ensures ok { OnOk result (text.new ≡ text.old ++ port.now ++ codes " " ++ signed_decimal value ++ codes "\n") }
     ensures grows { take (length text.old) text.new ≡ text.old }
 {
-    text.extend_from_slice(b"out root ")?;
-    text.extend_from_slice(port_name(model, port))?;
+    text.extend_from_slice(port)?;
     text.push(b' ')?;
     append_signed(value, text)?;
     text.push(b'\n')

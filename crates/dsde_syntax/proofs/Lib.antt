@@ -1,3 +1,14 @@
 pub mod Digits
-pub mod TokensLemmas
 pub mod SignLemmas
+pub mod TokLemmas
+pub mod TokensLemmas
+pub mod WantsLemmas
+pub mod WentLemmas
+pub mod RestLemmas
+pub mod Complete
+pub mod DistinctLemmas
+pub mod RulesLemmas
+pub mod Unique
+pub mod GoodLemmas
+pub mod IsFirstLemmas
+pub mod ReadFirstLemmas

@@ -1,1 +1,4 @@
+pub mod First
+pub mod Rules
 pub mod Tokens
+pub mod Wants

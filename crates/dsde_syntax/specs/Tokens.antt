@@ -1,5 +1,5 @@
 -- The tokens of a text.
-use Rattle.std.specs.Prelude.{ℕ, zero, suc, ◌+◌, ◌-◌, Bool, false, ◌||◌, ◌&&◌, not, if◌then◌else◌, ◌==◌, nat_le, nat_lt, nat_eq, List, [], ◌∷◌, ◌++◌, length, drop, Option, Result, Ok, Err, codes, find, take_while}
+use Rattle.std.specs.Prelude.{◌≡◌, ◌≤◌, ⊤, IsTrue, None, All, slice_index, ℕ, zero, suc, ◌+◌, ◌-◌, Bool, false, ◌||◌, ◌&&◌, not, if◌then◌else◌, ◌==◌, nat_le, nat_lt, nat_eq, List, [], ◌∷◌, ◌++◌, length, drop, Option, Result, Ok, Err, codes, find, take_while}
 use Rattle.std.specs.Option.{option_map_or}
 use Rattle.std.specs.List.{starts_with}
 use Rattle.std.specs.Str.{bytes_eq}
@@ -213,3 +213,23 @@ tokens_from at zero (byte ∷ bytes) =
 -- the tokens of a text, or the first offence against their rules
 abbrev pub tokens : List ℕ → Result (List Token) LexError
 tokens bytes = if nat_lt 1048576 (length bytes) then Err lex_error.TooLong else tokens_from 0 0 bytes
+
+-- letters, digits and `_`, no digit first, and no reserved word
+pub record IsIdentifier (name : List ℕ) : Type 0 where
+  pub some : 1 ≤ length name
+  pub begins : is_ascii_digit (slice_index name 0) ≡ false
+  pub bytes : All (λ byte. IsTrue (is_word_byte byte)) name
+  pub free : key_of name ≡ None
+
+abbrev pub IsNumber : ℕ → Type 0
+IsNumber value = value ≤ 9223372036854775807
+
+-- what an identifier and a number among tokens are
+abbrev pub IsToken : Tok → Type 0
+IsToken (tok.Key word) = ⊤
+IsToken (tok.Sign mark) = ⊤
+IsToken (tok.Ident name) = IsIdentifier name
+IsToken (tok.Int value) = IsNumber value
+
+abbrev pub HasToken : Token → Type 0
+HasToken token = IsToken token.tok

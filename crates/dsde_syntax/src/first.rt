@@ -1,9 +1,12 @@
 use dsde_lists::{Seq as Items, Text as Word};
 
-/// A model of the first form: one atomic component over whole numbers, with no input.
+/// One atomic component over whole numbers.
 #[derive(Debug, Drop)]
 pub struct FirstModel {
     pub name: Word,
+    /// The in ports, in the order of the text.
+    pub ins: Items<Word>,
+    /// The out ports, in the order of the text.
     pub outs: Items<Word>,
     pub states: Items<FirstState>,
     /// The time to the next internal transition.
@@ -12,6 +15,10 @@ pub struct FirstModel {
     pub sends: Items<FirstSet>,
     /// The assignments of the internal transition.
     pub sets: Items<FirstSet>,
+    /// The assignments of the external transition, if its block is written.
+    pub external: Option<Items<FirstSet>>,
+    /// The assignments of the confluent transition, if its block is written.
+    pub confluent: Option<Items<FirstSet>>,
 }
 
 /// A state variable and its first value, at most 2^63 - 1.
@@ -40,4 +47,8 @@ pub enum FirstPart {
     Number(u64),
     /// A state variable.
     Name(Word),
+    /// How many values came at an in port.
+    Len(Word),
+    /// The time since the last transition.
+    Elapsed,
 }

@@ -1,8 +1,9 @@
-ghost use Rattle.std.specs.Prelude.{◌≡◌, ◌≢◌, ◌≤◌, ◌<◌, length, drop, take_while, IfOk, IfErr, Ok, Err, SomeIff};
+ghost use Rattle.std.specs.Prelude.{◌≡◌, ◌≢◌, ◌≤◌, ◌<◌, length, drop, take_while, All, IfOk, IfErr, Ok, Err, SomeIff};
 ghost use Rattle.std.specs.Char.{is_ascii_digit};
 ghost use Rattle.std.specs.Str.Parse.{AllDigits, digits_value};
-ghost use Rattle.dsde_syntax.specs.Tokens.{tokens, front_of, word_piece, number_piece, sign_piece, is_word_byte, is_in_comment};
+ghost use Rattle.dsde_syntax.specs.Tokens.{tokens, HasToken, front_of, word_piece, number_piece, sign_piece, is_word_byte, is_in_comment};
 
+use crate::token::GREATEST_NUMBER;
 use crate::{Items, Key, Memory, Sign, Tok, Token, Word};
 use std::alloc::Global;
 
@@ -44,14 +45,12 @@ enum Front {
 /// The most bytes that a text may have.
 const LONGEST_TEXT: usize = 1_048_576;
 
-/// The greatest number that a text may name.
-const GREATEST_NUMBER: u64 = 9_223_372_036_854_775_807;
-
 /// The tokens of a text in their order, each with where it stands, or the first offence against
 /// their rules. `TooLong` comes first, exactly for more than 1,048,576 bytes.
 pub fn lex(alloc: Global, bytes: &[u8]) -> Result<Items<Token>, LexError>
     ensures ok { IfOk result (λ list. tokens bytes.now ≡ Ok list) }
     ensures refused { IfErr result (λ error. error ≢ LexError.Memory → tokens bytes.now ≡ Err error) }
+    ensures well_formed { IfOk result (All HasToken) }
 {
     if bytes.len() > LONGEST_TEXT {
         return Err(LexError::TooLong);

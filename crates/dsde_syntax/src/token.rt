@@ -1,7 +1,10 @@
-ghost use Rattle.std.specs.Prelude.{◌≡◌, ◌<◌, length};
+ghost use Rattle.std.specs.Prelude.{◌≡◌, ◌↔◌, IsTrue};
 ghost use Rattle.dsde_syntax.specs.Tokens.{key_text, sign_text, key_of, sign_of};
 
 use dsde_lists::Text as Word;
+
+/// The greatest number that a text may name.
+pub const GREATEST_NUMBER: u64 = 9_223_372_036_854_775_807;
 
 /// A token of a text, and where it stands.
 #[derive(Debug, Drop)]
@@ -21,6 +24,38 @@ pub enum Tok {
     Ident(Word),
     /// At most 2^63 - 1.
     Int(u64),
+}
+
+impl Tok {
+    /// Whether this is a reserved word.
+    pub fn is_key(&self, key: Key) -> bool
+        ensures { IsTrue result ↔ (self.now ≡ Tok.Key key) }
+    {
+        match self {
+            Tok::Key(own) => *own == key,
+            _ => false,
+        }
+    }
+
+    /// Whether this is a sign.
+    pub fn is_sign(&self, sign: Sign) -> bool
+        ensures { IsTrue result ↔ (self.now ≡ Tok.Sign sign) }
+    {
+        match self {
+            Tok::Sign(own) => *own == sign,
+            _ => false,
+        }
+    }
+
+    /// Whether this is an identifier.
+    pub fn is_name(&self, name: &[u8]) -> bool
+        ensures { IsTrue result ↔ (self.now ≡ Tok.Ident name.now) }
+    {
+        match self {
+            Tok::Ident(own) => own.as_slice() == name,
+            _ => false,
+        }
+    }
 }
 
 /// The reserved words.

@@ -1,1 +1,3 @@
 pub mod Path
+pub mod Value
+pub mod Word

@@ -1,11 +1,22 @@
-//! What a run speaks of: texts and lists, moments, and the names and paths of components.
+//! What a run speaks of: texts and lists, values and their types, moments, arrivals, and the names
+//! and paths of components.
 #![tactic(auto)]
 
+mod arrival;
+mod decimal;
 mod name;
 mod path;
+mod spelling;
+mod types;
+mod value;
 mod when;
 
+pub use arrival::{Arrival, Item};
+pub use decimal::decimal_of;
 pub use dsde_lists::{Boxed, Memory, Seq, Text};
 pub use name::Name;
 pub use path::{Path, write_path};
+pub use spelling::{ReadValue, read_value, write_value};
+pub use types::{Def, Field, Shape, Ty, Types};
+pub use value::{Value, Values};
 pub use when::When;

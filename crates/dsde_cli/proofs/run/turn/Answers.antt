@@ -1,7 +1,7 @@
-use Rattle.std.proofs.Common.{◌≡◌, suc, ◌+◌, ◌++◌, ◌∙◌, ap, sym}
-use Rattle.dsde_sim.specs.Run.{go, ended, time_of}
+use Rattle.std.proofs.Common.{◌≡◌, suc, ◌+◌, ◌++◌, None, unwrap_or, ◌∙◌, ap, sym}
+use Rattle.dsde_sim.specs.Run.{go, ended}
 use Rattle.dsde_sim.specs.Text.{end_text, trace_text}
-use Rattle.dsde_sim.specs.Turn.{advance}
+use Rattle.dsde_sim.specs.Turn.{advance, turn_time}
 use Rattle.dsde_cli.proofs.RunLemmas.{GoesOn-turned, go-cut, Tells-cut}
 use Rattle.dsde_cli.proofs.run.turn.Goals as goal
 
@@ -15,12 +15,12 @@ returns-in-Ok-Turned-clause-goes_on c =
 pub returns-clause-ended : goal.returns-clause-ended
 returns-clause-ended c = λ later.
     let finished = c.in_ok-finish-in-Err.ensures in
-    let at_time : c.time_of.result ≡ time_of c.args.plain.now.leaf.next c.args.plain.now.time =
-    c.time_of.ensures ∙ ap (λ next. time_of next c.time-last.result) c.next-next.ensures.value
-    ∙ ap (time_of c.args.plain.now.leaf.next) c.time-last.ensures in
+    let at_time : c.time_of.result ≡ unwrap_or (turn_time c.args.plain.now.leaf.next None) c.args.plain.now.time =
+    c.time_of.ensures ∙ ap (λ next. unwrap_or (turn_time next None) c.time-last.result) c.next-next.ensures.value
+    ∙ ap (unwrap_or (turn_time c.args.plain.now.leaf.next None)) c.time-last.ensures in
     let turns = c.args.plain.now.turn + 1 in
-    let time = time_of c.args.plain.now.leaf.next c.args.plain.now.time in
-    Tells-cut c.args.model.now (advance c.args.plain.now) (go (suc later) c.args.plain.now) c.in-Err.end c.in_ok-finish-in-Err.field-0
+    let time = unwrap_or (turn_time c.args.plain.now.leaf.next None) c.args.plain.now.time in
+    Tells-cut c.args.model.now (advance c.args.plain.now None) (go (suc later) c.args.plain.now) c.in-Err.end c.in_ok-finish-in-Err.field-0
     turns time
     c.new-events.result c.advance-step.new.events c.args.text.now c.write_events.new.text c.finish-in-Err.new.text
     (go-cut c.args.plain.now c.in-Err.end later) c.new-events.ensures c.in-Err.ensures.err

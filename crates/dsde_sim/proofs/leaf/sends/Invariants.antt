@@ -6,5 +6,5 @@ use Rattle.dsde_sim.proofs.leaf.sends.Given as goal
 
 abbrev pub invariant-loop-send : goal.invariant-loop-send
 invariant-loop-send l =
-    (sends l.model l.state (drop l.send-index l.model.sends) >>= (λ rest. Ok (l.items ++ rest)))
+    (sends l.model l.state (drop l.send-index l.model.sends) >>= (λ rest. Ok (l.sent ++ rest)))
     ≡ sends l.model l.state l.model.sends

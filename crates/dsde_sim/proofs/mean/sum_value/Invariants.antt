@@ -4,4 +4,4 @@ use Rattle.dsde_sim.proofs.mean.sum_value.Given as goal
 
 abbrev pub invariant-loop-part : goal.invariant-loop-part
 invariant-loop-part l =
-    sum_from l.states l.values l.total (drop l.part-index l.sum.parts) ≡ sum_value l.states l.values l.sum
+    sum_from l.model l.values l.input l.total (drop l.part-index l.sum.parts) ≡ sum_value l.model l.values l.input l.sum

@@ -1,3 +1,4 @@
+use Rattle.dsde_syntax.proofs.GoodLemmas.{tokens-good}
 use Rattle.dsde_syntax.proofs.TokensLemmas.{HasCut-gap, HasCut-token, Piece-of, tokens-all, tokens-bad_byte, tokens-bad_number}
 use Rattle.dsde_syntax.proofs.lexer.lex.Goals as goal
 use Rattle.dsde_syntax.proofs.lexer.lex.Goals.{in-Gap, in-Token+in_ok-push-in-Token}
@@ -22,3 +23,6 @@ returns-in-BadNumber-clause-refused c =
 
 pub returns-clause-ok : goal.returns-clause-ok
 returns-clause-ok c = tokens-all c.loop-at.invariant c.loop-at-test.false
+
+pub returns-clause-well_formed : goal.returns-clause-well_formed
+returns-clause-well_formed c = tokens-good _ _ (tokens-all c.loop-at.invariant c.loop-at-test.false)

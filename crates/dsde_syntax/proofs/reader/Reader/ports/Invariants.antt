@@ -1,8 +1,9 @@
-use Rattle.std.proofs.Common.{◌≤◌, length}
+use Rattle.std.proofs.Common.{length}
+use Rattle.dsde_syntax.proofs.WentLemmas.{HasPorts}
 use Rattle.dsde_syntax.proofs.reader.Reader.ports.Given as goal
 
-abbrev pub invariant-loop-alloc : goal.invariant-loop-alloc
-invariant-loop-alloc l = length l.self ≤ length l.fn.self
+abbrev pub invariant-loop-ins : goal.invariant-loop-ins
+invariant-loop-ins l = HasPorts l.ins l.outs l.fn.self l.self
 
-abbrev pub decreases-loop-alloc : goal.decreases-loop-alloc
-decreases-loop-alloc l = length l.self
+abbrev pub decreases-loop-ins : goal.decreases-loop-ins
+decreases-loop-ins l = length l.self

@@ -1,0 +1,13 @@
+//! Values under handles that are never given twice, and lists with reserved room.
+#![tactic(auto)]
+
+mod bank;
+mod batch;
+mod handle;
+
+pub use bank::Bank;
+pub use batch::Batch;
+pub use handle::Handle;
+
+#[cfg(test)]
+mod tests;

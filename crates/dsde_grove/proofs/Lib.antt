@@ -1,0 +1,10 @@
+pub mod Parts
+pub mod Paths
+pub mod Trees
+pub mod Above
+pub mod Frontier
+pub mod Listed
+pub mod Pruned
+pub mod Kids
+pub mod Grown
+pub mod Walk

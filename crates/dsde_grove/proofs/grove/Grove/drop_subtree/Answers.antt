@@ -1,0 +1,54 @@
+use Rattle.std.proofs.Common.{is_some, sym, ap, subst, ◌∙◌, refl, arith}
+use Rattle.std.specs.FinMap as map
+use Rattle.dsde_grove.specs.Grove.{spot, DropsSubtree}
+use Rattle.dsde_grove.specs.Inside.{grove_of}
+use Rattle.dsde_grove.proofs.Parts.{get-found, live-found, none_of, len-parts_of}
+use Rattle.dsde_grove.proofs.Pruned.{pruned-any, len-unlinked, next-unlinked, parent_stays, tree-pruned, drops-pruned}
+use Rattle.dsde_grove.proofs.grove.Grove.drop_subtree.Goals as goal
+
+pub returns-in-None-clause-none : goal.returns-in-None-clause-none
+returns-in-None-clause-none g c = (
+  λ _. none_of (spot c.args.self.now c.args.handle)
+      (ap (λ v. is_some (spot v c.args.handle)) (sym c.self.view_is) ∙ live-found c.self.inside.bank c.args.handle ∙ ap is_some (sym c.in-None.ensures.value)),
+  λ _. refl,
+)
+
+pub unlink-requires : goal.unlink-requires
+unlink-requires g c =
+    let bank = c.self.inside.bank in
+    let live = get-found bank c.args.handle c.in-Some.part.now (sym c.in-Some.ensures.value) in
+    parent_stays bank c.take_all.new.bank bank.next_birth c.self.invariant.tree c.args.handle c.in-Some.part.now live c.take_all.ensures.taken
+
+pub invariant_of-self : goal.invariant_of-self
+invariant_of-self g c =
+    let bank = c.self.inside.bank in
+    let part = c.in-Some.part.now in
+    let live = get-found bank c.args.handle part (sym c.in-Some.ensures.value) in
+    let pruned = pruned-any bank c.take_all.new.bank c.unlink.new.bank bank.next_birth c.self.invariant.tree c.args.handle part live c.take_all.ensures.taken c.unlink.ensures.unlinked in
+    let next = next-unlinked c.take_all.new.bank c.unlink.new.bank c.args.handle part.parent c.unlink.ensures.unlinked ∙ c.take_all.ensures.taken.next in
+    let idle = c.take_all.ensures.idle in
+    record {
+      tree = rw next (tree-pruned bank.held c.unlink.new.bank.held bank.next_birth c.args.handle.birth c.self.invariant.tree pruned);
+      idle = ap (λ w. w.items) idle ∙ c.self.invariant.idle;
+      room = omega (arith, ap (λ w. w.spare) idle, len-unlinked c.take_all.new.bank c.unlink.new.bank c.args.handle part.parent c.unlink.ensures.unlinked, c.take_all.ensures.taken.len, c.self.invariant.room);
+    }
+
+pub returns-clause-none : goal.returns-clause-none
+returns-clause-none g c =
+    let live = ap (λ v. is_some (spot v c.args.handle)) (sym c.self.view_is) ∙ live-found c.self.inside.bank c.args.handle ∙ ap is_some (sym c.in-Some.ensures.value) in
+    (λ wrong. absurd (cc), λ none. sym live ∙ ap is_some none)
+
+pub returns-clause-dropped : goal.returns-clause-dropped
+returns-clause-dropped g c =
+    let bank = c.self.inside.bank in
+    let part = c.in-Some.part.now in
+    let live = get-found bank c.args.handle part (sym c.in-Some.ensures.value) in
+    let pruned = pruned-any bank c.take_all.new.bank c.unlink.new.bank bank.next_birth c.self.invariant.tree c.args.handle part live c.take_all.ensures.taken c.unlink.ensures.unlinked in
+    let next = next-unlinked c.take_all.new.bank c.unlink.new.bank c.args.handle part.parent c.unlink.ensures.unlinked ∙ c.take_all.ensures.taken.next in
+    subst (λ v. DropsSubtree v (grove_of c.unlink.new.bank) c.args.handle) c.self.view_is (drops-pruned bank c.unlink.new.bank bank.next_birth c.args.handle c.self.invariant.tree pruned next)
+
+pub returns-clause-count : goal.returns-clause-count
+returns-clause-count g c =
+    let bank = c.self.inside.bank in
+    let shorter = len-unlinked c.take_all.new.bank c.unlink.new.bank c.args.handle c.in-Some.part.now.parent c.unlink.ensures.unlinked in
+    omega (arith, shorter, c.take_all.ensures.taken.len, len-parts_of c.unlink.new.bank.held, len-parts_of bank.held, ap (λ v. map.len v.parts) c.self.view_is, c.len.ensures, c.len-before.ensures)

@@ -1,0 +1,3 @@
+pub mod Grove
+pub mod Part
+pub mod Inside

@@ -1,0 +1,11 @@
+//! A tree of live handles with names. A handle of a part that was dropped finds nothing ever again.
+#![tactic(auto)]
+
+mod grove;
+mod growth;
+mod part;
+mod subtree;
+#[cfg(test)]
+mod tests;
+
+pub use grove::{Grove, GrowEnd};

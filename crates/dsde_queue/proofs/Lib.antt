@@ -1,0 +1,6 @@
+pub mod Order
+pub mod HeapSteps
+pub mod Sorting
+pub mod QueueLemmas
+pub mod Due
+pub mod Compact

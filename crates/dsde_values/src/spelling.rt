@@ -1,0 +1,155 @@
+ghost use Rattle.std.specs.Prelude.{◌≡◌, ◌≤◌, ◌++◌, ℤ, length, FitsSigned, IfOk, OnOk, OnErr, IsErrOf, IfSome, IfNone};
+ghost use Rattle.std.specs.Int.{w64};
+ghost use Rattle.std.specs.List.{take_while};
+ghost use Rattle.std.specs.Fmt.{signed_decimal};
+ghost use Rattle.dsde_values.specs.declared.value.Value.{Value};
+ghost use Rattle.dsde_values.specs.Word.{is_word_byte, Begins};
+ghost use Rattle.dsde_values.specs.Value.{HasType, spelling, number_size};
+
+use crate::decimal::signed_decimal_of;
+use crate::{Ty, Types, Value};
+use dsde_lists::{Memory, Text};
+use itoa::Buffer;
+use std::alloc::Global;
+
+/// Why no value was read.
+#[derive(Clone, Copy, Debug, PartialEq, Eq)]
+pub enum ReadValue {
+    /// No value of the type begins the bytes.
+    NotAValue,
+    Memory,
+}
+
+/// Appends the value's one spelling. Without memory the text stays as it was.
+/// So far only whole numbers are spelled.
+pub fn write_value(value: &Value, types: &Types, text: &mut Text) -> Result<(), Memory>
+    requires { HasType types.now value.now Ty.Int }
+    ensures ok { OnOk result (text.new ≡ text.old ++ spelling types.now value.now) }
+    ensures err { OnErr result (text.new ≡ text.old) }
+{
+    match value {
+        Value::Int(number) => text.extend_from_slice(Buffer::new().format(*number).as_bytes()),
+        _ => unreachable!(),
+    }
+}
+
+/// The value whose spelling begins the bytes, and how many bytes the spelling has. `NotAValue`
+/// comes exactly where no value of the type begins them. So far only whole numbers are read.
+pub fn read_value(
+    _alloc: Global,
+    bytes: &[u8],
+    ty: &Ty,
+    types: &Types,
+) -> Result<(Value, usize), ReadValue>
+    requires { ty.now ≡ Ty.Int }
+
+    ensures typed { IfOk result (λ found. HasType types.now found.0 ty.now) }
+    ensures begins { IfOk result (λ found. Begins (spelling types.now found.0) bytes.now) }
+    ensures size { IfOk result (λ found. found.1 ≡ length (spelling types.now found.0)) }
+    ensures only { IfOk result (λ found. (value : Value) → HasType types.now value ty.now → Begins (spelling types.now value) bytes.now → value ≡ found.0) }
+
+    ensures none { IsErrOf result ReadValue.NotAValue → (value : Value) → HasType types.now value ty.now → ¬ (Begins (spelling types.now value) bytes.now) }
+{
+    match read_number(bytes) {
+        Some((number, size)) => Ok((Value::Int(number), size)),
+        None => Err(ReadValue::NotAValue),
+    }
+}
+
+/// The whole number whose spelling begins the bytes, where no word goes on from it, and how many
+/// bytes the spelling has.
+fn read_number(bytes: &[u8]) -> Option<(i64, usize)>
+    ensures none { IfNone result ((number : ℤ) → FitsSigned w64 number → ¬ (Begins (signed_decimal number) bytes.now)) }
+    ensures begins { IfSome result (λ found. Begins (signed_decimal found.0) bytes.now) }
+    ensures size { IfSome result (λ found. found.1 ≡ length (signed_decimal found.0)) }
+    ensures only { IfSome result (λ found. (number : ℤ) → FitsSigned w64 number → Begins (signed_decimal number) bytes.now → number ≡ found.0) }
+{
+    let text = &bytes[..number_size(bytes)];
+    let number = signed_decimal_of(text)?;
+    Some((number, text.len()))
+}
+
+/// How many bytes a number at the front of the bytes has at most: a sign, and a word.
+fn number_size(bytes: &[u8]) -> usize
+    ensures size { result ≡ number_size bytes.now }
+    ensures within { result ≤ length bytes.now }
+{
+    match bytes {
+        [b'-', digits @ ..] => 1 + word_size(digits),
+        _ => word_size(bytes),
+    }
+}
+
+/// How many letters, digits and `_` the bytes begin with.
+fn word_size(bytes: &[u8]) -> usize
+    ensures size { result ≡ length (take_while is_word_byte bytes.now) }
+    ensures within { result ≤ length bytes.now }
+{
+    bytes.iter().take_while(|byte| is_word_byte(**byte)).count()
+}
+
+/// Whether a byte is a letter, a digit or `_`.
+fn is_word_byte(byte: u8) -> bool
+    ensures { result ≡ is_word_byte byte }
+{
+    byte.is_ascii_alphanumeric() || byte == b'_'
+}
+
+#[cfg(test)]
+mod tests {
+    use super::*;
+    use dsde_lists::Seq;
+    use std::test::Fail;
+
+    #[test]
+    fn reads_whole_numbers(rt: HostRuntime) -> Result<(), Fail> {
+        let types = Types {
+            defs: Seq::new(rt.alloc()),
+        };
+        for (text, want) in [
+            ("12]", Some((12, 2))),
+            ("0", Some((0, 1))),
+            ("-7; x 1", Some((-7, 2))),
+            ("12-3", Some((12, 2))),
+            ("9223372036854775807", Some((i64::MAX, 19))),
+            ("-9223372036854775808,", Some((i64::MIN, 20))),
+            ("9223372036854775808", None),
+            ("-9223372036854775809", None),
+            ("01", None),
+            ("-0", None),
+            ("+1", None),
+            ("12x", None),
+            ("12_", None),
+            ("1\u{e9}", Some((1, 1))),
+            ("--1", None),
+            ("-", None),
+            ("", None),
+            (" 1", None),
+            ("true", None),
+        ] {
+            let read = match read_value(rt.alloc(), text.as_bytes(), &Ty::Int, &types) {
+                Ok((Value::Int(number), size)) => Some((number, size)),
+                _ => None,
+            };
+            assert_eq!(rt; read, want, "{text}");
+        }
+        Ok(())
+    }
+
+    #[test]
+    fn writes_whole_numbers(rt: HostRuntime) -> Result<(), Fail> {
+        let types = Types {
+            defs: Seq::new(rt.alloc()),
+        };
+        let mut text = Text::from_slice(rt.alloc(), b"= ")?;
+        for number in [0, -1, i64::MAX, i64::MIN] {
+            write_value(&Value::Int(number), &types, &mut text)?;
+            text.push(b' ')?;
+        }
+        assert_eq!(rt;
+            text.as_slice(),
+            b"= 0 -1 9223372036854775807 -9223372036854775808 ".as_slice()
+        );
+        Ok(())
+    }
+}
