@@ -1,0 +1,195 @@
+-- The item at the front of a text.
+use Rattle.std.proofs.Common.{◌≡◌, ◌≢◌, ℕ, ◌+◌, ◌-◌, ◌<◌, ◌≤◌, Bool, true, false, ◌&&◌, List, [], ◌∷◌, ◌++◌, length, take, drop, get_or, refl, sym, ◌∙◌, ap, subst, arith, append_assoc, length-append, length-drop, inl, inr}
+use Rattle.std.specs.Prelude.{Some, None, slice_get}
+use Rattle.std.specs.Option.{option_map_or}
+use Rattle.std.specs.Str.{bytes_eq}
+use Rattle.std.specs.List.{All, position, position_or_len, list_all}
+use Rattle.std.proofs.lemmas.Slice.Eq.{bytes_eq-Decides}
+use Rattle.std.proofs.lemmas.List.Sums.{fails_before_first}
+use Rattle.std.proofs.lemmas.List.Quantifiers.{position-Some}
+use Rattle.std.proofs.lemmas.List.{drop-drop}
+use Rattle.std.proofs.Math.Seq.{drop-append_seam}
+use Rattle.std.proofs.lemmas.List.{take_all}
+use Rattle.std.proofs.lemmas.Option.{slice_get_within, get_or_from_slice_get, slice_get-get_or}
+use Rattle.std.proofs.lemmas.Bool.{cases_lt}
+use Rattle.std.proofs.lemmas.Bool.Decides.{nat_tests}
+use Rattle.dsde_values.specs.declared.arrival.Item.{Item}
+use Rattle.dsde_values.specs.declared.types.Field.{Field}
+use Rattle.dsde_values.specs.declared.types.Types.{Types}
+use Rattle.dsde_values.specs.declared.value.Value.{Value}
+use Rattle.dsde_values.specs.Value.{HasType, spelling}
+use Rattle.dsde_values.specs.Word.{is_word_byte, is_identifier, begins_word, ends_word, Begins}
+use Rattle.dsde_input.specs.Lines.{Lacks}
+use Rattle.dsde_input.specs.Record.{ArePorts, IsItem, item_text, port_name}
+use Rattle.dsde_input.specs.Reading.{Reads, NoWord}
+use Rattle.dsde_input.proofs.Cuts.{IsCut, same_cut, no_cut, none_from_cond}
+
+both : (one other : Bool) → (one && other) ≡ true → (one ≡ true) × (other ≡ true)
+both true other h = (refl, h)
+both false other h = absurd (let e : false ≡ true = h in cc)
+
+and_false : (one other : Bool) → other ≡ false → (one && other) ≡ false
+and_false true other none = none
+and_false false other none = refl
+
+no_space : (byte : ℕ) → is_word_byte byte ≡ true → byte ≢ 32
+no_space byte word same = grind (arith, nat_tests)
+
+Lacks-word : (word : List ℕ) → list_all is_word_byte word ≡ true → Lacks 32 word
+Lacks-word [] all = tt
+Lacks-word (byte ∷ word) all =
+    let p = both (is_word_byte byte) (list_all is_word_byte word) all in
+    (no_space byte p.0, Lacks-word word p.1)
+
+-- An identifier has no space.
+Lacks-identifier : (name : List ℕ) → is_identifier name ≡ true → Lacks 32 name
+Lacks-identifier [] is = tt
+Lacks-identifier (byte ∷ name) is = Lacks-word (byte ∷ name) (both _ _ is).1
+
+-- a fact of each port, at one
+pub port_fact : (P : Field → Type 0) (ports : List Field) (at : ℕ) (port : Field) → All P ports → slice_get ports at ≡ Some port → P port
+port_fact P ports at port all is =
+    subst P (get_or_from_slice_get ports at port port is) (all at port (slice_get_within ports at port is))
+
+-- an item's name and value, where the item stands at the front of a text
+module _ (ports : List Field) (types : Types) (lawful : ArePorts ports) (text : List ℕ) (at : ℕ) (cut : IsCut 32 text at) where
+  item_parts : (item : Item) (rest : List ℕ) (is : IsItem ports types item) → text ≡ item_text ports types item ++ rest →
+      (take at text ≡ is.port.name) × (drop (at + 1) text ≡ spelling types item.value ++ rest)
+  item_parts item rest is same =
+      let named : port_name ports item.port ≡ is.port.name = ap (λ found. option_map_or (λ field. field.name) found []) is.at in
+      let name_lacks = Lacks-identifier is.port.name (port_fact (λ port. is_identifier port.name ≡ true) ports item.port is.port lawful.named is.at) in
+      let split : item_text ports types item ++ rest ≡ is.port.name ++ 32 ∷ (spelling types item.value ++ rest) =
+      rw named (append_assoc is.port.name (32 ∷ spelling types item.value) rest) in
+      same_cut 32 (take at text) (drop (at + 1) text) is.port.name (spelling types item.value ++ rest)
+      (sym cut.whole ∙ same ∙ split) cut.first name_lacks
+
+-- A text without a space has no item.
+pub no_item_uncut : (ports : List Field) (types : Types) (text : List ℕ) → Lacks 32 text → Reads (IsItem ports types) (item_text ports types) NoWord text None
+no_item_uncut ports types text lacks = record {
+  stands = tt;
+  only = λ item rest is word same.
+      no_cut 32 text (port_name ports item.port) (spelling types item.value ++ rest) lacks
+      (same ∙ append_assoc (port_name ports item.port) (32 ∷ spelling types item.value) rest);
+}
+
+abbrev has_name : List ℕ → Field → Bool
+has_name name port = bytes_eq port.name name
+
+-- Of two ports with one name, there is one.
+one_port : (ports : List Field) (i j : ℕ) (d : Field) → ArePorts ports → i < length ports → j < length ports → (get_or ports i d).name ≡ (get_or ports j d).name → i ≡ j
+one_port ports i j d lawful in_i in_j same =
+    elim (cases_lt i j) [
+      | inl before ↦ absurd (lawful.distinct i j d before in_j same)
+      | inr past ↦ elim (cases_lt j i) [
+        | inl behind ↦ absurd (lawful.distinct j i d behind in_i (sym same))
+        | inr level ↦ omega arith
+      ]
+    ]
+
+same_name : (port : Field) (name : List ℕ) → has_name name port ≡ true → port.name ≡ name
+same_name port name is = (bytes_eq-Decides port.name name).0 is
+
+-- No port has the name.
+no_port : (ports : List Field) (name : List ℕ) → position (has_name name) ports ≡ None → (at : ℕ) (port : Field) → slice_get ports at ≡ Some port → port.name ≢ name
+no_port ports name none at port is same =
+    let past = none_from_cond _ _ none in
+    let within = slice_get_within ports at port is in
+    let all : length ports ≤ position_or_len (has_name name) ports = grind (arith, nat_tests) in
+    let fails = fails_before_first (has_name name) ports at port (omega arith) in
+    let this : has_name name port ≡ false = ap (has_name name) (sym (get_or_from_slice_get ports at port port is)) ∙ fails in
+    let found = (bytes_eq-Decides port.name name).1 same in
+    cc
+
+-- the port with the name
+this_port : (ports : List Field) (name : List ℕ) (place : ℕ) → ArePorts ports → position (has_name name) ports ≡ Some place → (at : ℕ) (port : Field) → slice_get ports at ≡ Some port → port.name ≡ name → place ≡ at
+this_port ports name place lawful found at port is same =
+    let first = position-Some (has_name name) ports place port found in
+    let within = slice_get_within ports at port is in
+    one_port ports place at port lawful first.0 within
+    (same_name (get_or ports place port) name first.1 ∙ sym same ∙ ap (λ p. p.name) (sym (get_or_from_slice_get ports at port port is)))
+
+-- No value goes on, where no word follows it.
+begins_before : (types : Types) (value : Value) (rest bytes : List ℕ) → NoWord rest → bytes ≡ spelling types value ++ rest → Begins (spelling types value) bytes
+begins_before types value rest bytes word same =
+    record { rest = rest; front = same; ends = and_false (ends_word (spelling types value)) (begins_word rest) word }
+
+module _ (ports : List Field) (types : Types) (lawful : ArePorts ports) (text : List ℕ) (at : ℕ) (cut : IsCut 32 text at) where
+  -- What stands before the space is no port.
+  pub no_item_port : position (has_name (take at text)) ports ≡ None → Reads (IsItem ports types) (item_text ports types) NoWord text None
+  no_item_port none = record {
+    stands = tt;
+    only = λ item rest is word same.
+        no_port ports (take at text) none item.port is.port is.at (sym (item_parts ports types lawful text at cut item rest is same).0);
+  }
+
+  module _ (place : ℕ) (port : Field) (found : position (has_name (take at text)) ports ≡ Some place) (is_port : port ≡ get_or ports place port)
+      (behind : List ℕ) (is_behind : behind ≡ drop (at + 1) text) where
+    at_place : slice_get ports place ≡ Some port
+    at_place = slice_get-get_or ports place port (position-Some (has_name (take at text)) ports place port found).0 ∙ ap Some (sym is_port)
+
+    named : port.name ≡ take at text
+    named = ap (λ p. p.name) is_port ∙ same_name (get_or ports place port) (take at text) (position-Some (has_name (take at text)) ports place port found).1
+
+    -- the port and the value of an item that stands there
+    its_place : (item : Item) (rest : List ℕ) (is : IsItem ports types item) → text ≡ item_text ports types item ++ rest → place ≡ item.port
+    its_place item rest is same =
+        this_port ports (take at text) place lawful found item.port is.port is.at
+        (sym (item_parts ports types lawful text at cut item rest is same).0)
+
+    its_type : (item : Item) (rest : List ℕ) (is : IsItem ports types item) → text ≡ item_text ports types item ++ rest → HasType types item.value port.ty
+    its_type item rest is same =
+        let one : place ≡ item.port = its_place item rest is same in
+        let ports_one : Some is.port ≡ Some port = sym is.at ∙ ap (slice_get ports) (sym one) ∙ at_place in
+        let port_one : is.port ≡ port = cc in
+        subst (λ p. HasType types item.value p.ty) port_one is.typed
+
+    its_value : (item : Item) (rest : List ℕ) (is : IsItem ports types item) → NoWord rest → text ≡ item_text ports types item ++ rest → Begins (spelling types item.value) behind
+    its_value item rest is word same =
+        begins_before types item.value rest behind word (is_behind ∙ (item_parts ports types lawful text at cut item rest is same).1)
+
+    -- What stands behind the space is no value.
+    pub no_item_value : ((value : Value) → HasType types value port.ty → ¬ (Begins (spelling types value) behind)) → Reads (IsItem ports types) (item_text ports types) NoWord text None
+    no_item_value none = record {
+      stands = tt;
+      only = λ item rest is word same.
+          none item.value (its_type item rest is same) (its_value item rest is word same);
+    }
+
+    -- the text behind a value
+    behind_value : (value : Value) (more : ℕ) (rest : List ℕ) → drop (at + 1) text ≡ spelling types value ++ rest → more ≡ length (spelling types value) → drop (at + 1 + more) text ≡ rest
+    behind_value value more rest same size =
+        sym (drop-drop more (at + 1) text) ∙ ap (drop more) same ∙ ap (λ n. drop n (spelling types value ++ rest)) size
+        ∙ drop-append_seam (spelling types value) rest
+
+    value_front : (value : Value) (rest : List ℕ) → drop (at + 1) text ≡ spelling types value ++ rest → text ≡ item_text ports types (record { port = place; value = value }) ++ rest
+    value_front value rest same =
+        let name : port_name ports place ≡ take at text = ap (λ p. option_map_or (λ field. field.name) p []) at_place ∙ named in
+        cut.whole ∙ ap (λ tail. take at text ++ 32 ∷ tail) same
+        ∙ sym (append_assoc (take at text) (32 ∷ spelling types value) rest)
+        ∙ ap (λ front. (front ++ 32 ∷ spelling types value) ++ rest) (sym name)
+
+    -- an item
+    pub some_item : (value : Value) (more : ℕ) → HasType types value port.ty → (begins : Begins (spelling types value) behind) → more ≡ length (spelling types value) →
+        ((other : Value) → HasType types other port.ty → Begins (spelling types other) behind → other ≡ value) →
+        Reads (IsItem ports types) (item_text ports types) NoWord text (Some (record { port = place; value = value }, (at + 1) + more))
+    some_item value more typed begins size only = record {
+      stands = record {
+        is = record { port = port; at = at_place; typed = typed };
+        front = value_front value begins.rest (sym is_behind ∙ begins.front)
+            ∙ ap (λ tail. item_text ports types (record { port = place; value = value }) ++ tail) (sym (behind_value value more begins.rest (sym is_behind ∙ begins.front) size));
+        within = omega (arith, length-drop (at + 1) text, ap length (sym is_behind ∙ begins.front), length-append (spelling types value) begins.rest, cut.within);
+      };
+      only = λ item rest is word same.
+          let value_one : item.value ≡ value = only item.value (its_type item rest is same) (its_value item rest is word same) in
+          let port_one : place ≡ item.port = its_place item rest is same in
+          let with_parts : ℕ → Value → Item = λ n v. record { port = n; value = v } in
+          (ap (λ n. with_parts n value) port_one ∙ ap (with_parts item.port) (sym value_one), behind_value value more rest ((item_parts ports types lawful text at cut item rest is same).1 ∙ ap (λ v. spelling types v ++ rest) value_one) size);
+    }
+
+-- a port that was read at a place
+pub port_read : (read ports : List Field) (place : ℕ) (port : Field) → read ≡ ports → port ≡ get_or read place port → port ≡ get_or ports place port
+port_read read ports place port same is = is ∙ ap (λ list. get_or list place port) same
+
+-- all of a text from a place on
+pub rest_from : (place : ℕ) (text : List ℕ) → take (length text - place) (drop place text) ≡ drop place text
+rest_from place text = take_all (length text - place) (drop place text) (omega (arith, length-drop place text))

@@ -1,0 +1,9 @@
+pub mod AllRecords
+pub mod Cuts
+pub mod Every
+pub mod FirstLine
+pub mod ItemLists
+pub mod Items
+pub mod Moving
+pub mod RecordLines
+pub mod Times
