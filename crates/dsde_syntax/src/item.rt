@@ -1,0 +1,83 @@
+use crate::{Expr, Id, Items};
+
+/// An item of a network's structure.
+#[cycle(item)]
+#[derive(Debug, Drop)]
+pub enum Item {
+    /// `comp name[index] is model(args);`, with the place of `comp`.
+    Comp {
+        at: u32,
+        name: Id,
+        index: Option<Bracket>,
+        model: Id,
+        args: Items<Expr>,
+    },
+    /// `link from -> to via ..;`, with the place of `link`.
+    Link {
+        at: u32,
+        from: End,
+        to: End,
+        via: Option<ViaPart>,
+    },
+    /// `let name = value;`
+    Let { name: Id, value: Expr },
+    /// `if cond { body }` with any number of `else if`, and `else { other }` if it is written.
+    If {
+        arms: Items<ItemArm>,
+        other: Option<Items<Item>>,
+    },
+    /// `for name in list { body }`
+    For {
+        name: Id,
+        list: Expr,
+        body: Items<Item>,
+    },
+}
+
+/// `if cond { body }`
+#[cycle(item)]
+#[derive(Debug, Drop)]
+pub struct ItemArm {
+    pub cond: Expr,
+    pub body: Items<Item>,
+}
+
+/// `[value]`, with the place of `[`.
+#[derive(Debug, Drop)]
+pub struct Bracket {
+    pub at: u32,
+    pub value: Expr,
+}
+
+/// `part.port`, an end of a link.
+#[derive(Debug, Drop)]
+pub struct End {
+    pub part: EndPart,
+    pub port: Id,
+}
+
+/// Whose port an end of a link is.
+#[derive(Debug, Drop)]
+pub enum EndPart {
+    /// The network's own.
+    Net,
+    /// The executive's.
+    Exec,
+    /// A component's.
+    Kid { name: Id, index: Option<Bracket> },
+}
+
+/// `via (value, key) => body`, the translation of a link's values.
+#[derive(Debug, Drop)]
+pub struct ViaPart {
+    pub value: Id,
+    pub key: Option<ViaKey>,
+    pub body: Expr,
+}
+
+/// `name = value`, a name that a translation sees beside the value it translates.
+#[derive(Debug, Drop)]
+pub struct ViaKey {
+    pub name: Id,
+    pub value: Expr,
+}
