@@ -10,9 +10,15 @@ pub struct Model {
 #[derive(Debug, Drop)]
 pub enum Decl {
     /// `enum name { variants }`
-    Enum { name: Id, variants: Items<Id> },
+    Enum {
+        name: Id,
+        variants: Items<Id>,
+    },
     /// `record name { fields }`
-    Rec { name: Id, fields: Items<Typed> },
+    Rec {
+        name: Id,
+        fields: Items<Typed>,
+    },
     /// `fn name(params) -> result { stmts return value; }`
     Func {
         name: Id,

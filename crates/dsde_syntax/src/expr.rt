@@ -21,7 +21,10 @@ pub enum Expr {
         rest: Items<Tail>,
     },
     /// `not of`, with the place of `not`.
-    Not { at: u32, of: Boxed<Expr> },
+    Not {
+        at: u32,
+        of: Boxed<Expr>,
+    },
     /// `left == right` and the other comparisons, with the place of the sign.
     Compare {
         sign: Sign,
@@ -40,24 +43,39 @@ pub enum Expr {
         rest: Items<SignTail>,
     },
     /// `-of`, with the place of `-`.
-    Neg { at: u32, of: Boxed<Expr> },
+    Neg {
+        at: u32,
+        of: Boxed<Expr>,
+    },
     /// `first.id`, `first[index]` and `first!`.
     Post {
         first: Boxed<Expr>,
         suffixes: Items<Suffix>,
     },
     /// A number, at most 2^63 - 1.
-    Number { at: u32, value: u64 },
+    Number {
+        at: u32,
+        value: u64,
+    },
     /// `true` or `false`.
-    Truth { at: u32, value: bool },
+    Truth {
+        at: u32,
+        value: bool,
+    },
     /// `elapsed`, by its place.
     Elapsed(u32),
     /// A name that is bound.
     Name(Id),
     /// `name(args)`
-    Call { name: Id, args: Items<Expr> },
+    Call {
+        name: Id,
+        args: Items<Expr>,
+    },
     /// `of::variant`
-    Variant { of: Id, variant: Id },
+    Variant {
+        of: Id,
+        variant: Id,
+    },
     /// `new of { fields }`, with the place of `new`.
     New {
         at: u32,
@@ -65,9 +83,15 @@ pub enum Expr {
         fields: Items<FieldSet>,
     },
     /// `none<ty>`, with the place of `none`.
-    NoneOf { at: u32, ty: TypeName },
+    NoneOf {
+        at: u32,
+        ty: TypeName,
+    },
     /// `empty<ty>`, with the place of `empty`.
-    EmptyOf { at: u32, ty: TypeName },
+    EmptyOf {
+        at: u32,
+        ty: TypeName,
+    },
     /// `len(args)` and the other builtins, with the place of the word.
     Builtin {
         which: Key,
@@ -75,9 +99,15 @@ pub enum Expr {
         args: Items<Expr>,
     },
     /// `(inner)`, with the place of `(`.
-    Paren { at: u32, inner: Boxed<Expr> },
+    Paren {
+        at: u32,
+        inner: Boxed<Expr>,
+    },
     /// `[items]`, with the place of `[`.
-    List { at: u32, items: Items<Expr> },
+    List {
+        at: u32,
+        items: Items<Expr>,
+    },
     /// `[for name in list if cond: value]`, with the place of `[`.
     Each {
         at: u32,

@@ -20,7 +20,10 @@ pub enum Item {
         via: Option<ViaPart>,
     },
     /// `let name = value;`
-    Let { name: Id, value: Expr },
+    Let {
+        name: Id,
+        value: Expr,
+    },
     /// `if cond { body }` with any number of `else if`, and `else { other }` if it is written.
     If {
         arms: Items<ItemArm>,

@@ -11,9 +11,15 @@ pub enum Stmt {
         value: Expr,
     },
     /// `name = value;`
-    Set { name: Id, value: Expr },
+    Set {
+        name: Id,
+        value: Expr,
+    },
     /// `send port(value);`
-    Send { port: Id, value: Expr },
+    Send {
+        port: Id,
+        value: Expr,
+    },
     /// `if cond { body }` with any number of `else if`, and `else { other }` if it is written.
     If {
         arms: Items<StmtArm>,

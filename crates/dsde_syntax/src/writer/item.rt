@@ -1,0 +1,166 @@
+ghost use Rattle.std.specs.Prelude.{◌≡◌, ◌++◌, map, OnOk};
+ghost use Rattle.dsde_syntax.specs.Grammar.{elses, block, else_block, optional, in_parens, id_tokens, component_tokens, end_part_tokens, end_tokens, link_tokens, via_key_tokens, via_tokens, item_tokens, item_arm_tokens};
+
+use super::Writer;
+use crate::{Bracket, End, EndPart, Id, Item, ItemArm, Key, Memory, Sign, ViaKey, ViaPart};
+
+impl Writer {
+    /// `name[index]`, or `name` alone.
+    fn component(&mut self, name: &Id, index: &Option<Bracket>) -> Result<(), Memory>
+        ensures { OnOk result (self.new ≡ self.old ++ component_tokens name.now index.now) }
+    {
+        self.id(name)?;
+        match index {
+            Some(bracket) => self.index(&bracket.value),
+            None => Ok(()),
+        }
+    }
+
+    fn end_part(&mut self, part: &EndPart) -> Result<(), Memory>
+        ensures { OnOk result (self.new ≡ self.old ++ end_part_tokens part.now) }
+    {
+        match part {
+            EndPart::Net => self.word(Key::Net),
+            EndPart::Exec => self.word(Key::Exec),
+            EndPart::Kid { name, index } => self.component(name, index),
+        }
+    }
+
+    fn end(&mut self, end: &End) -> Result<(), Memory>
+        ensures { OnOk result (self.new ≡ self.old ++ end_tokens end.now) }
+    {
+        self.end_part(&end.part)?;
+        self.sign(Sign::Dot)?;
+        self.id(&end.port)
+    }
+
+    /// `, name = value`, if it is written.
+    fn via_key(&mut self, key: &Option<ViaKey>) -> Result<(), Memory>
+        ensures { OnOk result (self.new ≡ self.old ++ optional via_key_tokens key.now) }
+    {
+        let Some(own) = key else {
+            return Ok(());
+        };
+        self.sign(Sign::Comma)?;
+        self.id(&own.name)?;
+        self.sign(Sign::Equal)?;
+        self.expr(&own.value)
+    }
+
+    /// `(value, name = value)`
+    fn via_names(&mut self, via: &ViaPart) -> Result<(), Memory>
+        ensures { OnOk result (self.new ≡ self.old ++ in_parens (id_tokens via.now.value ++ optional via_key_tokens via.now.key)) }
+    {
+        self.sign(Sign::OpenParen)?;
+        self.id(&via.value)?;
+        self.via_key(&via.key)?;
+        self.sign(Sign::CloseParen)
+    }
+
+    /// A link's translation, if it is written.
+    fn via(&mut self, via: &Option<ViaPart>) -> Result<(), Memory>
+        ensures { OnOk result (self.new ≡ self.old ++ optional via_tokens via.now) }
+    {
+        let Some(part) = via else {
+            return Ok(());
+        };
+        self.word(Key::Via)?;
+        self.via_names(part)?;
+        self.sign(Sign::FatArrow)?;
+        self.expr(&part.body)
+    }
+
+    /// `link from -> to via ..;`
+    fn link(&mut self, from: &End, to: &End, via: &Option<ViaPart>) -> Result<(), Memory>
+        ensures { OnOk result (self.new ≡ self.old ++ link_tokens from.now to.now via.now) }
+    {
+        self.word(Key::Link)?;
+        self.end(from)?;
+        self.sign(Sign::Arrow)?;
+        self.end(to)?;
+        self.via(via)?;
+        self.sign(Sign::Semicolon)
+    }
+
+    #[cycle(write_item)]
+    fn item(&mut self, item: &Item) -> Result<(), Memory>
+        ensures { OnOk result (self.new ≡ self.old ++ item_tokens item.now) }
+    {
+        match item {
+            Item::Comp {
+                name,
+                index,
+                model,
+                args,
+                ..
+            } => {
+                self.word(Key::Comp)?;
+                self.component(name, index)?;
+                self.word(Key::Is)?;
+                self.call(model, args.as_slice())?;
+                self.sign(Sign::Semicolon)
+            }
+            Item::Link { from, to, via, .. } => self.link(from, to, via),
+            Item::Let { name, value } => {
+                self.word(Key::Let)?;
+                self.set(name, value)
+            }
+            Item::If { arms, other } => {
+                self.item_arms(arms.as_slice())?;
+                match other {
+                    Some(body) => self.else_items(body.as_slice()),
+                    None => Ok(()),
+                }
+            }
+            Item::For { name, list, body } => {
+                self.for_in(name, list)?;
+                self.items(body.as_slice())
+            }
+        }
+    }
+
+    /// `else { body }`
+    #[cycle(write_item)]
+    fn else_items(&mut self, body: &[Item]) -> Result<(), Memory>
+        ensures { OnOk result (self.new ≡ self.old ++ else_block (map item_tokens body.now)) }
+    {
+        self.word(Key::Else)?;
+        self.items(body)
+    }
+
+    /// `{ body }`
+    #[cycle(write_item)]
+    pub(super) fn items(&mut self, body: &[Item]) -> Result<(), Memory>
+        ensures { OnOk result (self.new ≡ self.old ++ block (map item_tokens body.now)) }
+    {
+        self.sign(Sign::OpenBrace)?;
+        for item in body {
+            self.item(item)?;
+        }
+        self.sign(Sign::CloseBrace)
+    }
+
+    /// The arms of a choice with `else` between them.
+    #[cycle(write_item)]
+    fn item_arms(&mut self, arms: &[ItemArm]) -> Result<(), Memory>
+        ensures { OnOk result (self.new ≡ self.old ++ elses (map item_arm_tokens arms.now)) }
+    {
+        let Some((first, rest)) = arms.split_first() else {
+            return Ok(());
+        };
+        self.item_arm(first)?;
+        for arm in rest {
+            self.word(Key::Else)?;
+            self.item_arm(arm)?;
+        }
+        Ok(())
+    }
+
+    #[cycle(write_item)]
+    fn item_arm(&mut self, arm: &ItemArm) -> Result<(), Memory>
+        ensures { OnOk result (self.new ≡ self.old ++ item_arm_tokens arm.now) }
+    {
+        self.if_cond(&arm.cond)?;
+        self.items(arm.body.as_slice())
+    }
+}

@@ -1,0 +1,119 @@
+ghost use Rattle.std.specs.Prelude.{◌≡◌, ◌++◌, map, OnOk};
+ghost use Rattle.dsde_syntax.specs.Grammar.{joined, elses, block, else_block, let_tokens, set_tokens, if_tokens, stmt_tokens, stmt_arm_tokens};
+
+use super::Writer;
+use crate::{Expr, Id, Key, Memory, Sign, Stmt, StmtArm};
+
+impl Writer {
+    /// `name = value;`
+    pub(super) fn set(&mut self, name: &Id, value: &Expr) -> Result<(), Memory>
+        ensures { OnOk result (self.new ≡ self.old ++ set_tokens name.now value.now) }
+    {
+        self.id(name)?;
+        self.sign(Sign::Equal)?;
+        self.expr(value)?;
+        self.sign(Sign::Semicolon)
+    }
+
+    /// `let`, or `var` where the name may be assigned to.
+    fn let_word(&mut self, mutable: bool) -> Result<(), Memory>
+        ensures { OnOk result (self.new ≡ self.old ++ let_tokens mutable) }
+    {
+        self.word(if mutable { Key::Var } else { Key::Let })
+    }
+
+    /// `if cond`
+    pub(super) fn if_cond(&mut self, cond: &Expr) -> Result<(), Memory>
+        ensures { OnOk result (self.new ≡ self.old ++ if_tokens cond.now) }
+    {
+        self.word(Key::If)?;
+        self.expr(cond)
+    }
+
+    #[cycle(write_stmt)]
+    fn stmt(&mut self, stmt: &Stmt) -> Result<(), Memory>
+        ensures { OnOk result (self.new ≡ self.old ++ stmt_tokens stmt.now) }
+    {
+        match stmt {
+            Stmt::Let {
+                mutable,
+                name,
+                value,
+            } => {
+                self.let_word(*mutable)?;
+                self.set(name, value)
+            }
+            Stmt::Set { name, value } => self.set(name, value),
+            Stmt::Send { port, value } => {
+                self.word(Key::Send)?;
+                self.id(port)?;
+                self.expr_in_parens(value)?;
+                self.sign(Sign::Semicolon)
+            }
+            Stmt::If { arms, other } => {
+                self.stmt_arms(arms.as_slice())?;
+                match other {
+                    Some(body) => self.else_block(body.as_slice()),
+                    None => Ok(()),
+                }
+            }
+            Stmt::For { name, list, body } => {
+                self.for_in(name, list)?;
+                self.block(body.as_slice())
+            }
+        }
+    }
+
+    /// `else { body }`
+    #[cycle(write_stmt)]
+    fn else_block(&mut self, body: &[Stmt]) -> Result<(), Memory>
+        ensures { OnOk result (self.new ≡ self.old ++ else_block (map stmt_tokens body.now)) }
+    {
+        self.word(Key::Else)?;
+        self.block(body)
+    }
+
+    /// `{ body }`
+    #[cycle(write_stmt)]
+    pub(super) fn block(&mut self, body: &[Stmt]) -> Result<(), Memory>
+        ensures { OnOk result (self.new ≡ self.old ++ block (map stmt_tokens body.now)) }
+    {
+        self.sign(Sign::OpenBrace)?;
+        self.stmts(body)?;
+        self.sign(Sign::CloseBrace)
+    }
+
+    #[cycle(write_stmt)]
+    pub(super) fn stmts(&mut self, stmts: &[Stmt]) -> Result<(), Memory>
+        ensures { OnOk result (self.new ≡ self.old ++ joined (map stmt_tokens stmts.now)) }
+    {
+        for stmt in stmts {
+            self.stmt(stmt)?;
+        }
+        Ok(())
+    }
+
+    /// The arms of a choice with `else` between them.
+    #[cycle(write_stmt)]
+    fn stmt_arms(&mut self, arms: &[StmtArm]) -> Result<(), Memory>
+        ensures { OnOk result (self.new ≡ self.old ++ elses (map stmt_arm_tokens arms.now)) }
+    {
+        let Some((first, rest)) = arms.split_first() else {
+            return Ok(());
+        };
+        self.stmt_arm(first)?;
+        for arm in rest {
+            self.word(Key::Else)?;
+            self.stmt_arm(arm)?;
+        }
+        Ok(())
+    }
+
+    #[cycle(write_stmt)]
+    fn stmt_arm(&mut self, arm: &StmtArm) -> Result<(), Memory>
+        ensures { OnOk result (self.new ≡ self.old ++ stmt_arm_tokens arm.now) }
+    {
+        self.if_cond(&arm.cond)?;
+        self.block(arm.body.as_slice())
+    }
+}
