@@ -1,6 +1,6 @@
 -- What the functions that run a model append, and answer.
 use Rattle.std.specs.Prelude.{ℕ, suc, ◌≡◌, List, ◌++◌, Some}
-use Rattle.dsde_syntax.specs.declared.first.FirstModel.{FirstModel}
+use Rattle.dsde_first.specs.declared.first.FirstModel.{FirstModel}
 use Rattle.dsde_sim.specs.declared.event.Finish.{Finish}
 use Rattle.dsde_sim.specs.Engine.{Engine}
 use Rattle.dsde_sim.specs.Run.{Run, go}

@@ -5,8 +5,8 @@ use crate::command::{Command, MOST_TURNS, read_command};
 use crate::run::run;
 use crate::status::write_note;
 use crate::{Refusal, Status, What, Why};
+use dsde_first::{FirstModel, ReadFirst, read_first};
 use dsde_io::{Shelf, ShelfEnd, Sink, SinkEnd, Source, write_all};
-use dsde_syntax::{FirstModel, ReadFirst, read_first};
 use dsde_values::{Memory, Text};
 use std::alloc::Global;
 

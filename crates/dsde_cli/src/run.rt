@@ -5,8 +5,8 @@ ghost use Rattle.dsde_sim.specs.Turn.{turn_time};
 ghost use Rattle.dsde_sim.specs.Text.{event_text, end_text, trace_text};
 ghost use Rattle.dsde_cli.specs.Runs.{Tells, GoesOn};
 
+use dsde_first::FirstModel;
 use dsde_sim::{Event, Fault, Finish, Plain, Step, TurnEnd, write_end, write_event};
-use dsde_syntax::FirstModel;
 use dsde_values::{Memory, Seq, Text, When};
 use std::alloc::Global;
 

@@ -5,7 +5,7 @@ use Rattle.std.proofs.Math.Seq.{drop-cons}
 use Rattle.std.proofs.Math.ListN.{drop_of_length-le}
 use Rattle.std.proofs.lemmas.List.{take-take, length-take}
 use Rattle.std.proofs.lemmas.Bool.{cases_lt}
-use Rattle.dsde_syntax.specs.declared.first.FirstState.{FirstState}
+use Rattle.dsde_first.specs.declared.first.FirstState.{FirstState}
 use Rattle.dsde_sim.specs.Text.{bindings_text, separator}
 
 -- a text that grew and then grew more

@@ -1,6 +1,6 @@
 -- An engine, as contracts see it: a model at work.
 use Rattle.std.specs.Prelude.{ℕ, ◌<◌, ◌^◌, Bool, length}
-use Rattle.dsde_syntax.specs.declared.first.FirstModel.{FirstModel}
+use Rattle.dsde_first.specs.declared.first.FirstModel.{FirstModel}
 use Rattle.dsde_values.specs.declared.when.When.{When}
 use Rattle.dsde_values.specs.declared.when.When.TheVariants.{At, Never}
 use Rattle.dsde_sim.specs.declared.leaf.Leaf.{Leaf}

@@ -2,9 +2,9 @@
 use Rattle.std.specs.Prelude.{ℕ, ◌+◌, ◌-◌, ◌^◌, ◌≡◌, ◌==◌, ℤ, pos, negsuc, Bool, false, List, [], ◌∷◌, length, position, unwrap_or, Option, Some, None, Result, Ok, Err, nat_lt, if◌then◌else◌}
 use Rattle.std.specs.List.{list_any}
 use Rattle.std.specs.Str.{bytes_eq}
-use Rattle.dsde_syntax.specs.declared.first.FirstModel.{FirstModel}
-use Rattle.dsde_syntax.specs.declared.first.FirstSet.{FirstSet}
-use Rattle.dsde_syntax.specs.declared.first.FirstState.{FirstState}
+use Rattle.dsde_first.specs.declared.first.FirstModel.{FirstModel}
+use Rattle.dsde_first.specs.declared.first.FirstSet.{FirstSet}
+use Rattle.dsde_first.specs.declared.first.FirstState.{FirstState}
 use Rattle.dsde_values.specs.declared.when.When.{When}
 use Rattle.dsde_values.specs.declared.when.When.TheVariants.{At, Never}
 use Rattle.dsde_sim.specs.declared.event.MoveKind.{MoveKind}

@@ -1,12 +1,12 @@
 -- What the sums and assignments of a model mean, over the values of its state variables.
 use Rattle.std.specs.Prelude.{ℕ, ◌^◌, ℤ, pos, negsuc, ◌+ℤ◌, List, [], ◌∷◌, length, Option, Some, None, Result, Ok, Err, position, slice_index_or, slice_set, nat_lt, if◌then◌else◌}
 use Rattle.std.specs.Str.{bytes_eq}
-use Rattle.dsde_syntax.specs.declared.first.FirstModel.{FirstModel}
-use Rattle.dsde_syntax.specs.declared.first.FirstPart.{FirstPart}
-use Rattle.dsde_syntax.specs.declared.first.FirstPart.TheVariants.{Number, Name, Len, Elapsed}
-use Rattle.dsde_syntax.specs.declared.first.FirstSet.{FirstSet}
-use Rattle.dsde_syntax.specs.declared.first.FirstState.{FirstState}
-use Rattle.dsde_syntax.specs.declared.first.FirstSum.{FirstSum}
+use Rattle.dsde_first.specs.declared.first.FirstModel.{FirstModel}
+use Rattle.dsde_first.specs.declared.first.FirstPart.{FirstPart}
+use Rattle.dsde_first.specs.declared.first.FirstPart.TheVariants.{Number, Name, Len, Elapsed}
+use Rattle.dsde_first.specs.declared.first.FirstSet.{FirstSet}
+use Rattle.dsde_first.specs.declared.first.FirstState.{FirstState}
+use Rattle.dsde_first.specs.declared.first.FirstSum.{FirstSum}
 use Rattle.dsde_sim.specs.declared.mean.Input.{Input}
 use Rattle.dsde_sim.specs.declared.fault.FaultKind.{FaultKind}
 use Rattle.dsde_sim.specs.declared.fault.FaultKind.TheVariants.{Overflow}

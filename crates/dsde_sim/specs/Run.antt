@@ -1,6 +1,6 @@
 -- A whole run: its events, of which the last says how it ended.
 use Rattle.std.specs.Prelude.{ℕ, zero, suc, ◌+◌, List, [], ◌∷◌, ◌++◌, Option, Some, None, unwrap_or, Ok, Err}
-use Rattle.dsde_syntax.specs.declared.first.FirstModel.{FirstModel}
+use Rattle.dsde_first.specs.declared.first.FirstModel.{FirstModel}
 use Rattle.dsde_sim.specs.declared.event.Event.{Event}
 use Rattle.dsde_sim.specs.declared.event.Event.TheVariants as event
 use Rattle.dsde_sim.specs.declared.event.Finish.{Finish}

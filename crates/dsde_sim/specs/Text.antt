@@ -2,8 +2,8 @@
 use Rattle.std.specs.Prelude.{ℕ, zero, suc, ℤ, List, [], ◌∷◌, ◌++◌, codes, decimal, slice_index_or}
 use Rattle.std.specs.List.{flat_map}
 use Rattle.std.specs.Fmt.{signed_decimal}
-use Rattle.dsde_syntax.specs.declared.first.FirstModel.{FirstModel}
-use Rattle.dsde_syntax.specs.declared.first.FirstState.{FirstState}
+use Rattle.dsde_first.specs.declared.first.FirstModel.{FirstModel}
+use Rattle.dsde_first.specs.declared.first.FirstState.{FirstState}
 use Rattle.dsde_values.specs.declared.when.When.{When}
 use Rattle.dsde_values.specs.declared.when.When.TheVariants.{At, Never}
 use Rattle.dsde_values.specs.Path.{path_text}

@@ -1,7 +1,7 @@
 -- A start and a turn: the events that they tell, and what they come to.
 use Rattle.std.specs.Prelude.{ℕ, ◌+◌, ◌≡◌, ◌==◌, min, ℤ, pos, Bool, false, if◌then◌else◌, List, [], ◌∷◌, ◌++◌, length, take, filter, map, Option, Some, None, Result, Ok, Err}
 use Rattle.std.specs.List.{flat_map, range_with_len}
-use Rattle.dsde_syntax.specs.declared.first.FirstModel.{FirstModel}
+use Rattle.dsde_first.specs.declared.first.FirstModel.{FirstModel}
 use Rattle.dsde_values.specs.declared.arrival.Arrival.{Arrival}
 use Rattle.dsde_values.specs.declared.arrival.Item.{Item}
 use Rattle.dsde_values.specs.declared.value.Value.{Value}

@@ -6,7 +6,7 @@ ghost use Rattle.dsde_sim.specs.Meaning.{block};
 
 use crate::mean::{Input, number_value, run_block, sum_value};
 use crate::{FaultKind, LeafEnd, MoveKind, Site};
-use dsde_syntax::{FirstModel, FirstSet, FirstState, Word};
+use dsde_first::{FirstModel, FirstSet, FirstState, Word};
 use dsde_values::{Seq, When};
 use std::alloc::Global;
 

@@ -3,7 +3,7 @@ ghost use Rattle.std.specs.Str.{bytes_eq};
 ghost use Rattle.dsde_sim.specs.Meaning.{no_input, fitting, place_of, value_of, came_at, part_value, sum_value, assigned, block};
 
 use crate::FaultKind;
-use dsde_syntax::{FirstModel, FirstPart, FirstSet, FirstState, FirstSum, Word};
+use dsde_first::{FirstModel, FirstPart, FirstSet, FirstState, FirstSum, Word};
 use dsde_values::Seq;
 use std::alloc::Global;
 

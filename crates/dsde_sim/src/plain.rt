@@ -6,7 +6,7 @@ ghost use Rattle.dsde_sim.specs.Turn.{start, advance, turn, turn_time, is_taken,
 
 use crate::leaf::{kind_of, move_leaf, output_leaf, start_leaf};
 use crate::{Event, Leaf, LeafEnd, MoveKind, Sent, TurnEnd};
-use dsde_syntax::FirstModel;
+use dsde_first::FirstModel;
 use dsde_values::{Arrival, Item, Memory, Path, Seq, Value, When};
 use std::alloc::Global;
 use std::marker::Model;

@@ -3,7 +3,7 @@ ghost use Rattle.std.specs.Fmt.{signed_decimal};
 ghost use Rattle.dsde_sim.specs.Text.{event_text, end_text, finish_text, fault_text, settled_text, bindings_text, separator, when_text, move_text, input_text, site_text, kind_text};
 
 use crate::{Event, Fault, FaultKind, Finish, InputKind, MoveKind, Site};
-use dsde_syntax::{FirstModel, FirstState, Word};
+use dsde_first::{FirstModel, FirstState, Word};
 use dsde_values::{Memory, Text, When, write_path};
 use itoa::Buffer;
 

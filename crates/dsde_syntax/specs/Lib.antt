@@ -1,9 +1,6 @@
-pub mod First
 pub mod Grammar
 pub mod Levels
 pub mod Places
 pub mod Print
-pub mod Rules
 pub mod Shape
-pub mod Tokens
-pub mod Wants
+pub mod Spelling

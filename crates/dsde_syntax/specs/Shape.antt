@@ -1,7 +1,7 @@
 -- The models that a text can spell.
 use Rattle.std.specs.Prelude.{◌≡◌, ◌<◌, ◌^◌, IsTrue, length, All, Some}
 use Rattle.dsde_syntax.specs.declared.decl.Model.{Model}
-use Rattle.dsde_syntax.specs.Tokens.{IsToken}
+use Rattle.dsde_syntax.specs.Spelling.{IsToken}
 use Rattle.dsde_syntax.specs.Grammar.{tokens_of}
 use Rattle.dsde_syntax.specs.Levels.{has_levels}
 use Rattle.dsde_syntax.specs.Places.{span_of}

@@ -1,5 +1,5 @@
 ghost use Rattle.std.specs.Prelude.{◌≡◌, ◌↔◌, IsTrue};
-ghost use Rattle.dsde_syntax.specs.Tokens.{key_text, sign_text, key_of, sign_of};
+ghost use Rattle.dsde_syntax.specs.Spelling.{key_text, sign_text, key_of, sign_of};
 
 use dsde_lists::Text as Word;
 

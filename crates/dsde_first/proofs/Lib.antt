@@ -1,0 +1,10 @@
+pub mod TokLemmas
+pub mod WantsLemmas
+pub mod WentLemmas
+pub mod RestLemmas
+pub mod Complete
+pub mod DistinctLemmas
+pub mod RulesLemmas
+pub mod Unique
+pub mod IsFirstLemmas
+pub mod ReadFirstLemmas

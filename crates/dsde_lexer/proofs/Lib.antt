@@ -1,0 +1,5 @@
+pub mod Digits
+pub mod SignLemmas
+pub mod TokensLemmas
+pub mod GoodLemmas
+pub mod OrderLemmas

@@ -1,0 +1,286 @@
+ghost use Rattle.std.specs.Prelude.{◌≡◌, ◌≢◌, ◌≤◌, ◌<◌, length, drop, take_while, All, IfOk, IfErr, Ok, Err, SomeIff};
+ghost use Rattle.std.specs.Char.{is_ascii_digit};
+ghost use Rattle.std.specs.Str.Parse.{AllDigits, digits_value};
+ghost use Rattle.dsde_syntax.specs.Spelling.{HasToken, is_word_byte};
+ghost use Rattle.dsde_lexer.specs.Tokens.{AreInOrder, tokens, front_of, word_piece, number_piece, sign_piece, is_in_comment};
+
+use dsde_syntax::{GREATEST_NUMBER, Items, Key, Memory, Sign, Tok, Token, Word};
+use std::alloc::Global;
+
+/// Why a text has no tokens. Each place is the offset of a byte.
+#[derive(Clone, Copy, Debug, PartialEq, Eq)]
+pub enum LexError {
+    /// More than 1,048,576 bytes.
+    TooLong,
+    /// No token begins with this byte, and it separates none.
+    BadByte(u32),
+    /// A number begins here that is past 2^63 - 1, or that a letter or `_` follows directly.
+    BadNumber(u32),
+    Memory,
+}
+
+impl From<Memory> for LexError {
+    ghost use Rattle.std.specs.Prelude.{◌≡◌};
+    ghost use Rattle.dsde_lexer.specs.declared.lexer.LexError.TheVariants as lex_error;
+
+    ghost from_gives = { λ _ error. error ≡ lex_error.Memory };
+
+    fn from(_error: Memory) -> LexError {
+        LexError::Memory
+    }
+}
+
+/// What stands at the front of a text.
+#[derive(Drop)]
+enum Front {
+    /// Bytes that separate tokens: a blank, or a comment up to its line feed.
+    Gap,
+    Token(Tok),
+    /// No token begins here.
+    BadByte,
+    /// A number begins here that is none.
+    BadNumber,
+}
+
+/// The most bytes that a text may have.
+const LONGEST_TEXT: usize = 1_048_576;
+
+/// The tokens of a text in their order, each with where it stands, or the first offence against
+/// their rules. `TooLong` comes first, exactly for more than 1,048,576 bytes.
+pub fn lex(alloc: Global, bytes: &[u8]) -> Result<Items<Token>, LexError>
+    ensures ok { IfOk result (λ list. tokens bytes.now ≡ Ok list) }
+    ensures refused { IfErr result (λ error. error ≢ LexError.Memory → tokens bytes.now ≡ Err error) }
+    ensures well_formed { IfOk result (All HasToken) }
+    ensures in_order { IfOk result (AreInOrder 0 (length bytes.now)) }
+{
+    if bytes.len() > LONGEST_TEXT {
+        return Err(LexError::TooLong);
+    }
+    let mut tokens = Items::new(alloc);
+    let mut at = 0;
+    while at < bytes.len() {
+        let (front, size) = read_front(alloc, &bytes[at..])?;
+        match front {
+            Front::Gap => {}
+            Front::Token(tok) => tokens.push(Token {
+                tok,
+                from: at as u32,
+                to: (at + size) as u32,
+            })?,
+            Front::BadByte => return Err(LexError::BadByte(at as u32)),
+            Front::BadNumber => return Err(LexError::BadNumber(at as u32)),
+        }
+        at += size;
+    }
+    Ok(tokens)
+}
+
+/// The one piece at the front of a text that is not empty, and how many bytes it has.
+fn read_front(alloc: Global, text: &[u8]) -> Result<(Front, usize), Memory>
+    requires { 0 < length text.now }
+    ensures piece { IfOk result (λ piece. piece ≡ front_of text.now) }
+    ensures some { IfOk result (λ piece. 0 < piece.1) }
+    ensures within { IfOk result (λ piece. piece.1 ≤ length text.now) }
+{
+    match text[0] {
+        b' ' | b'\t' | b'\r' | b'\n' => Ok((Front::Gap, 1)),
+        b'#' => Ok((Front::Gap, comment_size(text))),
+        b'0'..=b'9' => Ok(read_number(text)),
+        byte if is_word_byte(byte) => read_word(alloc, text),
+        _ => Ok(read_sign(text)),
+    }
+}
+
+/// The longest word at the front of a text.
+fn read_word(alloc: Global, text: &[u8]) -> Result<(Front, usize), Memory>
+    ensures piece { IfOk result (λ piece. piece ≡ word_piece text.now) }
+{
+    let size = word_size(text);
+    let word = &text[..size];
+    let tok = match Key::of_text(word) {
+        Some(key) => Tok::Key(key),
+        None => Tok::Ident(Word::from_slice(alloc, word)?),
+    };
+    Ok((Front::Token(tok), size))
+}
+
+/// The longest number at the front of a text.
+#[tactic(auto, using(crate::proofs::Digits::digits_front))]
+fn read_number(text: &[u8]) -> (Front, usize)
+    ensures { result ≡ number_piece text.now }
+{
+    let size = digits_size(text);
+    let ends = text.get(size).is_none_or(|next| !is_word_byte(*next));
+    match number_of(&text[..size]) {
+        Some(value) if ends => (Front::Token(Tok::Int(value)), size),
+        _ => (Front::BadNumber, size),
+    }
+}
+
+/// The longest sign at the front of a text.
+#[tactic(auto, using(crate::proofs::SignLemmas::signs))]
+fn read_sign(text: &[u8]) -> (Front, usize)
+    requires { 0 < length text.now }
+    ensures piece { result ≡ sign_piece text.now }
+    ensures some { 0 < result.1 }
+    ensures within { result.1 ≤ length text.now }
+{
+    match Sign::at_front(text) {
+        Some(sign) => (Front::Token(Tok::Sign(sign)), sign.text().len()),
+        None => (Front::BadByte, 1),
+    }
+}
+
+/// The number that decimal digits write, if it is at most the greatest.
+#[tactic(auto, using(crate::proofs::Digits::digit_step))]
+fn number_of(digits: &[u8]) -> Option<u64>
+    requires { AllDigits 10 digits.now }
+    ensures { SomeIff result (digits_value 10 digits.now ≤ GREATEST_NUMBER) (digits_value 10 digits.now) }
+{
+    let mut value: u64 = 0;
+    for digit in digits {
+        value = value
+            .saturating_mul(10)
+            .saturating_add(u64::from(digit - b'0'));
+    }
+    (value <= GREATEST_NUMBER).then_some(value)
+}
+
+/// How many bytes of a text stand before its first line feed.
+fn comment_size(text: &[u8]) -> usize
+    ensures size { result ≡ length (take_while is_in_comment text.now) }
+    ensures within { result ≤ length text.now }
+{
+    text.iter().take_while(|byte| **byte != b'\n').count()
+}
+
+/// How many letters, digits and `_` a text begins with.
+fn word_size(text: &[u8]) -> usize
+    ensures size { result ≡ length (take_while is_word_byte text.now) }
+    ensures within { result ≤ length text.now }
+{
+    text.iter().take_while(|byte| is_word_byte(**byte)).count()
+}
+
+/// How many digits a text begins with.
+fn digits_size(text: &[u8]) -> usize
+    ensures size { result ≡ length (take_while is_ascii_digit text.now) }
+    ensures within { result ≤ length text.now }
+{
+    text.iter().take_while(|byte| byte.is_ascii_digit()).count()
+}
+
+/// Whether a byte may stand in an identifier.
+fn is_word_byte(byte: u8) -> bool
+    ensures { result ≡ is_word_byte byte }
+{
+    byte.is_ascii_alphanumeric() || byte == b'_'
+}
+
+#[cfg(test)]
+mod tests {
+    use super::*;
+    use std::test::Fail;
+
+    /// What a text gives: each token as `FROM..TO KIND`, or the refusal.
+    fn told(alloc: Global, text: &str) -> Result<String, Fail> {
+        let tokens = match lex(alloc, text.as_bytes()) {
+            Ok(tokens) => tokens,
+            Err(LexError::BadByte(at)) => return Ok(format!(in alloc; "bad byte {at}")?),
+            Err(LexError::BadNumber(at)) => return Ok(format!(in alloc; "bad number {at}")?),
+            Err(LexError::TooLong) => return Ok(String::from_str(alloc, "too long")?),
+            Err(LexError::Memory) => return Ok(String::from_str(alloc, "memory")?),
+        };
+        let mut told = String::new(alloc);
+        for token in tokens.as_slice() {
+            let from = token.from;
+            let to = token.to;
+            match &token.tok {
+                Tok::Key(key) => {
+                    let key = key.text();
+                    write!(told, "{from}..{to} key {key};")?
+                }
+                Tok::Sign(sign) => {
+                    let sign = sign.text();
+                    write!(told, "{from}..{to} sign {sign};")?
+                }
+                Tok::Ident(word) => {
+                    let size = word.len();
+                    write!(told, "{from}..{to} name of {size};")?
+                }
+                Tok::Int(value) => write!(told, "{from}..{to} {value};")?,
+            }
+        }
+        Ok(told)
+    }
+
+    #[test]
+    fn cuts_texts(rt: HostRuntime) -> Result<(), Fail> {
+        for (text, want) in [
+            ("", ""),
+            (" \t\r\n", ""),
+            ("# all of it", ""),
+            ("#a\nb", "3..4 name of 1;"),
+            ("12x", "bad number 0"),
+            ("12_", "bad number 0"),
+            (" 12 x", "1..3 12;4..5 name of 1;"),
+            ("a+|1 # c", "0..1 name of 1;1..3 sign +|;3..4 1;"),
+            ("?", "bad byte 0"),
+            ("|", "bad byte 0"),
+            ("a???", "bad byte 3"),
+            ("<==>", "0..2 sign <=;2..4 sign =>;"),
+            ("===", "0..2 sign ==;2..3 sign =;"),
+            ("+++|", "0..2 sign ++;2..4 sign +|;"),
+            (":::->", "0..2 sign ::;2..3 sign :;3..5 sign ->;"),
+            (
+                "true truex xtrue",
+                "0..4 key true;5..10 name of 5;11..16 name of 5;",
+            ),
+            (
+                "is_some is_so _1",
+                "0..7 key is_some;8..13 name of 5;14..16 name of 2;",
+            ),
+            ("007", "0..3 7;"),
+            ("9223372036854775807", "0..19 9223372036854775807;"),
+            ("9223372036854775808", "bad number 0"),
+            ("09223372036854775807", "0..20 9223372036854775807;"),
+            (" 99999999999999999999999999", "bad number 1"),
+            ("a$", "bad byte 1"),
+            ("\u{e9}", "bad byte 0"),
+            ("# \u{e9}", ""),
+        ] {
+            assert_eq!(rt; told(rt.alloc(), text)?.as_str(), want, "{text}");
+        }
+        Ok(())
+    }
+
+    #[test]
+    fn knows_each_word_and_sign(rt: HostRuntime) -> Result<(), Fail> {
+        let words = "enum record fn atomic network exec in out state advance output internal \
+            external confluent structure comp link via is for if else let var send return new none \
+            empty some true false and or not len range push put take skip min max is_some int bool \
+            list opt top net elapsed";
+        let tokens = lex(rt.alloc(), words.as_bytes())?;
+        let is_key = |token: &Token| matches!(token.tok, Tok::Key(_));
+        assert_eq!(rt; tokens.len(), 51);
+        assert!(rt; tokens.as_slice().iter().all(is_key));
+        let signs = "( ) [ ] { } < > <= >= == != = + - * / % +| -| *| ++ ?? ! . , : :: ; -> =>";
+        let tokens = lex(rt.alloc(), signs.as_bytes())?;
+        let is_sign = |token: &Token| matches!(token.tok, Tok::Sign(_));
+        assert_eq!(rt; tokens.len(), 31);
+        assert!(rt; tokens.as_slice().iter().all(is_sign));
+        Ok(())
+    }
+
+    #[test]
+    fn measures_texts(rt: HostRuntime) -> Result<(), Fail> {
+        let mut text = String::from_str(rt.alloc(), "#")?;
+        for _ in 0..LONGEST_TEXT - 1 {
+            text.push(' ')?;
+        }
+        assert_eq!(rt; told(rt.alloc(), text.as_str())?.as_str(), "");
+        text.push(' ')?;
+        assert_eq!(rt; told(rt.alloc(), text.as_str())?.as_str(), "too long");
+        Ok(())
+    }
+}

@@ -1,0 +1,6 @@
+//! Texts of the language cut into tokens, and the lines and columns at which these stand.
+#![tactic(auto)]
+
+mod lexer;
+
+pub use lexer::{LexError, lex};
