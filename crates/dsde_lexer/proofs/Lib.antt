@@ -3,3 +3,4 @@ pub mod SignLemmas
 pub mod TokensLemmas
 pub mod GoodLemmas
 pub mod OrderLemmas
+pub mod PlacesLemmas

@@ -228,6 +228,7 @@ mod tests {
             ("?", "bad byte 0"),
             ("|", "bad byte 0"),
             ("a???", "bad byte 3"),
+            ("a ? b", "bad byte 2"),
             ("<==>", "0..2 sign <=;2..4 sign =>;"),
             ("===", "0..2 sign ==;2..3 sign =;"),
             ("+++|", "0..2 sign ++;2..4 sign +|;"),

@@ -2,5 +2,7 @@
 #![tactic(auto)]
 
 mod lexer;
+mod places;
 
 pub use lexer::{LexError, lex};
+pub use places::Places;
