@@ -21,3 +21,6 @@ pub use stmt::{Stmt, StmtArm};
 pub use token::{GREATEST_NUMBER, Key, Sign, Tok, Token};
 pub use type_name::TypeName;
 pub use writer::tokens_of;
+
+#[cfg(test)]
+mod tests;
