@@ -4,3 +4,4 @@ pub mod TokensLemmas
 pub mod GoodLemmas
 pub mod OrderLemmas
 pub mod PlacesLemmas
+pub mod PrintedLemmas

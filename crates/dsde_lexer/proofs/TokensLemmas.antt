@@ -29,7 +29,7 @@ tokens_from-inside at (suc inside) (byte ∷ bytes) h =
     tokens_from-inside (at + 1) inside bytes (omega arith) ∙ ap (λ n. tokens_from n 0 (drop inside bytes)) same
 
 -- the first piece, and then the text behind it
-tokens_from-piece : (at size : ℕ) (piece : Front) (text : List ℕ) → (piece, size) ≡ front_of text → 0 < size → size ≤ length text → tokens_from at 0 text ≡ placed at size piece (tokens_from (at + size) 0 (drop size text))
+pub tokens_from-piece : (at size : ℕ) (piece : Front) (text : List ℕ) → (piece, size) ≡ front_of text → 0 < size → size ≤ length text → tokens_from at 0 text ≡ placed at size piece (tokens_from (at + size) 0 (drop size text))
 unfolding tokens_from
 tokens_from-piece at size piece [] is some within = absurd (omega arith)
 tokens_from-piece at zero front (byte ∷ bytes) is some within = absurd (omega arith)
@@ -41,7 +41,7 @@ tokens_from-piece at (suc size) front (byte ∷ bytes) is some within =
     let P : Front × ℕ → Type 0 = λ piece. placed at piece.1 piece.0 (tokens_from (at + 1) (piece.1 - 1) bytes) ≡ placed at (suc size) front (tokens_from (at + suc size) 0 (drop size bytes)) in
     subst P is (ap (placed at (suc size) front) after)
 
-tokens-short : (bytes : List ℕ) → length bytes ≤ 1048576 → tokens bytes ≡ tokens_from 0 0 bytes
+pub tokens-short : (bytes : List ℕ) → length bytes ≤ 1048576 → tokens bytes ≡ tokens_from 0 0 bytes
 tokens-short bytes h = let long : ltb 1048576 (length bytes) ≡ false = le-ltb 1048576 (length bytes) h in rw long refl
 
 -- the tokens that were cut off so far, followed by those of the rest, are those of the text

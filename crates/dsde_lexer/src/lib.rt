@@ -3,6 +3,8 @@
 
 mod lexer;
 mod places;
+mod printed;
 
 pub use lexer::{LexError, lex};
 pub use places::Places;
+pub use printed::printed_tokens;
