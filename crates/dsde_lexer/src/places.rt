@@ -110,7 +110,7 @@ mod tests {
         let places = Places::new(alloc, text.as_bytes(), tokens.as_slice())?;
         let mut shown = String::new(alloc);
         for at in 0..tokens.len() + 1 {
-            let (line, column) = places.line_column(at as u32);
+            let (line, column) = places.line_column(u32::try_from(at)?);
             write!(shown, "{line}:{column} ")?;
         }
         Ok(shown)

@@ -212,27 +212,34 @@ state_span state =
 abbrev pub phase_span : Option Phase → Span
 phase_span = written_span (λ (phase : Phase). token_at phase.at >> block_span (map stmt_span phase.stmts))
 
+abbrev pub phases_span : Body → Span
+phases_span body = phase_span body.output >> phase_span body.internal >> phase_span body.external >> phase_span body.confluent
+
 abbrev pub body_span : Body → Span
 body_span body =
     all_spans (map port_span body.ports)
     >> all_spans (map state_span body.states)
     >> token_at body.advance_at >> expr_span body.advance >> token
-    >> phase_span body.output
-    >> phase_span body.internal
-    >> phase_span body.external
-    >> phase_span body.confluent
+    >> phases_span body
+
+-- "{" {stmt} "return" expr ";" "}"
+abbrev pub result_span : List Stmt → Expr → Span
+result_span stmts value = bracketed (all_spans (map stmt_span stmts) >> token >> expr_span value >> token)
+
+-- "exec" "{" body "structure" items "}"
+abbrev pub exec_span : ℕ → Body → List Item → Span
+exec_span at body items = token_at at >> bracketed (body_span body >> token >> block_span (map item_span items))
 
 abbrev pub decl_span : Decl → Span
 decl_span (decl.Enum name variants) = token >> id_span name >> args_span (map id_span variants)
 decl_span (decl.Rec name fields) = token >> id_span name >> args_span (map typed_span fields)
 decl_span (decl.Func name params ty stmts value) =
-    token >> id_span name >> args_span (map typed_span params) >> token >> type_span ty
-    >> bracketed (all_spans (map stmt_span stmts) >> token >> expr_span value >> token)
+    token >> id_span name >> args_span (map typed_span params) >> token >> type_span ty >> result_span stmts value
 decl_span (decl.Atomic at name params body) =
     token_at at >> id_span name >> args_span (map typed_span params) >> bracketed (body_span body)
 decl_span (decl.Network at name params ports exec_at body items) =
     token_at at >> id_span name >> args_span (map typed_span params)
-    >> bracketed (all_spans (map port_span ports) >> token_at exec_at >> bracketed (body_span body >> token >> block_span (map item_span items)))
+    >> bracketed (all_spans (map port_span ports) >> exec_span exec_at body items)
 decl_span (decl.Top at name args) = token_at at >> id_span name >> args_span (map expr_span args) >> token
 
 abbrev pub span_of : Model → Span

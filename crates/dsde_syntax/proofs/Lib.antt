@@ -1,0 +1,12 @@
+pub mod Reading
+pub mod ExprReaders
+pub mod TypeReads
+pub mod LevelReads
+pub mod ListReads
+pub mod ExprFolds
+pub mod OperatorReads
+pub mod PrimReads
+pub mod ExprCases
+pub mod StmtReads
+pub mod ItemReads
+pub mod DeclReads
