@@ -1,2 +1,4 @@
+pub mod Causes
 pub mod Commands
-pub mod Runs
+pub mod Given
+pub mod Outcome

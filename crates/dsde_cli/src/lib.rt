@@ -3,7 +3,6 @@
 
 mod call;
 mod command;
-mod run;
 mod status;
 
 pub use call::{dsde, report};

@@ -1,4 +1,4 @@
-use dsde_sim::{Fault, Finish, InputKind, WrongKind, input_text, write_fault};
+use dsde_sim::{Fault, InputKind, WrongKind, input_text, write_fault};
 use dsde_values::{Memory, Path, Text, write_path};
 use itoa::Buffer;
 
@@ -199,15 +199,5 @@ fn why_text(why: Why) -> &'static str {
         Why::Absent => "absent",
         Why::TooLong => "long",
         Why::Failed => "failed",
-    }
-}
-
-impl From<Finish> for Status {
-    fn from(end: Finish) -> Status {
-        match end {
-            Finish::Bound | Finish::Quiet => Status::Done,
-            Finish::Input { kind, line } => Status::BadInput { kind, line },
-            Finish::Fault(fault) => Status::ModelFault(fault),
-        }
     }
 }

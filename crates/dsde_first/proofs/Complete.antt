@@ -1,6 +1,6 @@
 -- The tokens of a text are all that is wanted.
 use Rattle.std.proofs.Common.{◌≡◌, ℕ, ◌≤◌, true, false, Result, Ok, Err, List, [], ◌∷◌, ◌++◌, length, Option, Some, None, refl, sym, ap, ◌∙◌, arith, append_assoc}
-use Rattle.std.specs.Prelude.{flat_map, unwrap_or}
+use Rattle.std.specs.Prelude.{flat_map, unwrap_or, IfSome}
 use Rattle.std.specs.List.{join_by}
 use Rattle.std.proofs.lemmas.List.Elements.{All-head, All-tail}
 use Rattle.dsde_syntax.specs.declared.token.Tok.{Tok}
@@ -91,10 +91,11 @@ accepts-sends (send ∷ own) all more behind =
     ∙ accepts-sends own (All-tail SetHasPart send own all) more behind)
 
 -- the advance
-accepts-advance : (sum : FirstSum) → HasPart sum → (more : List Want) (behind : List Tok) → accepts (advance_wants ++ more) (advance_tokens sum ++ behind) ≡ accepts more behind
+accepts-advance : (advance : Option FirstSum) → IfSome advance HasPart → (more : List Want) (behind : List Tok) → accepts (advance_wants ++ more) (advance_tokens advance ++ behind) ≡ accepts more behind
 unfolding accepts
-accepts-advance sum some more behind =
-    ap (λ ts. accepts (a_part ∷ parts ∷ exactly (mark sign.CloseParen) ∷ exactly (mark sign.Semicolon) ∷ more) ts) (append_assoc (sum_tokens sum) (mark sign.CloseParen ∷ mark sign.Semicolon ∷ []) behind)
+accepts-advance None some more behind = refl
+accepts-advance (Some sum) some more behind =
+    ap (λ ts. accepts (a_part ∷ parts ∷ exactly (mark sign.CloseParen) ∷ exactly (mark sign.Semicolon) ∷ more) ts) (joins (sum_tokens sum) (mark sign.CloseParen ∷ []) (mark sign.Semicolon ∷ []) behind)
     ∙ accepts-sum sum.parts some (exactly (mark sign.CloseParen) ∷ exactly (mark sign.Semicolon) ∷ more) (mark sign.CloseParen ∷ mark sign.Semicolon ∷ behind) (Stops-close (mark sign.Semicolon ∷ behind))
 
 braced_sets : (own : List FirstSet) → AllHaveParts own → (more : List Want) (behind : List Tok) → accepts (braced_wants sets ++ more) ((mark sign.OpenBrace ∷ (flat_map set_tokens own ++ mark sign.CloseBrace ∷ [])) ++ behind) ≡ accepts more behind
@@ -140,14 +141,14 @@ Stops-output None None (Some own) behind = λ more. refl
 Stops-output None (Some own) confluent behind = λ more. refl
 Stops-output (Some own) external confluent behind = λ more. refl
 
-Stops-states : (sum : FirstSum) (behind : List Tok) → Stops states (advance_tokens sum ++ behind)
+Stops-states : (advance : Option FirstSum) (behind : List Tok) → Stops states (advance_tokens advance ++ behind)
 unfolding accepts
-Stops-states sum behind = λ more. refl
+Stops-states advance behind = λ more. refl
 
-Stops-ports : (own : List FirstState) (sum : FirstSum) (behind : List Tok) → Stops ports (flat_map state_tokens own ++ (advance_tokens sum ++ behind))
+Stops-ports : (own : List FirstState) (advance : Option FirstSum) (behind : List Tok) → Stops ports (flat_map state_tokens own ++ (advance_tokens advance ++ behind))
 unfolding accepts
-Stops-ports [] sum behind = λ more. refl
-Stops-ports (state ∷ own) sum behind = λ more. refl
+Stops-ports [] advance behind = λ more. refl
+Stops-ports (state ∷ own) advance behind = λ more. refl
 
 -- `} top NAME();`
 accepts-tail : (own : List ℕ) → accepts (tail_wants own) (tail_tokens own) ≡ true

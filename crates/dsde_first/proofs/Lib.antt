@@ -1,3 +1,4 @@
+pub mod Sizes
 pub mod TokLemmas
 pub mod WantsLemmas
 pub mod WentLemmas

@@ -11,8 +11,9 @@ use Rattle.dsde_first.specs.declared.reader.ReadFirst.TheVariants as read_first
 use Rattle.dsde_syntax.specs.Spelling.{HasToken}
 use Rattle.dsde_lexer.specs.Tokens.{tokens}
 use Rattle.dsde_first.specs.Rules.{keeps_rules}
-use Rattle.dsde_first.specs.First.{FirstText, model_of, spelled, state_names, IsSet, KeepsRules, IsFirst, Spells}
-use Rattle.dsde_first.specs.Wants.{AllHaveParts, HasParts, ReadsFile}
+use Rattle.dsde_first.specs.First.{FirstText, model_of, spelled, state_names, IsSum, IsSet, KeepsRules, IsFirst, Spells}
+use Rattle.dsde_first.specs.declared.first.FirstSum.{FirstSum}
+use Rattle.dsde_first.specs.Wants.{HasPart, AllHaveParts, HasParts, ReadsFile}
 use Rattle.dsde_first.proofs.RulesLemmas.{keeps_rules-Decides}
 use Rattle.dsde_first.proofs.Unique.{model-one}
 use Rattle.dsde_first.proofs.IsFirstLemmas.{is_first}
@@ -28,9 +29,13 @@ block-has : (names states ins : List (List ℕ)) (sees : Bool) (block : Option (
 block-has names states ins sees None all = λ k d h. absurd (omega arith)
 block-has names states ins sees (Some sets) all = sets-have names states ins sees sets all
 
+advance-has : (states ins : List (List ℕ)) (advance : Option FirstSum) → IfSome advance (IsSum states ins false) → IfSome advance HasPart
+advance-has states ins None is = tt
+advance-has states ins (Some sum) is = is.some
+
 has-parts : (text : FirstText) → KeepsRules (model_of text) → HasParts text
 has-parts text rules = let model = model_of text in let states = state_names model in record {
-  advance = rules.advance.some;
+  advance = advance-has states model.ins text.advance rules.advance;
   output = sets-have model.outs states model.ins false (unwrap_or text.output []) rules.sends;
   internal = sets-have states states model.ins false (unwrap_or text.internal []) rules.sets;
   external = block-has states states model.ins true text.external rules.external;

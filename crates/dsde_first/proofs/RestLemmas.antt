@@ -1,5 +1,5 @@
 -- The parts of a text, one behind the other.
-use Rattle.std.proofs.Common.{◌≡◌, ℕ, false, List, [], ◌∷◌, ◌++◌, Err, sym, ap, ◌∙◌, append_assoc}
+use Rattle.std.proofs.Common.{◌≡◌, ℕ, false, List, [], ◌∷◌, ◌++◌, Err, sym, ap, ◌∙◌, append_assoc, Option}
 use Rattle.std.specs.Prelude.{unwrap_or, flat_map}
 use Rattle.dsde_first.specs.declared.reader.ReadFirst.{ReadFirst}
 use Rattle.dsde_first.specs.declared.reader.ReadFirst.TheVariants as read_first
@@ -19,7 +19,7 @@ rest-advance own read_first.NotFirst order states left head misses = head.same (
 rest-advance own read_first.Memory order states left head misses = tt
 
 -- a block that is not whole
-pub rest-blocks : (own : List ℕ) (error : ReadFirst) (order : List Port) (states : List FirstState) (advance : FirstSum) {before middle behind : List Tok} (left : List Tok) → Took head_wants (head_tokens order states) before middle → Took advance_wants (advance_tokens advance) middle behind → Reads blocks_wants blocks_tokens behind (Err error) left → ReadsRest own before (Err error)
+pub rest-blocks : (own : List ℕ) (error : ReadFirst) (order : List Port) (states : List FirstState) (advance : Option FirstSum) {before middle behind : List Tok} (left : List Tok) → Took head_wants (head_tokens order states) before middle → Took advance_wants (advance_tokens advance) middle behind → Reads blocks_wants blocks_tokens behind (Err error) left → ReadsRest own before (Err error)
 rest-blocks own read_first.NotFirst order states advance left head took misses =
     head.same (advance_wants ++ (blocks_wants ++ tail_wants own)) ∙ (took.same (blocks_wants ++ tail_wants own) ∙ misses (tail_wants own))
 rest-blocks own read_first.Memory order states advance left head took misses = tt
@@ -28,7 +28,7 @@ tail_misses : (own seen : List ℕ) (last : List Tok) → seen ≡ own → accep
 tail_misses own seen last same misses = ap (λ word. accepts (tail_wants word) last) (sym same) ∙ misses
 
 -- an end that is not whole
-pub rest-tail : (own seen : List ℕ) (error : ReadFirst) (order : List Port) (states : List FirstState) (advance : FirstSum) (blocks : Blocks) {before middle behind last : List Tok} → seen ≡ own → Took head_wants (head_tokens order states) before middle → Took advance_wants (advance_tokens advance) middle behind → Took blocks_wants (blocks_tokens blocks) behind last → ReadsTail seen last (Err error) → ReadsRest own before (Err error)
+pub rest-tail : (own seen : List ℕ) (error : ReadFirst) (order : List Port) (states : List FirstState) (advance : Option FirstSum) (blocks : Blocks) {before middle behind last : List Tok} → seen ≡ own → Took head_wants (head_tokens order states) before middle → Took advance_wants (advance_tokens advance) middle behind → Took blocks_wants (blocks_tokens blocks) behind last → ReadsTail seen last (Err error) → ReadsRest own before (Err error)
 rest-tail own seen read_first.NotFirst order states advance blocks {last = last} same head took block misses =
     head.same (advance_wants ++ (blocks_wants ++ tail_wants own)) ∙ (took.same (blocks_wants ++ tail_wants own) ∙ (block.same (tail_wants own) ∙ tail_misses own seen last same misses))
 rest-tail own seen read_first.Memory order states advance blocks same head took block misses = tt

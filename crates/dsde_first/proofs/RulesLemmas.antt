@@ -12,7 +12,7 @@ use Rattle.dsde_first.specs.declared.first.FirstSum.{FirstSum}
 use Rattle.dsde_first.specs.declared.first.FirstPart.{FirstPart}
 use Rattle.dsde_first.specs.declared.first.FirstPart.TheVariants as part
 use Rattle.dsde_first.specs.First.{IsPart, IsSum, IsSet, AreDistinct, state_names, names_of, KeepsRules}
-use Rattle.dsde_first.specs.Rules.{contains, names_state, are_distinct, have_distinct_names, are_apart, are_no_states, has_distinct_names, is_part, is_sum, is_set, is_send, is_block, is_empty, keeps_rules}
+use Rattle.dsde_first.specs.Rules.{contains, names_state, are_distinct, have_distinct_names, are_apart, are_no_states, has_distinct_names, is_part, is_sum, is_set, is_send, is_block, is_advance, is_empty, keeps_rules}
 
 Decides-nat_le : (a b : ℕ) → Decides (nat_le a b) (a ≤ b)
 Decides-nat_le a b = (λ h. grind (arith, nat_tests), λ h. grind (arith, nat_tests))
@@ -123,6 +123,13 @@ is_block-Decides : (model : FirstModel) (block : Option (List FirstSet)) → Dec
 is_block-Decides model None = (λ h. tt, λ h. refl)
 is_block-Decides model (Some sets) = are_sets-Decides model true sets
 
+advance-Decides : (model : FirstModel) (advance : Option FirstSum) → Decides (elim advance [ None ↦ true | Some sum ↦ is_sum model false sum ]) (IfSome advance (IsSum (state_names model) model.ins false))
+advance-Decides model None = (λ h. tt, λ h. refl)
+advance-Decides model (Some sum) = is_sum-Decides model false sum
+
+is_advance-Decides : (model : FirstModel) → Decides (is_advance model) (IfSome model.advance (IsSum (state_names model) model.ins false))
+is_advance-Decides model = advance-Decides model model.advance
+
 is_empty-Decides : (names : List (List ℕ)) → Decides (is_empty names) (names ≡ [])
 is_empty-Decides [] = (λ h. refl, λ h. refl)
 is_empty-Decides (name ∷ names) = (λ h. cc, λ h. cc)
@@ -137,4 +144,4 @@ keeps_rules-Decides model =
     Decides-like _
     (λ h. record { distinct = h.0; advance = h.1.0; sends = h.1.1.0; sets = h.1.1.1.0; external = h.1.1.1.1.0; confluent = h.1.1.1.1.1.0; answered = h.1.1.1.1.1.1 })
     (λ r. (r.distinct, (r.advance, (r.sends, (r.sets, (r.external, (r.confluent, r.answered)))))))
-    (Decides-and _ _ (has_distinct_names-Decides model) (Decides-and _ _ (is_sum-Decides model false model.advance) (Decides-and _ _ (all-Decides (is_send model) _ (is_send-Decides model) model.sends) (Decides-and _ _ (are_sets-Decides model false model.sets) (Decides-and _ _ (is_block-Decides model model.external) (Decides-and _ _ (is_block-Decides model model.confluent) (answered-Decides model.external model.ins)))))))
+    (Decides-and _ _ (has_distinct_names-Decides model) (Decides-and _ _ (is_advance-Decides model) (Decides-and _ _ (all-Decides (is_send model) _ (is_send-Decides model) model.sends) (Decides-and _ _ (are_sets-Decides model false model.sets) (Decides-and _ _ (is_block-Decides model model.external) (Decides-and _ _ (is_block-Decides model model.confluent) (answered-Decides model.external model.ins)))))))

@@ -120,14 +120,21 @@ send-one a b r s h =
     let last = value.1 in
     (set-same a b named value.0, cc)
 
-advance-one : (a b : FirstSum) (r s : List Tok) → advance_tokens a ++ r ≡ advance_tokens b ++ s → (a ≡ b) × (r ≡ s)
-advance-one a b r s h =
-    let end = mark sign.CloseParen ∷ mark sign.Semicolon ∷ [] in
-    let tail : (sum_tokens a ++ end) ++ r ≡ (sum_tokens b ++ end) ++ s = cc in
-    let both = sym (append_assoc (sum_tokens a) end r) ∙ (tail ∙ append_assoc (sum_tokens b) end s) in
+closed : (a b c : List Tok) → ((a ++ mark sign.CloseParen ∷ []) ++ b) ++ c ≡ a ++ mark sign.CloseParen ∷ (b ++ c)
+closed a b c = append_assoc (a ++ mark sign.CloseParen ∷ []) b c ∙ append_assoc a (mark sign.CloseParen ∷ []) (b ++ c)
+
+advance-one : (a b : Option FirstSum) (r s : List Tok) → advance_tokens a ++ r ≡ advance_tokens b ++ s → (a ≡ b) × (r ≡ s)
+advance-one None None r s h = (refl, cc)
+advance-one None (Some b) r s h = (cc, cc)
+advance-one (Some a) None r s h = (cc, cc)
+advance-one (Some a) (Some b) r s h =
+    let close = mark sign.CloseParen ∷ [] in
+    let end = mark sign.Semicolon ∷ [] in
+    let tail : ((sum_tokens a ++ close) ++ end) ++ r ≡ ((sum_tokens b ++ close) ++ end) ++ s = cc in
+    let both = sym (closed (sum_tokens a) end r) ∙ (tail ∙ closed (sum_tokens b) end s) in
     let value = sum-one a b (mark sign.CloseParen ∷ mark sign.Semicolon ∷ r) (mark sign.CloseParen ∷ mark sign.Semicolon ∷ s) (Ends-close (mark sign.Semicolon ∷ r)) (Ends-close (mark sign.Semicolon ∷ s)) both in
     let last = value.1 in
-    (value.0, cc)
+    (ap Some value.0, cc)
 
 state-same : (a b : FirstState) → a.name ≡ b.name → a.value ≡ b.value → a ≡ b
 state-same a b e f =
@@ -170,16 +177,16 @@ NoSet : (r : List Tok) → NoItem set_tokens (mark sign.CloseBrace ∷ r)
 unfolding NoItem
 NoSet r x t e = cc
 
-NoState : (sum : FirstSum) (r : List Tok) → NoItem state_tokens (advance_tokens sum ++ r)
+NoState : (advance : Option FirstSum) (r : List Tok) → NoItem state_tokens (advance_tokens advance ++ r)
 unfolding NoItem
-NoState sum r x t e = cc
+NoState advance r x t e = cc
 
-NoPort : (states : List FirstState) (sum : FirstSum) (r : List Tok) → NoItem port_tokens (flat_map state_tokens states ++ (advance_tokens sum ++ r))
+NoPort : (states : List FirstState) (advance : Option FirstSum) (r : List Tok) → NoItem port_tokens (flat_map state_tokens states ++ (advance_tokens advance ++ r))
 unfolding NoItem
-NoPort [] sum r (into x) t e = cc
-NoPort [] sum r (out_of x) t e = cc
-NoPort (state ∷ states) sum r (into x) t e = cc
-NoPort (state ∷ states) sum r (out_of x) t e = cc
+NoPort [] advance r (into x) t e = cc
+NoPort [] advance r (out_of x) t e = cc
+NoPort (state ∷ states) advance r (into x) t e = cc
+NoPort (state ∷ states) advance r (out_of x) t e = cc
 
 NoConfluent : (r : List Tok) → NoBlock key.Confluent (mark sign.CloseBrace ∷ r)
 unfolding NoBlock

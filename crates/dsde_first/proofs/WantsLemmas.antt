@@ -4,8 +4,9 @@ use Rattle.dsde_syntax.specs.declared.token.Tok.{Tok}
 use Rattle.dsde_syntax.specs.declared.token.Tok.TheVariants as tok
 use Rattle.dsde_syntax.specs.declared.token.Key.{Key}
 use Rattle.dsde_syntax.specs.declared.token.Key.TheVariants as key
-use Rattle.dsde_first.specs.Wants.{Want, exactly, name, number, part, Act, push, pop, die, act, push_if, tok_is, after, feed, can_end, accepts, Took, Reads, NoName, NoNumber, part_wants, argument_wants, argument_tokens}
-use Rattle.dsde_first.specs.First.{word, part_tokens}
+use Rattle.dsde_first.specs.Wants.{Want, exactly, name, number, part, time, some_wants, none_wants, time_wants, some_tail, none_tail, Act, push, pop, die, act, push_if, tok_is, after, feed, can_end, accepts, Took, Reads, NoName, NoNumber, part_wants, argument_wants, argument_tokens}
+use Rattle.dsde_first.specs.First.{word, part_tokens, time_tokens}
+use Rattle.dsde_first.specs.declared.first.FirstSum.{FirstSum}
 use Rattle.dsde_first.specs.declared.reader.ReadFirst.{ReadFirst}
 use Rattle.dsde_first.specs.declared.reader.ReadFirst.TheVariants as read_first
 use Rattle.dsde_first.proofs.TokLemmas.{tok_is-same, tok_is-other}
@@ -121,6 +122,49 @@ misses-part {before} = go before
     go (tok.Sign s ∷ behind) no_elapsed no_len no_number no_name more = accepts-die more part _ behind refl
     go (tok.Ident own ∷ behind) no_elapsed no_len no_number no_name more = absurd (no_name own behind refl)
     go (tok.Int value ∷ behind) no_elapsed no_len no_number no_name more = absurd (no_number value behind refl)
+
+-- `some(SUM)`
+pub Took-time_some : (sum : FirstSum) {before middle left : List Tok} → before ≡ word key.SomeOf ∷ middle → Took some_wants (some_tail sum) middle left → Took time_wants (time_tokens (Some sum)) before left
+Took-time_some sum {before} {middle} {left} h took = record {
+  spells = h ∙ ap (λ behind. word key.SomeOf ∷ behind) took.spells;
+  same = λ more. rw h (accepts-push more some_wants time (word key.SomeOf) middle refl ∙ took.same more);
+}
+
+-- `none<int>`
+pub Took-time_none : {before middle left : List Tok} → before ≡ word key.NoneOf ∷ middle → Took none_wants none_tail middle left → Took time_wants (time_tokens None) before left
+Took-time_none {before} {middle} {left} h took = record {
+  spells = h ∙ ap (λ behind. word key.NoneOf ∷ behind) took.spells;
+  same = λ more. rw h (accepts-push more none_wants time (word key.NoneOf) middle refl ∙ took.same more);
+}
+
+-- `some` with no sum behind it
+pub fails-time_some : (error : ReadFirst) (before middle left : List Tok) → before ≡ word key.SomeOf ∷ middle → Reads some_wants some_tail middle (Err error) left → Reads time_wants time_tokens before (Err error) left
+fails-time_some read_first.NotFirst before middle left h misses = λ more.
+    rw h (accepts-push more some_wants time (word key.SomeOf) middle refl ∙ misses more)
+fails-time_some read_first.Memory before middle left h misses = tt
+
+-- `none` with no `<int>` behind it
+pub fails-time_none : (error : ReadFirst) (before middle left : List Tok) → before ≡ word key.NoneOf ∷ middle → Reads none_wants (λ (done : Unit {0}). none_tail) middle (Err error) left → Reads time_wants time_tokens before (Err error) left
+fails-time_none read_first.NotFirst before middle left h misses = λ more.
+    rw h (accepts-push more none_wants time (word key.NoneOf) middle refl ∙ misses more)
+fails-time_none read_first.Memory before middle left h misses = tt
+
+time_dies : (k : Key) → (tok.Key key.SomeOf ≡ tok.Key k → ⊥) → (tok.Key key.NoneOf ≡ tok.Key k → ⊥) → act time (tok.Key k) ≡ die
+time_dies k no_some no_none =
+    let some : tok_is (tok.Key key.SomeOf) (tok.Key k) ≡ false = tok_is-other _ _ no_some in
+    let none : tok_is (tok.Key key.NoneOf) (tok.Key k) ≡ false = tok_is-other _ _ no_none in
+    ap (λ test. push_if test some_wants (push_if (tok_is (tok.Key key.NoneOf) (tok.Key k)) none_wants die)) some ∙ ap (λ test. push_if test none_wants die) none
+
+pub misses-time : {before : List Tok} → ((behind : List Tok) → before ≡ word key.SomeOf ∷ behind → ⊥) → ((behind : List Tok) → before ≡ word key.NoneOf ∷ behind → ⊥) → (more : List Want) → accepts (time ∷ more) before ≡ false
+misses-time {before} = go before
+  where
+    go : (before : List Tok) → ((behind : List Tok) → before ≡ word key.SomeOf ∷ behind → ⊥) → ((behind : List Tok) → before ≡ word key.NoneOf ∷ behind → ⊥) → (more : List Want) → accepts (time ∷ more) before ≡ false
+    go [] no_some no_none more = accepts-end more time refl
+    go (tok.Key k ∷ behind) no_some no_none more =
+        accepts-die more time _ behind (time_dies k (λ e. no_some behind (ap (λ t. t ∷ behind) (sym e))) (λ e. no_none behind (ap (λ t. t ∷ behind) (sym e))))
+    go (tok.Sign s ∷ behind) no_some no_none more = accepts-die more time _ behind refl
+    go (tok.Ident own ∷ behind) no_some no_none more = accepts-die more time _ behind refl
+    go (tok.Int value ∷ behind) no_some no_none more = accepts-die more time _ behind refl
 
 pub ruleset leaves = (accepts-more, Took-exactly, misses-exactly, Took-name, misses-name, Took-number, misses-number)
 

@@ -27,7 +27,7 @@ pub record FirstText : Type 0 where
   pub name : List ℕ
   pub ports : List Port
   pub states : List FirstState
-  pub advance : FirstSum
+  pub advance : Option FirstSum
   pub output : Option (List FirstSet)
   pub internal : Option (List FirstSet)
   pub external : Option (List FirstSet)
@@ -90,10 +90,16 @@ abbrev pub state_tokens : FirstState → List Tok
 state_tokens state =
     word key.State ∷ tok.Ident state.name ∷ mark sign.Colon ∷ word key.Int ∷ mark sign.Equal ∷ tok.Int state.value ∷ mark sign.Semicolon ∷ []
 
--- "advance" "some" "(" sum ")" ";"
-abbrev pub advance_tokens : FirstSum → List Tok
-advance_tokens sum =
-    joined ((word key.Advance ∷ word key.SomeOf ∷ mark sign.OpenParen ∷ []) ∷ sum_tokens sum ∷ (mark sign.CloseParen ∷ mark sign.Semicolon ∷ []) ∷ [])
+-- "some" "(" sum ")" | "none" "<" "int" ">"
+abbrev pub time_tokens : Option FirstSum → List Tok
+time_tokens None = word key.NoneOf ∷ mark sign.Less ∷ word key.Int ∷ mark sign.Greater ∷ []
+time_tokens (Some sum) =
+    joined ((word key.SomeOf ∷ mark sign.OpenParen ∷ []) ∷ sum_tokens sum ∷ (mark sign.CloseParen ∷ []) ∷ [])
+
+-- "advance" time ";"
+abbrev pub advance_tokens : Option FirstSum → List Tok
+advance_tokens advance =
+    joined ((word key.Advance ∷ []) ∷ time_tokens advance ∷ (mark sign.Semicolon ∷ []) ∷ [])
 
 -- "send" id "(" sum ")" ";"
 abbrev pub send_tokens : FirstSet → List Tok
@@ -162,7 +168,7 @@ AreDistinct (name ∷ names) = ¬ Contains names name × AreDistinct names
 -- the rules of a model
 pub record KeepsRules (model : FirstModel) : Type 0 where
   pub distinct : AreDistinct (names_of model)
-  pub advance : IsSum (state_names model) model.ins false model.advance
+  pub advance : IfSome model.advance (IsSum (state_names model) model.ins false)
   pub sends : All (IsSet model.outs (state_names model) model.ins false) model.sends
   pub sets : All (IsSet (state_names model) (state_names model) model.ins false) model.sets
   pub external : IfSome model.external (All (IsSet (state_names model) (state_names model) model.ins true))

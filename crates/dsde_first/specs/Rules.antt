@@ -53,10 +53,13 @@ abbrev pub is_block : FirstModel → Option (List FirstSet) → Bool
 is_block model None = true
 is_block model (Some sets) = list_all (is_set model true) sets
 
+abbrev pub is_advance : FirstModel → Bool
+is_advance model = elim model.advance [ None ↦ true | Some sum ↦ is_sum model false sum ]
+
 abbrev pub is_empty : List (List ℕ) → Bool
 is_empty [] = true
 is_empty (name ∷ names) = false
 
 abbrev pub keeps_rules : FirstModel → Bool
 keeps_rules model =
-    has_distinct_names model && (is_sum model false model.advance && (list_all (is_send model) model.sends && (list_all (is_set model false) model.sets && (is_block model model.external && (is_block model model.confluent && (is_some model.external || is_empty model.ins))))))
+    has_distinct_names model && (is_advance model && (list_all (is_send model) model.sends && (list_all (is_set model false) model.sets && (is_block model model.external && (is_block model model.confluent && (is_some model.external || is_empty model.ins))))))

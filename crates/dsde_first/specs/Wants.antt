@@ -1,6 +1,6 @@
 -- What a reader still wants to see of a text, from left to right: a device for the proofs of the
 -- reader alone, which no public clause cites.
-use Rattle.std.specs.Prelude.{◌≡◌, ℕ, ⊤, Bool, true, false, ◌&&◌, ◌==◌, List, [], ◌∷◌, ◌++◌, Option, Some, None, Result, Ok, Err, bytes_eq, flat_map, ◌≤◌, length, All, unwrap_or}
+use Rattle.std.specs.Prelude.{◌≡◌, ℕ, ⊤, Bool, true, false, ◌&&◌, ◌==◌, List, [], ◌∷◌, ◌++◌, Option, Some, None, Result, Ok, Err, bytes_eq, flat_map, ◌≤◌, length, All, unwrap_or, IfSome}
 use Rattle.dsde_syntax.specs.declared.token.Tok.{Tok}
 use Rattle.dsde_syntax.specs.declared.token.Tok.TheVariants as tok
 use Rattle.dsde_syntax.specs.declared.token.Key.{Key}
@@ -19,13 +19,14 @@ use Rattle.dsde_first.specs.declared.first.FirstSet.{FirstSet}
 use Rattle.dsde_first.specs.declared.first.FirstSum.{FirstSum}
 use Rattle.dsde_first.specs.First.{word, mark, Port, FirstText, ins_of, outs_of, model_of, sum_tokens, block_tokens, state_tokens, send_tokens, set_tokens, port_tokens, rest_tokens, spelled}
 
--- one token, or one of many; a part of a sum; any number of things of one kind, or a block
+-- one token, or one of many; a part of a sum; a time to the next transition; any number of things of one kind, or a block
 pub data Want : Type 0 where
   exactly : Tok → Want
   name : Want
   number : Want
   part : Want
   parts : Want
+  time : Want
   ports : Want
   states : Want
   sends : Want
@@ -73,9 +74,19 @@ abbrev pub state_wants : List Want
 state_wants =
     name ∷ exactly (mark sign.Colon) ∷ exactly (word key.Int) ∷ exactly (mark sign.Equal) ∷ number ∷ exactly (mark sign.Semicolon) ∷ []
 
+-- behind `some`
+abbrev pub some_wants : List Want
+some_wants = exactly (mark sign.OpenParen) ∷ part ∷ parts ∷ exactly (mark sign.CloseParen) ∷ []
+
+-- behind `none`
+abbrev pub none_wants : List Want
+none_wants = exactly (mark sign.Less) ∷ exactly (word key.Int) ∷ exactly (mark sign.Greater) ∷ []
+
+abbrev pub time_wants : List Want
+time_wants = time ∷ []
+
 abbrev pub advance_wants : List Want
-advance_wants =
-    exactly (word key.Advance) ∷ exactly (word key.SomeOf) ∷ exactly (mark sign.OpenParen) ∷ part ∷ parts ∷ exactly (mark sign.CloseParen) ∷ exactly (mark sign.Semicolon) ∷ []
+advance_wants = exactly (word key.Advance) ∷ time ∷ exactly (mark sign.Semicolon) ∷ []
 
 -- behind `send`
 abbrev pub send_wants : List Want
@@ -102,6 +113,8 @@ act part (tok.Ident _) = push []
 act part (tok.Key k) =
     push_if (key_is key.Len k) (exactly (mark sign.OpenParen) ∷ name ∷ exactly (mark sign.CloseParen) ∷ []) (push_if (key_is key.Elapsed k) [] die)
 act part (tok.Sign _) = die
+act time (tok.Key k) = push_if (key_is key.SomeOf k) some_wants (push_if (key_is key.NoneOf k) none_wants die)
+act time _ = die
 act parts token = push_if (tok_is (mark sign.Plus) token) (part ∷ parts ∷ []) pop
 act ports token =
     push_if (tok_is (word key.In) token) (port_wants ++ ports ∷ []) (push_if (tok_is (word key.Out) token) (port_wants ++ ports ∷ []) pop)
@@ -118,6 +131,7 @@ can_end (exactly _) = false
 can_end name = false
 can_end number = false
 can_end part = false
+can_end time = false
 can_end _ = true
 
 abbrev pub ends : List Want → Bool
@@ -177,6 +191,12 @@ send_tail send =
 
 abbrev pub set_tail : FirstSet → List Tok
 set_tail set = mark sign.Equal ∷ (sum_tokens set.value ++ mark sign.Semicolon ∷ [])
+
+abbrev pub some_tail : FirstSum → List Tok
+some_tail sum = mark sign.OpenParen ∷ (sum_tokens sum ++ mark sign.CloseParen ∷ [])
+
+abbrev pub none_tail : List Tok
+none_tail = mark sign.Less ∷ word key.Int ∷ mark sign.Greater ∷ []
 
 abbrev pub argument_wants : List Want
 argument_wants = exactly (mark sign.OpenParen) ∷ name ∷ exactly (mark sign.CloseParen) ∷ []
@@ -270,7 +290,7 @@ AllHaveParts = All SetHasPart
 
 -- each sum of a text has a part
 pub record HasParts (text : FirstText) : Type 0 where
-  pub advance : HasPart text.advance
+  pub advance : IfSome text.advance HasPart
   pub output : AllHaveParts (unwrap_or text.output [])
   pub internal : AllHaveParts (unwrap_or text.internal [])
   pub external : AllHaveParts (unwrap_or text.external [])

@@ -9,8 +9,8 @@ pub struct FirstModel {
     /// The out ports, in the order of the text.
     pub outs: Items<Word>,
     pub states: Items<FirstState>,
-    /// The time to the next internal transition.
-    pub advance: FirstSum,
+    /// The time to the next internal transition, or never.
+    pub advance: Option<FirstSum>,
     /// What is sent in the output phase, each with the out port that it names.
     pub sends: Items<FirstSet>,
     /// The assignments of the internal transition.

@@ -1,10 +1,10 @@
-ghost use Rattle.std.specs.Prelude.{◌≡◌, ◌↔◌, IsTrue, [], ◌∷◌, MatchOption, IfOk, IsErrOf, flat_map};
+ghost use Rattle.std.specs.Prelude.{◌≡◌, ◌↔◌, ◌≤◌, ◌+◌, length, IsTrue, [], ◌∷◌, MatchOption, IfOk, IsErrOf, flat_map};
 ghost use Rattle.dsde_first.specs.declared.first.FirstModel.{FirstModel};
-ghost use Rattle.dsde_first.specs.First.{Spells, mark, part_tokens, sum_tokens, state_tokens, send_tokens, set_tokens, advance_tokens, block_tokens};
+ghost use Rattle.dsde_first.specs.First.{Spells, mark, part_tokens, sum_tokens, state_tokens, send_tokens, set_tokens, time_tokens, advance_tokens, block_tokens};
 ghost use Rattle.dsde_syntax.specs.declared.token.Tok.TheVariants as tok;
 ghost use Rattle.dsde_syntax.specs.declared.token.Sign.TheVariants as sign;
 ghost use Rattle.dsde_syntax.specs.declared.token.Key.TheVariants as key;
-ghost use Rattle.dsde_first.specs.Wants.{exactly, name as any_name, number as any_number, states, sends, sets, block, NoName, NoNumber, Takes, Reads, ReadsPorts, ReadsHead, ReadsEnd, ReadsTail, ReadsRest, ReadsFile, part_wants, sum_wants, argument_wants, port_wants, state_wants, advance_wants, send_wants, set_wants, braced_wants, blocks_wants, top_wants, argument_tokens, top_tokens, port_tail, state_tail, send_tail, set_tail, braced_tokens, blocks_tokens};
+ghost use Rattle.dsde_first.specs.Wants.{exactly, name as any_name, number as any_number, states, sends, sets, block, NoName, NoNumber, Takes, Reads, ReadsPorts, ReadsHead, ReadsEnd, ReadsTail, ReadsRest, ReadsFile, part_wants, sum_wants, argument_wants, port_wants, state_wants, time_wants, some_wants, none_wants, some_tail, none_tail, advance_wants, send_wants, set_wants, braced_wants, blocks_wants, top_wants, argument_tokens, top_tokens, port_tail, state_tail, send_tail, set_tail, braced_tokens, blocks_tokens};
 
 use crate::first::{FirstModel, FirstPart, FirstSet, FirstState, FirstSum};
 use crate::rules::keeps_rules;
@@ -33,9 +33,11 @@ impl From<Memory> for ReadFirst {
 }
 
 /// The model that a text spells. `NotFirst` comes exactly where it spells none of the form.
+/// A model has no more ports than a text may have bytes.
 pub fn read_first(alloc: Global, bytes: &[u8]) -> Result<FirstModel, ReadFirst>
     ensures ok { IfOk result (λ model. Spells bytes.now model) }
     ensures only { IfOk result (λ model. (other : FirstModel) → Spells bytes.now other → other ≡ model) }
+    ensures few { IfOk result (λ model. length model.ins + length model.outs ≤ 1_048_576) }
     ensures not_first { IsErrOf result ReadFirst.NotFirst → (model : FirstModel) → ¬ Spells bytes.now model }
 {
     let tokens = match lex(alloc, bytes) {
@@ -249,17 +251,48 @@ impl<'a> Reader<'a> {
         Ok(FirstState { name, value })
     }
 
-    /// `advance some(SUM);`
-    fn advance(&mut self, alloc: Global) -> Result<FirstSum, ReadFirst>
+    /// `advance some(SUM);` or `advance none<int>;`
+    fn advance(&mut self, alloc: Global) -> Result<Option<FirstSum>, ReadFirst>
         ensures { Reads advance_wants advance_tokens self.old result self.new }
     {
         self.key(Key::Advance)?;
-        self.key(Key::SomeOf)?;
+        let time = self.time(alloc)?;
+        self.sign(Sign::Semicolon)?;
+        Ok(time)
+    }
+
+    /// `some(SUM)` or `none<int>`
+    fn time(&mut self, alloc: Global) -> Result<Option<FirstSum>, ReadFirst>
+        ensures { Reads time_wants time_tokens self.old result self.new }
+    {
+        if self.takes_key(Key::SomeOf) {
+            return Ok(Some(self.some_sum(alloc)?));
+        }
+        if self.takes_key(Key::NoneOf) {
+            self.no_int()?;
+            return Ok(None);
+        }
+        Err(ReadFirst::NotFirst)
+    }
+
+    /// `(SUM)` behind `some`.
+    fn some_sum(&mut self, alloc: Global) -> Result<FirstSum, ReadFirst>
+        ensures { Reads some_wants some_tail self.old result self.new }
+    {
         self.sign(Sign::OpenParen)?;
         let sum = self.sum(alloc)?;
         self.sign(Sign::CloseParen)?;
-        self.sign(Sign::Semicolon)?;
         Ok(sum)
+    }
+
+    /// `<int>` behind `none`.
+    fn no_int(&mut self) -> Result<(), ReadFirst>
+        ensures { Reads none_wants (λ _. none_tail) self.old result self.new }
+    {
+        self.sign(Sign::Less)?;
+        self.key(Key::Int)?;
+        self.sign(Sign::Greater)?;
+        Ok(())
     }
 
     /// The block of sends, if it stands here.
@@ -541,7 +574,10 @@ top Counter();
         assert_eq!(rt; model.name.as_slice(), b"Counter".as_slice());
         assert_eq!(rt; model.outs.len(), 1);
         assert_eq!(rt; model.states.len(), 1);
-        assert_eq!(rt; model.advance.parts.len(), 1);
+        assert!(rt; model.advance.is_some());
+        if let Some(advance) = &model.advance {
+            assert_eq!(rt; advance.parts.len(), 1);
+        }
         assert_eq!(rt; model.sends.len(), 1);
         assert_eq!(rt; model.sets.len(), 1);
         for (set, parts) in model.sets.as_slice().iter().zip([2usize]) {
@@ -576,7 +612,24 @@ top Counter();
                 true,
             ),
             ("", false),
-            ("atomic Idle() { advance none<int>; } top Idle();", false),
+            ("atomic Idle() { advance none<int>; } top Idle();", true),
+            ("atomic Idle() { advance none < int > ; } top Idle();", true),
+            ("atomic A() { advance none; } top A();", false),
+            ("atomic A() { advance none<bool>; } top A();", false),
+            ("atomic A() { advance none<int> } top A();", false),
+            ("atomic A() { advance none<int; } top A();", false),
+            ("atomic A() { advance none(1); } top A();", false),
+            ("atomic A() { advance some<int>; } top A();", false),
+            ("atomic A() { advance 1; } top A();", false),
+            ("atomic A() { } top A();", false),
+            (
+                "atomic A() { in x: int; advance none<int>; } top A();",
+                false,
+            ),
+            (
+                "atomic A() { in x: int; state s: int = 0; advance none<int>; external { s = s + len(x); } } top A();",
+                true,
+            ),
             ("atomic A() { advance some(1); } top B();", false),
             ("atomic A() { advance some(1); } top A(); top A();", false),
             ("atomic A() { advance some(1); } top A()", false),
@@ -704,6 +757,16 @@ top Counter();
                 assert_eq!(rt; error, ReadFirst::NotFirst, "{text}");
             }
         }
+        Ok(())
+    }
+
+    #[test]
+    fn reads_a_model_that_is_never_due(rt: HostRuntime) -> Result<(), Fail> {
+        let text = "atomic Idle() { advance none<int>; }\ntop Idle();\n";
+        let model = read_first(rt.alloc(), text.as_bytes())?;
+        assert_eq!(rt; model.name.as_slice(), b"Idle".as_slice());
+        assert!(rt; model.advance.is_none());
+        assert!(rt; model.states.is_empty());
         Ok(())
     }
 

@@ -1,6 +1,6 @@
 ghost use Rattle.std.specs.Prelude.{◌≡◌};
 ghost use Rattle.std.specs.List.{list_all};
-ghost use Rattle.dsde_first.specs.Rules.{contains, names_state, are_distinct, have_distinct_names, are_apart, are_no_states, has_distinct_names, is_part, is_sum, is_set, is_send, is_block, keeps_rules};
+ghost use Rattle.dsde_first.specs.Rules.{contains, names_state, are_distinct, have_distinct_names, are_apart, are_no_states, has_distinct_names, is_part, is_sum, is_set, is_send, is_block, is_advance, keeps_rules};
 
 use crate::first::{FirstModel, FirstPart, FirstSet, FirstState, FirstSum};
 use dsde_syntax::{GREATEST_NUMBER, Items, Word};
@@ -13,12 +13,22 @@ pub fn keeps_rules(model: &FirstModel) -> bool
     ensures { result ≡ keeps_rules model.now }
 {
     has_distinct_names(model)
-        && is_sum(model, false, &model.advance)
+        && is_advance(model)
         && are_sends(model, model.sends.as_slice())
         && are_sets(model, false, model.sets.as_slice())
         && is_block(model, &model.external)
         && is_block(model, &model.confluent)
         && (model.external.is_some() || model.ins.is_empty())
+}
+
+/// Whether the time to the next internal transition is never, or a sum that sees no input.
+fn is_advance(model: &FirstModel) -> bool
+    ensures { result ≡ is_advance model.now }
+{
+    match &model.advance {
+        Some(sum) => is_sum(model, false, sum),
+        None => true,
+    }
 }
 
 /// Whether a block that sees input, if it is written, assigns to state variables alone.

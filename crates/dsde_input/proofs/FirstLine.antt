@@ -49,7 +49,7 @@ behind_line-line : (line rest : List ℕ) → Lacks 10 line → behind_line (lin
 behind_line-line [] rest lacks = refl
 behind_line-line (byte ∷ line) rest lacks = rw (no_feed byte lacks.0) (behind_line-line line rest lacks.1)
 
-behind_line-last : (line : List ℕ) → Lacks 10 line → behind_line line ≡ []
+pub behind_line-last : (line : List ℕ) → Lacks 10 line → behind_line line ≡ []
 behind_line-last [] lacks = refl
 behind_line-last (byte ∷ line) lacks = rw (no_feed byte lacks.0) (behind_line-last line lacks.1)
 
@@ -67,6 +67,23 @@ Lacks-held (byte ∷ held) lacks none =
     let last : get_or (byte ∷ held) (length (byte ∷ held) - 1) 0 ≢ 10 = λ same. grind (arith, nat_tests) in
     subst (Lacks 10) (sym (with_last (byte ∷ held) (omega arith)))
     (Lacks-append 10 (take (length (byte ∷ held) - 1) (byte ∷ held)) (get_or (byte ∷ held) (length (byte ∷ held) - 1) 0 ∷ []) lacks (last, tt))
+
+-- A line with its line feed.
+pub record Fed (held : List ℕ) : Type 0 where
+  pub line : List ℕ
+  pub is : held ≡ line ++ 10 ∷ []
+  pub lacks : Lacks 10 line
+
+-- Bytes of which only the last may be a line feed end with one, unless they lack one.
+pub fed_by : (fed : Bool) (held : List ℕ) → (get_or held (length held - 1) 0 == 10) ≡ fed → Lacks 10 (take (length held - 1) held) → (Lacks 10 held → ⊥) → Fed held
+fed_by fed [] is lacks never = absurd (never tt)
+fed_by true (byte ∷ held) is lacks never =
+    let feed : get_or (byte ∷ held) (length (byte ∷ held) - 1) 0 ≡ 10 = grind (arith, nat_tests) in record {
+      line = take (length (byte ∷ held) - 1) (byte ∷ held);
+      is = with_last (byte ∷ held) (omega arith) ∙ ap (λ last. take (length (byte ∷ held) - 1) (byte ∷ held) ++ last ∷ []) feed;
+      lacks = lacks;
+    }
+fed_by false (byte ∷ held) is lacks never = absurd (never (Lacks-held (byte ∷ held) lacks is))
 
 -- what is to come, and what is to come behind a line that is held
 abbrev come : Bool → List ℕ → List ℕ → List ℕ

@@ -1,5 +1,5 @@
 -- A reader of input, as contracts see it, and what a call does to the records to come.
-use Rattle.std.specs.Prelude.{ℕ, ◌≡◌, ◌≤◌, ◌-◌, ◌==◌, Bool, false, ◌||◌, nat_lt, if◌then◌else◌, List, [], ◌++◌, length, take, slice_index, Option, Some, None, Result, Ok, Err, IfSome, IsSomeAnd}
+use Rattle.std.specs.Prelude.{ℕ, ◌≡◌, ◌≤◌, ◌-◌, ◌==◌, Bool, false, ◌||◌, nat_lt, if◌then◌else◌, List, [], ◌∷◌, ◌++◌, length, take, drop, slice_index, Option, Some, None, Result, Ok, Err, IfSome, IsSomeAnd}
 use Rattle.dsde_values.specs.declared.arrival.Arrival.{Arrival}
 use Rattle.dsde_values.specs.declared.types.Field.{Field}
 use Rattle.dsde_values.specs.declared.types.Types.{Types}
@@ -62,17 +62,34 @@ has_line reader =
 abbrev pub reads_left : Reader → ℕ
 reads_left reader = if reader.ended then 0 else 65538 - length reader.held
 
+-- At most the last of the bytes is a line feed.
+abbrev pub IsOneLine : List ℕ → Type 0
+IsOneLine bytes = Lacks 10 (take (length bytes - 1) bytes)
+
 -- No more than one line is held, and there is room for the longest and one byte more.
 pub record Holds (held : List ℕ) (room : ℕ) : Type 0 where
   pub roomy : 65537 ≤ room
   pub short : length held ≤ 65537
-  pub one : Lacks 10 (take (length held - 1) held)
+  pub one : IsOneLine held
 
 -- Bytes moved from the source to the reader, or the input's end was seen, and nothing else changed.
 pub record Moves (old new : Reader) (left rest : Option (List ℕ)) : Type 0 where
   pub others : new ≡ record old { held = new.held; ended = new.ended }
   pub front : take (length old.held) new.held ≡ old.held
   pub told : IfSome left (λ before. IsSomeAnd rest (λ after. to_come new after ≡ to_come old before))
+  pub taken : IfSome left (λ before. IsSomeAnd rest (λ after. before ≡ drop (length old.held) new.held ++ after))
+
+-- The bytes taken are of the line that was begun with those held: none is behind its line feed.
+pub record TakesOfLine (held before after : List ℕ) : Type 0 where
+  pub piece : List ℕ
+  pub split : before ≡ piece ++ after
+  pub one : IsOneLine (held ++ piece)
+
+-- The bytes taken are the rest of the line that was begun with those held, with its line feed.
+pub record TakesLine (held before after : List ℕ) : Type 0 where
+  pub line : List ℕ
+  pub split : held ++ before ≡ line ++ 10 ∷ after
+  pub lacks : Lacks 10 line
 
 -- a reader after a record was given
 abbrev pub given : Reader → Arrival → Reader

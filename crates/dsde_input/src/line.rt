@@ -1,6 +1,6 @@
 ghost use Rattle.std.specs.Prelude.{◌≡◌, IfOk};
 ghost use Rattle.dsde_input.specs.Lines.{without_last};
-ghost use Rattle.dsde_input.specs.Record.{ArePorts};
+ghost use Rattle.dsde_input.specs.Record.{ArePorts, IsTime};
 ghost use Rattle.dsde_input.specs.Records.{line_record};
 
 use crate::InputEnd;
@@ -21,7 +21,8 @@ pub fn line_record(
     types: &Types,
 ) -> Result<Result<Arrival, InputEnd>, Memory>
     requires { ArePorts ports.now }
-    ensures { IfOk result (λ found. found ≡ line_record ports.now types.now number least line.now) }
+    ensures value { IfOk result (λ found. found ≡ line_record ports.now types.now number least line.now) }
+    ensures early { IfOk result (λ found. IfOk found (λ arrival. IsTime arrival.time)) }
 {
     if line.len() > LONGEST_LINE {
         return Ok(Err(InputEnd::LineTooLong(number)));

@@ -20,7 +20,8 @@ pub fn read_record(
     types: &Types,
 ) -> Result<Option<Arrival>, Memory>
     requires { ArePorts ports.now }
-    ensures { IfOk result (λ found. found ≡ record_of ports.now types.now number line.now) }
+    ensures value { IfOk result (λ found. found ≡ record_of ports.now types.now number line.now) }
+    ensures early { IfOk result (λ found. IfSome found (λ arrival. IsTime arrival.time)) }
 {
     let Some((time, size)) = read_time(line) else {
         return Ok(None);

@@ -1,8 +1,8 @@
 ghost use Rattle.std.specs.Prelude.{◌≡◌, ◌<◌, ◌≤◌, true, false, List, ℕ, Some, None, [], IfOk, IfErr, OnOk, OnErr, IsErrOf, IfSome, IsSomeAnd, OnSome, MatchOption};
 ghost use Rattle.dsde_io.specs.Fault.{Rose};
 ghost use Rattle.dsde_input.specs.Lines.{behind_line};
-ghost use Rattle.dsde_input.specs.Record.{ArePorts};
-ghost use Rattle.dsde_input.specs.Reader.{fresh, to_come, records, Tells, has_line, reads_left, IsOffence, Moves, given};
+ghost use Rattle.dsde_input.specs.Record.{ArePorts, IsTime};
+ghost use Rattle.dsde_input.specs.Reader.{fresh, to_come, records, Tells, has_line, reads_left, IsOffence, Moves, given, IsOneLine, TakesOfLine, TakesLine};
 
 use crate::InputEnd;
 use crate::line::{LONGEST_LINE, line_record, without_last};
@@ -83,13 +83,21 @@ impl InputReader {
         ensures stays { IfErr result (λ end. IsOffence end → self.new.offence ≡ Some end) }
         ensures again { IfSome self.old.offence (λ offence. (result ≡ Err offence) × (self.new ≡ self.old) × (source.new ≡ source.old)) }
 
+        // A record's time is one of a run.
+        ensures early { IfOk result (λ found. IfSome found (λ arrival. IsTime arrival.time)) }
+
+        // No byte is taken that the wanted line does not need.
+        ensures of_line { IfSome (R.left source.old) (λ before. IsSomeAnd (R.left source.new) (λ after. TakesOfLine self.old.held before after)) }
+        ensures line { IfOk result (λ found. OnSome found (self.new.ended ≡ false
+            → IfSome (R.left source.old) (λ before. IsSomeAnd (R.left source.new) (λ after. TakesLine self.old.held before after)))) }
+
         // Nothing is lost where a read failed, or memory ran out.
         ensures fault_keeps { IsErrOf result InputEnd.ReadFault → Moves self.old self.new (R.left source.old) (R.left source.new) }
         ensures memory_keeps { IsErrOf result InputEnd.Memory → Moves self.old self.new (R.left source.old) (R.left source.new) }
 
         // A read failed before all was there that the wanted line needs; only then the source is read.
         ensures cause { IsErrOf result InputEnd.ReadFault → Rose (R.faults source.old) (R.faults source.new) }
-        ensures wanted { IsErrOf result InputEnd.ReadFault → has_line self.new ≡ false }
+        ensures wanted { IsErrOf result InputEnd.ReadFault → (has_line self.old ≡ false) × (has_line self.new ≡ false) }
         ensures idle { has_line self.old ≡ true → source.new ≡ source.old }
         ensures counted { R.faults source.old ≤ R.faults source.new }
     {
@@ -104,7 +112,8 @@ impl InputReader {
     fn fill<R: Source>(&mut self, source: &mut R) -> Result<(), Failed>
         ensures moves { Moves self.old self.new (R.left source.old) (R.left source.new) }
         ensures whole { OnOk result (has_line self.new ≡ true) }
-        ensures wanted { OnErr result (has_line self.new ≡ false) }
+        ensures wanted { OnErr result ((has_line self.old ≡ false) × (has_line self.new ≡ false)) }
+        ensures one { IsOneLine self.new.held }
         ensures cause { OnErr result (Rose (R.faults source.old) (R.faults source.new)) }
         ensures counted { R.faults source.old ≤ R.faults source.new }
         ensures idle { has_line self.old ≡ true → (self.new ≡ self.old) × (source.new ≡ source.old) }
@@ -117,7 +126,8 @@ impl InputReader {
 
     /// Whether all is there that the wanted line needs.
     fn has_line(&self) -> bool
-        ensures { result ≡ has_line self.now }
+        ensures answer { result ≡ has_line self.now }
+        ensures one { IsOneLine self.now.held }
     {
         self.ended || self.held.len() > LONGEST_LINE || self.held.last() == Some(&b'\n')
     }
@@ -151,6 +161,7 @@ impl InputReader {
             (records ports.now types.now self.new (to_come self.new left)) result }
         ensures given { IfOk result (λ found. MatchOption found ((self.new ≡ self.old) × (self.old.held ≡ []) × (self.old.ended ≡ true)) (λ arrival. self.new ≡ given self.old arrival)) }
         ensures taken { IfOk result (λ found. OnSome found ((left : List ℕ) → to_come self.new left ≡ behind_line (to_come self.old left))) }
+        ensures early { IfOk result (λ found. IfSome found (λ arrival. IsTime arrival.time)) }
         ensures stays { IfErr result (λ end. IsOffence end → self.new.offence ≡ Some end) }
         ensures memory { IsErrOf result InputEnd.Memory → self.new ≡ self.old }
         ensures no_fault { ¬ (IsErrOf result InputEnd.ReadFault) }

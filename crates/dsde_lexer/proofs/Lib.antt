@@ -5,3 +5,4 @@ pub mod GoodLemmas
 pub mod OrderLemmas
 pub mod PlacesLemmas
 pub mod PrintedLemmas
+pub mod Sizes

@@ -51,6 +51,7 @@ pub fn lex(alloc: Global, bytes: &[u8]) -> Result<Items<Token>, LexError>
     ensures ok { IfOk result (λ list. tokens bytes.now ≡ Ok list) }
     ensures refused { IfErr result (λ error. error ≢ LexError.Memory → tokens bytes.now ≡ Err error) }
     ensures well_formed { IfOk result (All HasToken) }
+    ensures few { IfOk result (λ list. length list ≤ 1_048_576) }
     ensures in_order { IfOk result (AreInOrder 0 (length bytes.now)) }
 {
     if bytes.len() > LONGEST_TEXT {

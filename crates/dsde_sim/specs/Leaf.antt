@@ -46,9 +46,12 @@ after time (negsuc n) = Err NegativeAdvance
 abbrev pub is_due : Leaf → ℕ → Bool
 is_due leaf time = elim leaf.next [ At next ↦ next == time | Never ↦ false ]
 
--- when a leaf of this state with an event at this time is due next
+-- when a leaf of this state with an event at this time is due next: never, where its model has no advance
 abbrev pub due : FirstModel → List ℤ → ℕ → Result When FaultKind
-due model state time = sum_value model state no_input model.advance >>= after time
+due model state time = elim model.advance [
+  | None ↦ Ok Never
+  | Some sum ↦ sum_value model state no_input sum >>= after time
+]
 
 -- the leaf in this state after an event at this time
 abbrev pub settled : FirstModel → List ℤ → ℕ → Result Leaf FaultKind

@@ -47,13 +47,18 @@ fn init(alloc: Global, states: &[FirstState]) -> Result<Seq<i64>, LeafEnd>
     Ok(values)
 }
 
-/// When a leaf of this state that has an event at `time` is due next.
+/// When a leaf of this state that has an event at `time` is due next: never, where its model has no
+/// advance.
 fn due(alloc: Global, model: &FirstModel, state: &[i64], time: u64) -> Result<When, FaultKind>
     requires { time < 2 ^ 63 }
     ensures value { result ≡ due model.now state.now time }
     ensures in_time { IfOk result IsInTime }
 {
-    let advance = sum_value(model, state, &Input::none(alloc), &model.advance)?;
+    let sum = match &model.advance {
+        Some(sum) => sum,
+        None => return Ok(When::Never),
+    };
+    let advance = sum_value(model, state, &Input::none(alloc), sum)?;
     match u64::try_from(advance) {
         Err(_) => Err(FaultKind::NegativeAdvance),
         Ok(advance) if advance > LAST_MOMENT - time => Err(FaultKind::TimeTooFar),

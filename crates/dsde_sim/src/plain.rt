@@ -394,13 +394,12 @@ impl<'p> Plain<'p> {
         self.taken
     }
 
-    /// The time of the next event, if there is one.
-    pub fn next(&self) -> When
+    /// The time of the turn that comes next with this head of the input, if one comes.
+    pub fn turn_time(&self, head: Option<&Arrival>) -> Option<u64>
         requires { self.now.spent ≡ false }
-        ensures value { result ≡ self.now.leaf.next }
-        ensures in_time { IsInTime result }
+        ensures { result ≡ turn_time self.now.leaf.next (option_copied head.entry) }
     {
-        self.leaf.next
+        turn_time(self.leaf.next, head)
     }
 
     /// Whether a turn did not come to its end.

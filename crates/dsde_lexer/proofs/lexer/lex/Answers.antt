@@ -1,3 +1,4 @@
+use Rattle.dsde_lexer.proofs.Sizes.{tokens-size}
 use Rattle.dsde_lexer.proofs.GoodLemmas.{tokens-good}
 use Rattle.dsde_lexer.proofs.OrderLemmas.{tokens-in_order}
 use Rattle.dsde_lexer.proofs.TokensLemmas.{HasCut-gap, HasCut-token, Piece-of, tokens-all, tokens-bad_byte, tokens-bad_number}
@@ -30,3 +31,6 @@ returns-clause-well_formed c = tokens-good _ _ (tokens-all c.loop-at.invariant c
 
 pub returns-clause-in_order : goal.returns-clause-in_order
 returns-clause-in_order c = tokens-in_order _ _ (tokens-all c.loop-at.invariant c.loop-at-test.false)
+
+pub returns-clause-few : goal.returns-clause-few
+returns-clause-few c = tokens-size _ _ (tokens-all c.loop-at.invariant c.loop-at-test.false)

@@ -11,7 +11,7 @@ some_held c = grind (arith, nat_tests)
 
 -- what was read is what the held line is
 is_held : (c : In_ok-arrival) → c.in_ok-arrival.field-0 ≡ held_record c.args.ports.now c.args.types.now (the_view c.self.inside)
-is_held c = rw (c.saturating_add-number.ensures, c.max-least.ensures, c.unwrap_or.ensures, c.without_last-line.ensures, c.as_slice.ensures.value) at c.in_ok-arrival.ensures
+is_held c = rw (c.saturating_add-number.ensures, c.max-least.ensures, c.unwrap_or.ensures, c.without_last-line.ensures, c.as_slice.ensures.value) at c.in_ok-arrival.ensures.value
 
 pub returns-in-Ok-clause-records : goal.returns-in-Ok-clause-records
 returns-in-Ok-clause-records c = λ left.

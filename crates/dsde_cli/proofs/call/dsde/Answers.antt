@@ -1,0 +1,37 @@
+use Rattle.std.proofs.Common.{◌≡◌, Some, None, sym, subst, ap, ◌∙◌, inl, inr}
+use Rattle.std.specs.Prelude.{IfSome}
+use Rattle.dsde_run.specs.Reading.{Told, TakesWanted}
+use Rattle.dsde_run.specs.Run.{run, records_in}
+use Rattle.dsde_cli.specs.Causes.{Holds}
+use Rattle.dsde_cli.specs.Commands.{RunCommand, run_command, command_of}
+use Rattle.dsde_cli.specs.Outcome.{Comes}
+use Rattle.dsde_cli.proofs.Outcomes.{some_command, comes-reported}
+use Rattle.dsde_cli.proofs.call.dsde.Goals as goal
+use Rattle.dsde_cli.proofs.call.dsde.Goals.{in-Some, in-None}
+
+pub returns-clause-runs : goal.returns-clause-runs
+returns-clause-runs g c = λ asked model is holds. elim c.match-read_command.branch [
+  | in-Some w ↦
+      let same : run_command w.in-Some.field-0 ≡ asked = some_command (run_command w.in-Some.field-0) asked (w.in-Some.ensures.spelled ∙ is) in
+      let here = rw (← same) at holds in
+      let turns : (run_command w.in-Some.field-0).turns ≡ asked.turns = ap (λ asked. asked.turns) same in
+      subst (λ turns. IfSome (g.R.Source.left c.args.input.now) (λ bytes. IfSome (g.W.Sink.written c.args.out.now) (λ written.
+      Comes model (λ records. run model records turns) bytes (g.R.Source.left c.match-read_command.input) written (g.W.Sink.written c.match-read_command.out) c.report.result))) turns
+      (rw (w.input-is, w.out-is)
+      (comes-reported model (λ records. run model records (run_command w.in-Some.field-0).turns)
+      (g.R.Source.left c.args.input.now) (g.R.Source.left w.load_and_run-status.new.input) (g.W.Sink.written c.args.out.now) (g.W.Sink.written w.load_and_run-status.new.out)
+      w.load_and_run-status.result c.report.result (w.load_and_run-status.ensures.runs model here) (rw w.status-is at c.report.ensures.same)))
+  | in-None w ↦ absurd (let two = w.in-None.ensures.spelled ∙ is in cc two)
+]
+
+pub returns-clause-taken : goal.returns-clause-taken
+returns-clause-taken g c = λ asked model is holds. elim c.match-read_command.branch [
+  | in-Some w ↦
+      let same : run_command w.in-Some.field-0 ≡ asked = some_command (run_command w.in-Some.field-0) asked (w.in-Some.ensures.spelled ∙ is) in
+      let here = rw (← same) at holds in
+      let turns : (run_command w.in-Some.field-0).turns ≡ asked.turns = ap (λ asked. asked.turns) same in
+      subst (λ turns. Told (g.R.Source.left c.args.input.now) (g.R.Source.left c.match-read_command.input) (λ before.
+      TakesWanted (λ records. run model records turns) (records_in model before) before)) turns
+      (rw w.input-is (w.load_and_run-status.ensures.taken model here))
+  | in-None w ↦ absurd (let two = w.in-None.ensures.spelled ∙ is in cc two)
+]

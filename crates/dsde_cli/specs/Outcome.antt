@@ -1,0 +1,56 @@
+-- How a call ends that runs a model, and what it leaves.
+use Rattle.std.specs.Prelude.{ℕ, ◌≡◌, ◌⊎◌, List, ◌++◌, take, Option, Some, IsSomeAnd}
+use Rattle.dsde_first.specs.declared.first.FirstModel.{FirstModel}
+use Rattle.dsde_input.specs.Records.{Records}
+use Rattle.dsde_sim.specs.declared.event.Finish.{Finish}
+use Rattle.dsde_sim.specs.declared.event.Finish.TheVariants as how
+use Rattle.dsde_sim.specs.Text.{trace_text}
+use Rattle.dsde_run.specs.Reading.{IsCutShort}
+use Rattle.dsde_run.specs.Run.{Run, records_in}
+use Rattle.dsde_cli.specs.declared.status.Status.{Status}
+use Rattle.dsde_cli.specs.declared.status.Status.TheVariants.{Done, BadInput, ModelFault, Unread, Unwritten, Memory}
+use Rattle.dsde_cli.specs.declared.status.What.{What}
+use Rattle.dsde_cli.specs.declared.status.What.TheVariants as what
+use Rattle.dsde_cli.specs.declared.status.Why.{Why}
+use Rattle.dsde_cli.specs.declared.status.Why.TheVariants as why
+
+-- The sink gained the whole trace of the run.
+abbrev pub Writes : FirstModel → Run → List ℕ → Option (List ℕ) → Type 0
+Writes model run written out = out ≡ Some (written ++ trace_text model run.events)
+
+-- The sink gained a part of the run's trace, from its front.
+pub record WritesFront (model : FirstModel) (run : Run) (written : List ℕ) (out : Option (List ℕ)) : Type 0 where
+  pub count : ℕ
+  pub is : out ≡ Some (written ++ take count (trace_text model run.events))
+
+-- What a failed reading leaves: of the input, the lines before the first turn whose head is not
+-- whole in the bytes taken, which are the front of the trace; of the model, what was written before.
+abbrev pub ComesUnread : FirstModel → (Records → Run) → List ℕ → Option (List ℕ) → List ℕ → Option (List ℕ) → What → Why → Type 0
+ComesUnread model tells input left written out what.Input why.Failed =
+    IsSomeAnd left (λ after. IsSomeAnd out (λ new. IsCutShort model tells (records_in model input) written new input after))
+    × WritesFront model (tells (records_in model input)) written out
+ComesUnread model tells input left written out what.Model why.Failed = out ≡ Some written
+ComesUnread model tells input left written out reading because = ⊥
+
+-- A model was run on an input: `tells` says what a run on records tells, `left` what the source has
+-- left, and `written` and `out` what the sink had and has. Each status comes exactly where the run
+-- ended so, and the whole trace was written. A failed read, a failed write and want of memory cut
+-- it short.
+abbrev pub Comes : FirstModel → (Records → Run) → List ℕ → Option (List ℕ) → List ℕ → Option (List ℕ) → Status → Type 0
+Comes model tells input left written out Done =
+    let whole = tells (records_in model input) in Writes model whole written out × ((whole.end ≡ Some how.Bound) ⊎ (whole.end ≡ Some how.Quiet))
+Comes model tells input left written out (BadInput kind line) =
+    let whole = tells (records_in model input) in Writes model whole written out × (whole.end ≡ Some (how.Input kind line))
+Comes model tells input left written out (ModelFault fault) =
+    let whole = tells (records_in model input) in Writes model whole written out × (whole.end ≡ Some (how.Fault fault))
+Comes model tells input left written out (Unread reading because) = ComesUnread model tells input left written out reading because
+Comes model tells input left written out (Unwritten what.Output) = WritesFront model (tells (records_in model input)) written out
+Comes model tells input left written out Memory = WritesFront model (tells (records_in model input)) written out
+Comes model tells input left written out other = ⊥
+
+-- The status of a run that ended so.
+abbrev pub status_of : Finish → Status
+status_of how.Bound = Done
+status_of how.Quiet = Done
+status_of (how.Input kind line) = BadInput kind line
+status_of (how.Fault fault) = ModelFault fault

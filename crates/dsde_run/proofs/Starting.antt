@@ -1,0 +1,61 @@
+-- A run's start, and then its turns.
+use Rattle.std.proofs.Common.{◌≡◌, ℕ, List, [], ◌++◌, Ok, ap, subst, sym, ◌∙◌}
+use Rattle.std.specs.Prelude.{Option, Some, None, IfSome}
+use Rattle.dsde_first.specs.declared.first.FirstModel.{FirstModel}
+use Rattle.dsde_input.specs.Records.{Records}
+use Rattle.dsde_sim.specs.declared.event.Event.{Event}
+use Rattle.dsde_sim.specs.Engine.{Engine}
+use Rattle.dsde_sim.specs.Text.{trace_text}
+use Rattle.dsde_sim.specs.Turn.{start}
+use Rattle.dsde_sim.specs.Turn as turn
+use Rattle.dsde_run.specs.Reading.{Told, TakesWanted, IsCutShort}
+use Rattle.dsde_run.specs.Run.{Run, run, go, preceded}
+use Rattle.dsde_run.specs.Steps.{GoesOn}
+use Rattle.dsde_run.proofs.RunLemmas.{run-started, text-preceded}
+
+-- the start of a run comes before its turns
+pub GoesOn-start : (model : FirstModel) (turns : ℕ) (engine : Engine) (begun told : List Event) (old new : List ℕ) →
+    begun ≡ [] → turn.Tells (start model) begun told (Ok engine) → new ≡ old ++ trace_text model told →
+    (records : Records) → GoesOn model (run model records turns) (go turns records engine) old new
+GoesOn-start model turns engine begun told old new empty tells written records =
+    let all : told ≡ (start model).events = tells.0 ∙ ap (λ events. events ++ (start model).events) empty in
+    let whole = run-started model records turns engine tells.1 in
+    record {
+      text =
+          ap (λ run. old ++ trace_text model run.events) whole
+          ∙ text-preceded model (start model).events (go turns records engine) old new (written ∙ ap (λ events. old ++ trace_text model events) all);
+      end = ap (λ run. run.end) whole;
+    }
+
+-- what is cut short behind the start of a run is cut short in the run
+pub IsCutShort-behind : (model : FirstModel) (tells rest : Records → Run) (records : Records) (old mid new before after : List ℕ) →
+    ((records : Records) → GoesOn model (tells records) (rest records) old mid) →
+    IsCutShort model rest records mid new before after → IsCutShort model tells records old new before after
+IsCutShort-behind model tells rest records old mid new before after goes short = record {
+  taken = short.taken;
+  split = short.split;
+  text = short.text ∙ sym (goes _).text;
+  cut = (goes _).end ∙ short.cut;
+}
+
+-- what is wanted behind the start of a run is wanted in the run
+pub TakesWanted-behind : (model : FirstModel) (tells rest : Records → Run) (records : Records) (old mid before after : List ℕ) →
+    ((records : Records) → GoesOn model (tells records) (rest records) old mid) →
+    TakesWanted rest records before after → TakesWanted tells records before after
+TakesWanted-behind model tells rest records old mid before after goes takes = record {
+  taken = takes.taken;
+  split = takes.split;
+  wanted = λ some. (goes _).end ∙ takes.wanted some;
+}
+
+-- what holds of the bytes before and after holds of those before alone
+pub IfSome-told : (left rest : Option (List ℕ)) {P : List ℕ → List ℕ → Type 0} {Q : List ℕ → Type 0} → Told left rest P →
+    ((before after : List ℕ) → P before after → Q before) → IfSome left Q
+IfSome-told None rest told weaker = tt
+IfSome-told (Some before) None told weaker = absurd told
+IfSome-told (Some before) (Some after) told weaker = weaker before after told
+
+-- what holds whatever there is
+pub IfSome-always : (left : Option (List ℕ)) (Q : List ℕ → Type 0) → ((bytes : List ℕ) → Q bytes) → IfSome left Q
+IfSome-always None Q always = tt
+IfSome-always (Some bytes) Q always = always bytes

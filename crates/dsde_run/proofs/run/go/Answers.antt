@@ -1,0 +1,166 @@
+use Rattle.std.proofs.Common.{◌≡◌, ◌+◌, ◌-◌, ◌++◌, ◌<◌, ◌^◌, zero, suc, None, List, ℕ, refl, ap, sym, subst, ◌∙◌, arith}
+use Rattle.std.specs.Prelude.{IfSome}
+use Rattle.std.proofs.lemmas.Result.{IfOk-weaker}
+use Rattle.dsde_sim.specs.declared.event.Finish.TheVariants as how
+use Rattle.dsde_sim.specs.Text.{end_text}
+use Rattle.dsde_input.specs.Records.{Records}
+use Rattle.dsde_run.specs.Heads.{IsReady, Refused, behind_head, passed}
+use Rattle.dsde_run.specs.Reading.{Told}
+use Rattle.dsde_run.specs.Run.{Run, go, ended, offended}
+use Rattle.dsde_run.specs.declared.run.After.TheVariants.{Turned, Ended}
+use Rattle.dsde_run.specs.Steps.{Stands, Turns, IsNext}
+use Rattle.dsde_run.proofs.RunLemmas.{Tells-ended}
+use Rattle.dsde_run.proofs.Standing.{Told-then, Told-weaker, Told-same, stands-first, stands-turned, taken-refused, tells-refused, cut-refused, taken-stands, tells-bound, tells-ended, told-asked, early-passed}
+use Rattle.dsde_run.proofs.run.go.Goals as goal
+
+pub loop-turn-init : goal.loop-turn-init
+loop-turn-init g c =
+    let none : c.args.turns - 0 ≡ c.args.turns = omega arith in
+    record {
+      stands = Told-same (g.R.Source.left c.args.source.now)
+          (λ before after. Stands c.args.model.now (λ records. go c.args.turns records c.args.plain) (λ records. go (c.args.turns - 0) records c.args.plain)
+          (behind_head c.args.heads before) c.args.heads c.args.text.now c.args.text.now before after) (λ bytes.
+          subst (λ left. Stands c.args.model.now (λ records. go c.args.turns records c.args.plain) (λ records. go left records c.args.plain)
+          (behind_head c.args.heads bytes) c.args.heads c.args.text.now c.args.text.now bytes bytes) (sym none)
+          (stands-first c.args.model.now (λ records. go c.args.turns records c.args.plain) c.args.heads c.args.text.now bytes c.requires.unasked));
+      ready = c.requires.ready;
+      early = subst (λ head. IfSome head (λ arrival. arrival.time < 2 ^ 63)) (sym c.requires.unasked) tt;
+      ports = refl;
+      model = c.requires.model;
+      fresh = c.requires.fresh;
+      bounded = omega (arith, c.requires.bounded);
+      counted = omega arith;
+      idle = λ _. refl;
+    }
+
+pub returns-in-Err-clause-tells : goal.returns-in-Err-clause-tells
+returns-in-Err-clause-tells g c =
+    let later = c.args.turns - (c.loop-turn._turn + 1) in
+    let left : c.args.turns - c.loop-turn._turn ≡ suc (c.args.turns - (c.loop-turn._turn + 1)) = omega arith in
+    let plain = c.loop-turn.plain in
+    IfOk-weaker c.stop.result _ _
+    (λ answer stops.
+    Told-then (g.R.Source.left c.args.source.now) (g.R.Source.left c.loop-turn.source) (g.R.Source.left c.ask.new.source)
+    (rw left at c.loop-turn.invariant.stands) c.in-Err.ensures.refused
+    (λ before mid after stands refused.
+    tells-refused c.args.model.now (λ records. go c.args.turns records c.args.plain) (λ records. go (suc later) records plain) refl
+    (behind_head c.args.heads before) c.loop-turn.heads c.args.text.now c.loop-turn.text before mid stands
+    c.in-Err.why answer c.turn.result c.time.result c.stop.new.text after
+    (ap (λ turns. offended c.in-Err.why turns plain.time) (sym c.turn.ensures) ∙ ap (offended c.in-Err.why c.turn.result) (sym c.time.ensures))
+    refused stops))
+    c.stop.ensures.ok
+
+pub returns-in-Err-clause-cut : goal.returns-in-Err-clause-cut
+returns-in-Err-clause-cut g c = λ is.
+    let later = c.args.turns - (c.loop-turn._turn + 1) in
+    let left : c.args.turns - c.loop-turn._turn ≡ suc (c.args.turns - (c.loop-turn._turn + 1)) = omega arith in
+    let why = c.stop.ensures.cut is in
+    Told-then (g.R.Source.left c.args.source.now) (g.R.Source.left c.loop-turn.source) (g.R.Source.left c.ask.new.source)
+    (rw left at c.loop-turn.invariant.stands)
+    (subst (λ why. Told (g.R.Source.left c.loop-turn.source) (g.R.Source.left c.ask.new.source) (Refused c.loop-turn.heads why)) why.0 c.in-Err.ensures.refused)
+    (λ before mid after stands refused.
+    cut-refused c.args.model.now (λ records. go c.args.turns records c.args.plain) (λ records. go (suc later) records c.loop-turn.plain) refl
+    (behind_head c.args.heads before) c.loop-turn.heads c.args.text.now c.loop-turn.text before mid stands c.stop.new.text after refl refused why.1)
+
+pub returns-in-Err-clause-taken : goal.returns-in-Err-clause-taken
+returns-in-Err-clause-taken g c =
+    let later = c.args.turns - (c.loop-turn._turn + 1) in
+    let left : c.args.turns - c.loop-turn._turn ≡ suc (c.args.turns - (c.loop-turn._turn + 1)) = omega arith in
+    Told-then (g.R.Source.left c.args.source.now) (g.R.Source.left c.loop-turn.source) (g.R.Source.left c.ask.new.source)
+    (rw left at c.loop-turn.invariant.stands) c.in-Err.ensures.refused
+    (λ before mid after stands refused.
+    taken-refused c.args.model.now (λ records. go c.args.turns records c.args.plain) (λ records. go (suc later) records c.loop-turn.plain) refl
+    (behind_head c.args.heads before) c.loop-turn.heads c.args.text.now c.loop-turn.text before mid stands c.in-Err.why after refused)
+
+pub returns-in_err-took_input-clause-taken : goal.returns-in_err-took_input-clause-taken
+returns-in_err-took_input-clause-taken g c =
+    let later = c.args.turns - (c.loop-turn._turn + 1) in
+    let left : c.args.turns - c.loop-turn._turn ≡ suc (c.args.turns - (c.loop-turn._turn + 1)) = omega arith in
+    Told-weaker (g.R.Source.left c.args.source.now) (g.R.Source.left c.ask.new.source)
+    (told-asked c.args.model.now (λ records. go c.args.turns records c.args.plain) (λ records. go (suc later) records c.loop-turn.plain) refl
+    (behind_head c.args.heads) c.loop-turn.heads c.ask.new.self c.args.text.now c.loop-turn.text
+    (g.R.Source.left c.args.source.now) (g.R.Source.left c.loop-turn.source) (g.R.Source.left c.ask.new.source)
+    (rw left at c.loop-turn.invariant.stands) c.in_default.ensures.asked)
+    (λ before after both.
+    taken-stands c.args.model.now (λ records. go c.args.turns records c.args.plain) (λ records. go (suc later) records c.loop-turn.plain)
+    (behind_head c.args.heads before) c.ask.new.self c.args.text.now c.loop-turn.text before after both.0)
+
+pub returns-in-Ended-clause-tells : goal.returns-in-Ended-clause-tells
+returns-in-Ended-clause-tells g c =
+    let later = c.args.turns - (c.loop-turn._turn + 1) in
+    let left : c.args.turns - c.loop-turn._turn ≡ suc (c.args.turns - (c.loop-turn._turn + 1)) = omega arith in
+    let ended : Turns c.args.model.now c.loop-turn.plain c.ask.new.self.head c.turn-in-loop-turn.new.plain c.loop-turn.text c.turn-in-loop-turn.new.text (Ended c.in-Ended.how) =
+    rw (c.as_ref.ensures.value, c.in-Ended.is) at c.in_ok-took_input.ensures.turns in
+    Told-weaker (g.R.Source.left c.args.source.now) (g.R.Source.left c.ask.new.source)
+    (told-asked c.args.model.now (λ records. go c.args.turns records c.args.plain) (λ records. go (suc later) records c.loop-turn.plain) refl
+    (behind_head c.args.heads) c.loop-turn.heads c.ask.new.self c.args.text.now c.loop-turn.text
+    (g.R.Source.left c.args.source.now) (g.R.Source.left c.loop-turn.source) (g.R.Source.left c.ask.new.source)
+    (rw left at c.loop-turn.invariant.stands) c.in_default.ensures.asked)
+    (λ before after both.
+    tells-ended c.args.model.now (λ records. go c.args.turns records c.args.plain) later c.loop-turn.plain c.ask.new.self
+    (behind_head c.args.heads before) c.turn-in-loop-turn.new.plain c.in-Ended.how c.args.text.now c.loop-turn.text c.turn-in-loop-turn.new.text before after
+    both.0 c.in_default.ensures.ready both.1 ended)
+
+pub returns-in-Ended-clause-taken : goal.returns-in-Ended-clause-taken
+returns-in-Ended-clause-taken g c =
+    let later = c.args.turns - (c.loop-turn._turn + 1) in
+    let left : c.args.turns - c.loop-turn._turn ≡ suc (c.args.turns - (c.loop-turn._turn + 1)) = omega arith in
+    Told-weaker (g.R.Source.left c.args.source.now) (g.R.Source.left c.ask.new.source)
+    (told-asked c.args.model.now (λ records. go c.args.turns records c.args.plain) (λ records. go (suc later) records c.loop-turn.plain) refl
+    (behind_head c.args.heads) c.loop-turn.heads c.ask.new.self c.args.text.now c.loop-turn.text
+    (g.R.Source.left c.args.source.now) (g.R.Source.left c.loop-turn.source) (g.R.Source.left c.ask.new.source)
+    (rw left at c.loop-turn.invariant.stands) c.in_default.ensures.asked)
+    (λ before after both.
+    taken-stands c.args.model.now (λ records. go c.args.turns records c.args.plain) (λ records. go (suc later) records c.loop-turn.plain)
+    (behind_head c.args.heads before) c.ask.new.self c.args.text.now c.loop-turn.text before after both.0)
+
+pub loop-turn-preserved : goal.loop-turn-preserved
+loop-turn-preserved g c =
+    let later = c.args.turns - (c.loop-turn._turn + 1) in
+    let left : c.args.turns - c.loop-turn._turn ≡ suc (c.args.turns - (c.loop-turn._turn + 1)) = omega arith in
+    let took = c.in-Turned.took_input in
+    let turned : Turns c.args.model.now c.loop-turn.plain c.ask.new.self.head c.turn-in-loop-turn.new.plain c.loop-turn.text c.turn-in-loop-turn.new.text (Turned c.in-Turned.took_input) =
+    rw (c.as_ref.ensures.value, c.in-Turned.is) at c.in_ok-took_input.ensures.turns in
+    let next : IsNext c.loop-turn.plain c.turn-in-loop-turn.new.plain = rw c.in-Turned.is at c.in_ok-took_input.ensures.readies in
+    let heads : c.pass.new.self ≡ passed c.ask.new.self c.in-Turned.took_input = c.pass.ensures in
+    record {
+      stands = subst (λ heads. Told (g.R.Source.left c.args.source.now) (g.R.Source.left c.ask.new.source) (λ before.
+          Stands c.args.model.now (λ records. go c.args.turns records c.args.plain) (λ records. go later records c.turn-in-loop-turn.new.plain)
+          (behind_head c.args.heads before) heads c.args.text.now c.turn-in-loop-turn.new.text before)) (sym heads)
+          (Told-weaker (g.R.Source.left c.args.source.now) (g.R.Source.left c.ask.new.source)
+          (told-asked c.args.model.now (λ records. go c.args.turns records c.args.plain) (λ records. go (suc later) records c.loop-turn.plain) refl
+          (behind_head c.args.heads) c.loop-turn.heads c.ask.new.self c.args.text.now c.loop-turn.text
+          (g.R.Source.left c.args.source.now) (g.R.Source.left c.loop-turn.source) (g.R.Source.left c.ask.new.source)
+          (rw left at c.loop-turn.invariant.stands) c.in_default.ensures.asked)
+          (λ before after both.
+          stands-turned c.args.model.now (λ records. go c.args.turns records c.args.plain) later c.loop-turn.plain c.ask.new.self
+          (behind_head c.args.heads before) c.turn-in-loop-turn.new.plain took c.args.text.now c.loop-turn.text c.turn-in-loop-turn.new.text before after
+          both.0 both.1 turned));
+      ready = subst (λ heads. IsReady heads.reader) (sym heads) c.in_default.ensures.ready;
+      early = subst (λ heads. IfSome heads.head (λ arrival. arrival.time < 2 ^ 63)) (sym heads)
+          (early-passed took c.ask.new.self.head (λ arrival. arrival.time < 2 ^ 63) c.in_default.ensures.early);
+      ports = ap (λ heads. heads.ports) heads ∙ c.in_default.ensures.ports ∙ c.loop-turn.invariant.ports;
+      model = next.same ∙ c.loop-turn.invariant.model;
+      fresh = next.fresh;
+      bounded = omega (arith, next.counted, c.loop-turn.invariant.bounded);
+      counted = omega (arith, c.loop-turn.invariant.counted, c.in_default.ensures.counted);
+      idle = λ is. absurd (omega (arith, is));
+    }
+
+pub returns-clause-tells : goal.returns-clause-tells
+returns-clause-tells g c =
+    let done : c.args.turns - c.loop-turn._turn ≡ 0 = omega arith in
+    let plain = c.loop-turn.plain in
+    let finished = c.in_ok-finish.ensures in
+    Told-weaker (g.R.Source.left c.args.source.now) (g.R.Source.left c.loop-turn.source) (rw done at c.loop-turn.invariant.stands)
+    (λ before after stands.
+    tells-bound c.args.model.now (λ records. go c.args.turns records c.args.plain) (λ records. go zero records plain)
+    (behind_head c.args.heads before) c.loop-turn.heads c.in_ok-finish.field-0 c.args.text.now c.loop-turn.text c.finish.new.text before after stands
+    c.loop-turn.invariant.ready
+    (λ records.
+    Tells-ended c.args.model.now (go zero records plain) c.in_ok-finish.field-0 plain.turn plain.time c.loop-turn.text c.finish.new.text
+    (ap (λ how. ended how plain.turn plain.time) (sym finished.0))
+    (finished.1
+    ∙ ap (λ how. c.loop-turn.text ++ end_text how c.turn-2.result c.time-2.result) (sym finished.0)
+    ∙ ap (λ turns. c.loop-turn.text ++ end_text c.in_ok-finish.field-0 turns c.time-2.result) c.turn-2.ensures
+    ∙ ap (λ time. c.loop-turn.text ++ end_text c.in_ok-finish.field-0 plain.turn time) c.time-2.ensures)))

@@ -1,0 +1,82 @@
+use Rattle.std.proofs.Common.{◌≡◌, ◌++◌, ap, subst, sym, ◌∙◌}
+use Rattle.std.proofs.lemmas.Result.{IfOk-weaker}
+use Rattle.dsde_input.specs.Record.{ArePorts}
+use Rattle.dsde_sim.specs.Text.{end_text, trace_text}
+use Rattle.dsde_sim.specs.Turn.{start}
+use Rattle.dsde_run.specs.Heads.{behind_head, at_start}
+use Rattle.dsde_run.specs.Reading.{Told, TakesWanted, IsCutShort}
+use Rattle.dsde_run.specs.Run.{run, go, records_in, ended}
+use Rattle.dsde_run.specs.Steps.{Tells}
+use Rattle.dsde_run.proofs.Cutting.{IsFront-cut}
+use Rattle.dsde_run.proofs.Ports.{are_ports}
+use Rattle.dsde_run.proofs.RunLemmas.{Tells-behind, Tells-faulted, run-faulted}
+use Rattle.dsde_run.proofs.Standing.{Told-weaker}
+use Rattle.dsde_run.proofs.Starting.{GoesOn-start, IsCutShort-behind, TakesWanted-behind, IfSome-told, IfSome-always}
+use Rattle.dsde_run.proofs.run.run_model.Goals as goal
+
+pub go-requires-clause-ports : goal.go-requires-clause-ports
+go-requires-clause-ports g c =
+    subst (λ heads. ArePorts heads.ports) (sym c.in_ok-new-in-Ok.ensures) (are_ports c.args.model.now c.requires.form c.requires.ports)
+
+pub returns-in-Ok-clause-tells : goal.returns-in-Ok-clause-tells
+returns-in-Ok-clause-tells g c =
+    let written = c.in_ok-write_events.ensures ∙ ap (λ events. c.args.text.now ++ trace_text c.args.model.now events) c.as_slice.ensures in
+    IfOk-weaker c.go.result _ _
+    (λ answer told.
+    IfSome-told (g.R.Source.left c.args.source.now) (g.R.Source.left c.go.new.source) told
+    (λ before after tells.
+    Tells-behind c.args.model.now (run c.args.model.now (records_in c.args.model.now before) c.args.turns)
+    (go c.args.turns (records_in c.args.model.now before) c.in-Ok.plain) answer c.args.text.now c.write_events.new.text c.go.new.text
+    (GoesOn-start c.args.model.now c.args.turns c.in-Ok.plain c.new-events.result c.start-started.new.events c.args.text.now c.write_events.new.text
+    c.new-events.ensures c.in-Ok.ensures written (records_in c.args.model.now before))
+    (subst (λ heads. Tells c.args.model.now (go c.args.turns (behind_head heads before) c.in-Ok.plain) c.write_events.new.text c.go.new.text answer)
+    c.in_ok-new-in-Ok.ensures tells)))
+    c.go.ensures.tells
+
+pub returns-in-Ok-clause-cut : goal.returns-in-Ok-clause-cut
+returns-in-Ok-clause-cut g c = λ is.
+    let written = c.in_ok-write_events.ensures ∙ ap (λ events. c.args.text.now ++ trace_text c.args.model.now events) c.as_slice.ensures in
+    Told-weaker (g.R.Source.left c.args.source.now) (g.R.Source.left c.go.new.source) (c.go.ensures.cut is)
+    (λ before after short.
+    IsCutShort-behind c.args.model.now (λ records. run c.args.model.now records c.args.turns) (λ records. go c.args.turns records c.in-Ok.plain)
+    (records_in c.args.model.now before) c.args.text.now c.write_events.new.text c.go.new.text before after
+    (GoesOn-start c.args.model.now c.args.turns c.in-Ok.plain c.new-events.result c.start-started.new.events c.args.text.now c.write_events.new.text
+    c.new-events.ensures c.in-Ok.ensures written)
+    (subst (λ heads. IsCutShort c.args.model.now (λ records. go c.args.turns records c.in-Ok.plain) (behind_head heads before) c.write_events.new.text c.go.new.text before after)
+    c.in_ok-new-in-Ok.ensures short))
+
+pub returns-in-Ok-clause-front : goal.returns-in-Ok-clause-front
+returns-in-Ok-clause-front g c = λ is.
+    let written = c.in_ok-write_events.ensures ∙ ap (λ events. c.args.text.now ++ trace_text c.args.model.now events) c.as_slice.ensures in
+    IfSome-told (g.R.Source.left c.args.source.now) (g.R.Source.left c.go.new.source) (c.go.ensures.cut is)
+    (λ before after short.
+    IsFront-cut c.args.model.now c.args.turns (records_in c.args.model.now before) c.args.text.now c.go.new.text before after
+    (IsCutShort-behind c.args.model.now (λ records. run c.args.model.now records c.args.turns) (λ records. go c.args.turns records c.in-Ok.plain)
+    (records_in c.args.model.now before) c.args.text.now c.write_events.new.text c.go.new.text before after
+    (GoesOn-start c.args.model.now c.args.turns c.in-Ok.plain c.new-events.result c.start-started.new.events c.args.text.now c.write_events.new.text
+    c.new-events.ensures c.in-Ok.ensures written)
+    (subst (λ heads. IsCutShort c.args.model.now (λ records. go c.args.turns records c.in-Ok.plain) (behind_head heads before) c.write_events.new.text c.go.new.text before after)
+    c.in_ok-new-in-Ok.ensures short)))
+
+pub returns-in-Ok-clause-taken : goal.returns-in-Ok-clause-taken
+returns-in-Ok-clause-taken g c =
+    let written = c.in_ok-write_events.ensures ∙ ap (λ events. c.args.text.now ++ trace_text c.args.model.now events) c.as_slice.ensures in
+    Told-weaker (g.R.Source.left c.args.source.now) (g.R.Source.left c.go.new.source) c.go.ensures.taken
+    (λ before after takes.
+    TakesWanted-behind c.args.model.now (λ records. run c.args.model.now records c.args.turns) (λ records. go c.args.turns records c.in-Ok.plain)
+    (records_in c.args.model.now before) c.args.text.now c.write_events.new.text before after
+    (GoesOn-start c.args.model.now c.args.turns c.in-Ok.plain c.new-events.result c.start-started.new.events c.args.text.now c.write_events.new.text
+    c.new-events.ensures c.in-Ok.ensures written)
+    (subst (λ heads. TakesWanted (λ records. go c.args.turns records c.in-Ok.plain) (behind_head heads before) before after) c.in_ok-new-in-Ok.ensures takes))
+
+pub returns-clause-tells : goal.returns-clause-tells
+returns-clause-tells g c =
+    let finished = c.in_ok-finish-in-Err.ensures in
+    IfSome-always (g.R.Source.left c.args.source.now) _
+    (λ bytes.
+    Tells-faulted c.args.model.now (start c.args.model.now) (run c.args.model.now (records_in c.args.model.now bytes) c.args.turns) c.in-Err.end c.in_ok-finish-in-Err.field-0 0 0
+    c.new-events.result c.start-started.new.events c.args.text.now c.write_events.new.text c.finish.new.text
+    (run-faulted c.args.model.now (records_in c.args.model.now bytes) c.args.turns c.in-Err.end) c.new-events.ensures c.in-Err.ensures
+    (c.in_ok-finish_of-in-Err.ensures 0 0 ∙ ap (λ how. ended how 0 0) (sym finished.0))
+    (c.in_ok-write_events.ensures ∙ ap (λ events. c.args.text.now ++ trace_text c.args.model.now events) c.as_slice.ensures)
+    (finished.1 ∙ ap (λ how. c.write_events.new.text ++ end_text how 0 0) (sym finished.0)))

@@ -1,0 +1,67 @@
+-- The head of an input, as a run asks for it.
+use Rattle.std.specs.Prelude.{ℕ, ◌≡◌, ◌≢◌, true, false, List, [], ◌++◌, Option, Some, None, if◌then◌else◌, Bool}
+use Rattle.dsde_first.specs.declared.first.FirstModel.{FirstModel}
+use Rattle.dsde_values.specs.declared.arrival.Arrival.{Arrival}
+use Rattle.dsde_input.specs.declared.end.InputEnd.{InputEnd}
+use Rattle.dsde_input.specs.declared.end.InputEnd.TheVariants.{ReadFault}
+use Rattle.dsde_input.specs.Records.{Records, end, bad, one}
+use Rattle.dsde_input.specs.Reader.{Reader, fresh, to_come, records, IsOffence}
+use Rattle.dsde_run.specs.declared.heads.Heads.{Heads}
+use Rattle.dsde_run.specs.Reading.{feeds, front}
+use Rattle.dsde_run.specs.Run.{ports_of, no_types}
+
+-- at the start of an input to a model
+abbrev pub at_start : FirstModel → Heads
+at_start model = record { reader = fresh; ports = ports_of model; types = no_types; head = None }
+
+-- No byte of a line is held, and no offence was answered.
+pub record IsReady (reader : Reader) : Type 0 where
+  pub empty : reader.held ≡ []
+  pub lawful : reader.offence ≡ None
+
+-- a head, if there is one, and then records
+abbrev pub with_head : Option Arrival → Records → Records
+with_head None later = later
+with_head (Some head) later = one head later
+
+-- the records to come behind the head
+abbrev pub behind_head : Heads → List ℕ → Records
+behind_head heads left = records heads.ports heads.types heads.reader (to_come heads.reader left)
+
+-- The bytes taken are of one line, and none is taken where the input's end was seen.
+pub record Takes (reader : Reader) (before after : List ℕ) : Type 0 where
+  pub piece : List ℕ
+  pub split : before ≡ piece ++ after
+  pub one_line : feeds (front piece) ≡ 0
+  pub unended : piece ≢ [] → reader.ended ≡ false
+
+-- A record came.
+pub record Gives (old new : Heads) (arrival : Arrival) (before after : List ℕ) : Type 0 where
+  pub takes : Takes old.reader before after
+  pub first : behind_head old before ≡ one arrival (behind_head new after)
+  pub unended : old.reader.ended ≡ false
+  pub whole : new.reader.ended ≡ false → feeds takes.piece ≡ 1
+
+-- The input is at its end.
+pub record Ends (old new : Heads) (before after : List ℕ) : Type 0 where
+  pub takes : Takes old.reader before after
+  pub before_end : behind_head old before ≡ end
+  pub at_end : behind_head new after ≡ end
+  pub over : new.reader.ended ≡ true
+
+-- The head that was asked for is there, or the input is at its end.
+abbrev pub Asked : Option Arrival → Option Arrival → Heads → Heads → List ℕ → List ℕ → Type 0
+Asked (Some head) found old new before after = (new ≡ old) × (after ≡ before)
+Asked None (Some arrival) old new before after = Gives old new arrival before after
+Asked None None old new before after = Ends old new before after
+
+-- The head that was asked for is no record, or is not there.
+pub record Refused (old : Heads) (why : InputEnd) (before after : List ℕ) : Type 0 where
+  pub takes : Takes old.reader before after
+  pub none : old.head ≡ None
+  pub offence : IsOffence why → (old.reader.ended ≡ false) × (behind_head old before ≡ bad why)
+  pub unread : why ≡ ReadFault → (old.reader.ended ≡ false) × (feeds takes.piece ≡ 0)
+
+-- the head behind a turn that took it or left it
+abbrev pub passed : Heads → Bool → Heads
+passed heads took_input = record heads { head = if took_input then None else heads.head }

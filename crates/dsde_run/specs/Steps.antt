@@ -1,0 +1,67 @@
+-- What the functions that run a model append, and answer.
+use Rattle.std.specs.Prelude.{ℕ, suc, ◌+◌, ◌≡◌, ◌≢◌, true, false, Bool, List, [], ◌∷◌, ◌++◌, length, Option, Some, None}
+use Rattle.dsde_first.specs.declared.first.FirstModel.{FirstModel}
+use Rattle.dsde_values.specs.declared.arrival.Arrival.{Arrival}
+use Rattle.dsde_input.specs.declared.end.InputEnd.{InputEnd}
+use Rattle.dsde_input.specs.Reader.{IsOffence}
+use Rattle.dsde_input.specs.Records.{Records, end, one}
+use Rattle.dsde_sim.specs.declared.event.Finish.{Finish}
+use Rattle.dsde_sim.specs.Engine.{Engine}
+use Rattle.dsde_sim.specs.Text.{trace_text, end_text}
+use Rattle.dsde_run.specs.declared.heads.Heads.{Heads}
+use Rattle.dsde_run.specs.declared.run.After.{After}
+use Rattle.dsde_run.specs.declared.run.After.TheVariants.{Turned, Ended}
+use Rattle.dsde_run.specs.Heads.{with_head, behind_head}
+use Rattle.dsde_run.specs.Reading.{feeds, front, cut_after}
+use Rattle.dsde_run.specs.Run.{Run, turn_on, offended, ended}
+
+-- The text gained the run's trace, and the answer is how the run ended.
+pub record Tells (model : FirstModel) (run : Run) (old new : List ℕ) (how : Finish) : Type 0 where
+  pub text : new ≡ old ++ trace_text model run.events
+  pub end : run.end ≡ Some how
+
+-- The text gained what a run tells before the rest of it.
+pub record GoesOn (model : FirstModel) (whole rest : Run) (old new : List ℕ) : Type 0 where
+  pub text : old ++ trace_text model whole.events ≡ new ++ trace_text model rest.events
+  pub end : whole.end ≡ rest.end
+
+-- One turn is done, or the run ended with it, whatever comes later.
+abbrev pub Turns : FirstModel → Engine → Option Arrival → Engine → List ℕ → List ℕ → After → Type 0
+Turns model before head after old new (Turned took_input) =
+    (later : Bool → Engine → Run) → GoesOn model (turn_on before head later) (later took_input after) old new
+Turns model before head after old new (Ended how) =
+    (later : Bool → Engine → Run) → Tells model (turn_on before head later) old new how
+
+-- An engine is ready for the turn behind that of this engine.
+pub record IsNext (before after : Engine) : Type 0 where
+  pub fresh : after.spent ≡ false
+  pub counted : after.turn ≡ before.turn + 1
+  pub same : after.model ≡ before.model
+
+-- The engine is ready for a turn more where the run goes on.
+abbrev pub Readies : Engine → Engine → After → Type 0
+Readies before after (Turned took_input) = IsNext before after
+Readies before after (Ended how) = Unit {0}
+
+-- The text gained the last line of a run that wants a line which is no record.
+pub record Stops (why : InputEnd) (turns time : ℕ) (old new : List ℕ) (how : Finish) : Type 0 where
+  pub is : IsOffence why
+  pub end : offended why turns time ≡ ended how turns time
+  pub text : new ≡ old ++ end_text how turns time
+
+-- some records, and then more
+abbrev pub ahead : List Arrival → Records → Records
+ahead [] later = later
+ahead (first ∷ given) later = one first (ahead given later)
+
+-- A run stands before a turn: with the records that were given, what it tells is what was
+-- written, and then what is left of it, whatever records follow.
+pub record Stands (model : FirstModel) (tells rest : Records → Run) (all : Records) (heads : Heads) (old new : List ℕ) (before after : List ℕ) : Type 0 where
+  pub given : List Arrival
+  pub taken : List ℕ
+  pub split : before ≡ taken ++ after
+  pub known : all ≡ ahead given (behind_head heads after)
+  pub whole : heads.reader.ended ≡ false → feeds taken ≡ length given
+  pub wanted : taken ≢ [] → (tells (cut_after (feeds (front taken)) all)).end ≡ None
+  pub goes : (later : Records) → (heads.reader.ended ≡ true → later ≡ end)
+      → GoesOn model (tells (ahead given later)) (rest (with_head heads.head later)) old new

@@ -1,0 +1,213 @@
+ghost use Rattle.std.specs.Prelude.{ℕ, ◌≡◌, ◌+◌, ◌<◌, ◌≤◌, ◌^◌, ◌++◌, false, unwrap_or, OnOk, IfOk, IfSome, IsErrOf};
+ghost use Rattle.std.specs.Option.{option_copied};
+ghost use Rattle.dsde_io.specs.Fault.{Rose};
+ghost use Rattle.dsde_input.specs.Record.{ArePorts};
+ghost use Rattle.dsde_sim.specs.Engine.{HasFewPorts};
+ghost use Rattle.dsde_sim.specs.Text.{end_text, trace_text};
+ghost use Rattle.dsde_first.specs.First.{IsFirst};
+ghost use Rattle.dsde_run.specs.Heads.{IsReady, behind_head};
+ghost use Rattle.dsde_run.specs.Reading.{Told, TakesWanted, IsCutShort, IsFront};
+ghost use Rattle.dsde_run.specs.Run.{run, go, faulted, ended, records_in};
+ghost use Rattle.dsde_run.specs.Steps.{Tells, Turns, Readies, Stops};
+
+use crate::heads::Heads;
+use dsde_first::FirstModel;
+use dsde_input::InputEnd;
+use dsde_io::Source;
+use dsde_sim::{Event, Fault, Finish, InputKind, Plain, Step, TurnEnd, write_end, write_event};
+use dsde_values::{Arrival, Memory, Seq, Text};
+use std::alloc::Global;
+
+/// Why a run is cut short.
+#[derive(Clone, Copy, Debug, PartialEq, Eq)]
+pub enum Cut {
+    /// A read of the input failed.
+    ReadFault,
+    Memory,
+}
+
+impl From<Memory> for Cut {
+    ghost use Rattle.std.specs.Prelude.{◌≡◌};
+    ghost use Rattle.dsde_run.specs.declared.run.Cut.TheVariants as cut;
+
+    ghost from_gives = { λ _ why. why ≡ cut.Memory };
+
+    fn from(_: Memory) -> Cut {
+        Cut::Memory
+    }
+}
+
+/// What a turn comes to.
+enum After {
+    /// The run goes on. `took_input` says whether the head of the input was taken.
+    Turned { took_input: bool },
+    /// The run has ended, and its last line is written.
+    Ended(Finish),
+}
+
+/// Runs a model on an input for at most this many turns, and appends the text of its trace.
+///
+/// Answers how the run ended, whose line is the last. `ReadFault` comes where a read failed before
+/// all was there of a line that a turn wants: then the lines before that turn were appended.
+/// Without memory some of the text was appended. No byte of the input is taken that no turn wants.
+pub fn run_model<R: Source>(
+    alloc: Global,
+    model: &FirstModel,
+    turns: u64,
+    source: &mut R,
+    text: &mut Text,
+) -> Result<Finish, Cut>
+    requires form { IsFirst model.now }
+    requires ports { HasFewPorts model.now }
+    requires turns { turns < 2 ^ 63 }
+
+    // Where the source tells its bytes.
+    ensures tells { IfOk result (λ how. IfSome (R.left source.old) (λ bytes.
+        Tells model.now (run model.now (records_in model.now bytes) turns) text.old text.new how)) }
+    ensures cut { IsErrOf result Cut.ReadFault → Told (R.left source.old) (R.left source.new) (λ before.
+        IsCutShort model.now (λ records. run model.now records turns) (records_in model.now before) text.old text.new before) }
+    ensures front { IsErrOf result Cut.ReadFault → IfSome (R.left source.old) (λ bytes.
+        IsFront text.old text.new (trace_text model.now (run model.now (records_in model.now bytes) turns).events)) }
+    ensures taken { Told (R.left source.old) (R.left source.new) (λ before.
+        TakesWanted (λ records. run model.now records turns) (records_in model.now before) before) }
+
+    ensures cause { IsErrOf result Cut.ReadFault → Rose (R.faults source.old) (R.faults source.new) }
+    ensures counted { R.faults source.old ≤ R.faults source.new }
+    ensures idle { turns ≡ 0 → source.new ≡ source.old }
+{
+    let mut events = Seq::new(alloc);
+    let started = Plain::start(alloc, model, &mut events);
+    write_events(events.as_slice(), model, text)?;
+    match started {
+        Ok(plain) => go(
+            alloc,
+            plain,
+            Heads::new(alloc, model)?,
+            model,
+            turns,
+            source,
+            text,
+        ),
+        Err(end) => Ok(finish(finish_of(end)?, 0, 0, text)?),
+    }
+}
+
+fn go<R: Source>(
+    alloc: Global,
+    mut plain: Plain<'_>,
+    mut heads: Heads,
+    model: &FirstModel,
+    turns: u64,
+    source: &mut R,
+    text: &mut Text,
+) -> Result<Finish, Cut>
+    requires model { plain.model ≡ model.now }
+    requires fresh { plain.spent ≡ false }
+    requires bounded { plain.turn + turns < 2 ^ 63 }
+    requires ports { ArePorts heads.ports }
+    requires ready { IsReady heads.reader }
+    requires unasked { heads.head ≡ None }
+
+    ensures tells { IfOk result (λ how. Told (R.left source.old) (R.left source.new) (λ before _.
+        Tells model.now (go turns (behind_head heads before) plain.entry) text.old text.new how)) }
+    ensures cut { IsErrOf result Cut.ReadFault → Told (R.left source.old) (R.left source.new) (λ before.
+        IsCutShort model.now (λ records. go turns records plain.entry) (behind_head heads before) text.old text.new before) }
+    ensures taken { Told (R.left source.old) (R.left source.new) (λ before.
+        TakesWanted (λ records. go turns records plain.entry) (behind_head heads before) before) }
+
+    ensures cause { IsErrOf result Cut.ReadFault → Rose (R.faults source.old) (R.faults source.new) }
+    ensures counted { R.faults source.old ≤ R.faults source.new }
+    ensures idle { turns ≡ 0 → source.new ≡ source.old }
+{
+    for _turn in 0..turns {
+        if let Err(why) = heads.ask(source) {
+            return stop(why, plain.turn(), plain.time(), text);
+        }
+        match turn(alloc, &mut plain, heads.head.as_ref(), model, text)? {
+            After::Turned { took_input } => heads.pass(took_input),
+            After::Ended(how) => return Ok(how),
+        }
+    }
+    Ok(finish(Finish::Bound, plain.turn(), plain.time(), text)?)
+}
+
+/// Takes one turn with this head of the input.
+fn turn(
+    alloc: Global,
+    plain: &mut Plain<'_>,
+    head: Option<&Arrival>,
+    model: &FirstModel,
+    text: &mut Text,
+) -> Result<After, Memory>
+    requires model { plain.old.model ≡ model.now }
+    requires fresh { plain.old.spent ≡ false }
+    requires turns { plain.old.turn < 2 ^ 63 }
+    requires head { IfSome (option_copied head) (λ arrival. arrival.time < 2 ^ 63) }
+    ensures turns { IfOk result (Turns model.now plain.old (option_copied head.entry) plain.new text.old text.new) }
+    ensures readies { IfOk result (Readies plain.old plain.new) }
+{
+    let done = plain.turn();
+    let last = plain.time();
+    let time = plain.turn_time(head).unwrap_or(last);
+    let mut events = Seq::new(alloc);
+    let step = plain.advance(head, &mut events);
+    write_events(events.as_slice(), model, text)?;
+    match step {
+        Ok(Step::Turned { took_input }) => Ok(After::Turned { took_input }),
+        Ok(Step::Quiet) => Ok(After::Ended(finish(Finish::Quiet, done, last, text)?)),
+        Err(end) => Ok(After::Ended(finish(finish_of(end)?, done + 1, time, text)?)),
+    }
+}
+
+/// How a run ends whose start or turn did not come to its end. Models keep no places yet.
+fn finish_of(end: TurnEnd) -> Result<Finish, Memory>
+    ensures { IfOk result (λ how. (turns time : ℕ) → faulted end turns time ≡ ended how turns time) }
+{
+    match end {
+        TurnEnd::Memory => Err(Memory),
+        TurnEnd::Fault {
+            path,
+            site,
+            kind,
+            ..
+        } => Ok(Finish::Fault(Fault {
+            path,
+            site,
+            kind,
+            line: 0,
+            column: 0,
+        })),
+    }
+}
+
+/// Ends a run that wants a head which is no record, or which is not there.
+fn stop(why: InputEnd, turns: u64, time: u64, text: &mut Text) -> Result<Finish, Cut>
+    ensures ok { IfOk result (Stops why turns time text.old text.new) }
+    ensures cut { IsErrOf result Cut.ReadFault → (why ≡ InputEnd.ReadFault) × (text.new ≡ text.old) }
+{
+    let (kind, line) = match why {
+        InputEnd::BadLine(line) => (InputKind::BadLine, line),
+        InputEnd::Backwards(line) => (InputKind::Backwards, line),
+        InputEnd::LineTooLong(line) => (InputKind::LineTooLong, line),
+        InputEnd::ReadFault => return Err(Cut::ReadFault),
+        InputEnd::Memory => return Err(Cut::Memory),
+    };
+    Ok(finish(Finish::Input { kind, line }, turns, time, text)?)
+}
+
+/// Appends the last line of a trace, and hands back how the run ended.
+fn finish(how: Finish, turns: u64, time: u64, text: &mut Text) -> Result<Finish, Memory>
+    ensures { IfOk result (λ answer. (answer ≡ how) × (text.new ≡ text.old ++ end_text how turns time)) }
+{
+    write_end(&how, turns, time, text)?;
+    Ok(how)
+}
+
+fn write_events(events: &[Event], model: &FirstModel, text: &mut Text) -> Result<(), Memory>
+    ensures { OnOk result (text.new ≡ text.old ++ trace_text model.now events.now) }
+{
+    for event in events {
+        write_event(event, model, text)?;
+    }
+    Ok(())
+}
