@@ -1,2 +1,5 @@
+pub mod Names
 pub mod Numbers
+pub mod Orders
+pub mod Pieces
 pub mod Spelled

@@ -16,7 +16,7 @@ use Rattle.dsde_values.specs.Word.{is_word_byte, begins_word, ends_word, Begins}
 use Rattle.dsde_values.specs.Value.{number_size}
 
 -- a digit may stand in a word
-is_word_byte-digit : (byte : ℕ) → digit_value byte < 10 → is_word_byte byte ≡ true
+pub is_word_byte-digit : (byte : ℕ) → digit_value byte < 10 → is_word_byte byte ≡ true
 is_word_byte-digit byte small = let here = digit_from_value byte small in grind (arith, nat_tests)
 
 -- digits, and then no word

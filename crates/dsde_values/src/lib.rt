@@ -4,18 +4,21 @@
 
 mod arrival;
 mod decimal;
+mod laws;
 mod name;
 mod path;
 mod spelling;
 mod types;
 mod value;
 mod when;
+mod word;
 
 pub use arrival::{Arrival, Item};
 pub use decimal::decimal_of;
 pub use dsde_lists::{Boxed, Memory, Seq, Text};
-pub use name::Name;
-pub use path::{Path, write_path};
+pub use laws::orders_are_total;
+pub use name::{Name, compare_names};
+pub use path::{Path, ReadPath, compare_paths, read_path, write_path};
 pub use spelling::{ReadValue, read_value, write_value};
 pub use types::{Def, Field, Shape, Ty, Types};
 pub use value::{Value, Values};

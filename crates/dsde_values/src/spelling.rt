@@ -1,12 +1,12 @@
 ghost use Rattle.std.specs.Prelude.{◌≡◌, ◌≤◌, ◌++◌, ℤ, length, FitsSigned, IfOk, OnOk, OnErr, IsErrOf, IfSome, IfNone};
 ghost use Rattle.std.specs.Int.{w64};
-ghost use Rattle.std.specs.List.{take_while};
 ghost use Rattle.std.specs.Fmt.{signed_decimal};
 ghost use Rattle.dsde_values.specs.declared.value.Value.{Value};
-ghost use Rattle.dsde_values.specs.Word.{is_word_byte, Begins};
+ghost use Rattle.dsde_values.specs.Word.{Begins};
 ghost use Rattle.dsde_values.specs.Value.{HasType, spelling, number_size};
 
 use crate::decimal::signed_decimal_of;
+use crate::word::word_size;
 use crate::{Ty, Types, Value};
 use dsde_lists::{Memory, Text};
 use itoa::Buffer;
@@ -78,21 +78,6 @@ fn number_size(bytes: &[u8]) -> usize
         [b'-', digits @ ..] => 1 + word_size(digits),
         _ => word_size(bytes),
     }
-}
-
-/// How many letters, digits and `_` the bytes begin with.
-fn word_size(bytes: &[u8]) -> usize
-    ensures size { result ≡ length (take_while is_word_byte bytes.now) }
-    ensures within { result ≤ length bytes.now }
-{
-    bytes.iter().take_while(|byte| is_word_byte(**byte)).count()
-}
-
-/// Whether a byte is a letter, a digit or `_`.
-fn is_word_byte(byte: u8) -> bool
-    ensures { result ≡ is_word_byte byte }
-{
-    byte.is_ascii_alphanumeric() || byte == b'_'
 }
 
 #[cfg(test)]
