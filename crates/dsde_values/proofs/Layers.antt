@@ -19,27 +19,35 @@ use Rattle.dsde_values.specs.Value.{name_at, variants_at, fields_at, joined, fie
 
 module _ (types : Types) where
   pub spelling-Int : (number : ℤ) → spelling types (value.Int number) ≡ signed_decimal number
+  unfolding spelling
   spelling-Int number = ap (spelling types) (sym (rolls-Int number)) ∙ fold-roll-Value (List ℕ) (spelling_step types) (layer.Int number)
 
   pub spelling-true : spelling types (value.Bool true) ≡ codes "true"
+  unfolding spelling
   spelling-true = ap (spelling types) (sym (rolls-Bool true)) ∙ fold-roll-Value (List ℕ) (spelling_step types) (layer.Bool true)
 
   pub spelling-false : spelling types (value.Bool false) ≡ codes "false"
+  unfolding spelling
   spelling-false = ap (spelling types) (sym (rolls-Bool false)) ∙ fold-roll-Value (List ℕ) (spelling_step types) (layer.Bool false)
 
   pub spelling-Enum : (number variant : ℕ) → spelling types (value.Enum number variant) ≡ name_at types number ++ codes "::" ++ slice_index_or (variants_at types number) variant []
+  unfolding spelling
   spelling-Enum number variant = ap (spelling types) (sym (rolls-Enum number variant)) ∙ fold-roll-Value (List ℕ) (spelling_step types) (layer.Enum number variant)
 
   pub spelling-Rec : (number : ℕ) (parts : List Value) → spelling types (value.Rec number parts) ≡ name_at types number ++ codes "{" ++ joined (field_texts (unwrap_or (fields_at types number) []) (map (spelling types) parts)) ++ codes "}"
+  unfolding spelling
   spelling-Rec number parts = ap (spelling types) (sym (rolls-Rec number parts)) ∙ fold-roll-Value (List ℕ) (spelling_step types) (layer.Rec number parts)
 
   pub spelling-List : (items : List Value) → spelling types (value.List items) ≡ codes "[" ++ joined (map (spelling types) items) ++ codes "]"
+  unfolding spelling
   spelling-List items = ap (spelling types) (sym (rolls-List items)) ∙ fold-roll-Value (List ℕ) (spelling_step types) (layer.List items)
 
   pub spelling-Nothing : spelling types value.Nothing ≡ codes "none"
+  unfolding spelling
   spelling-Nothing = ap (spelling types) (sym rolls-Nothing) ∙ fold-roll-Value (List ℕ) (spelling_step types) layer.Nothing
 
   pub spelling-Some : (inner : Value) → spelling types (value.Some inner) ≡ codes "some(" ++ spelling types inner ++ codes ")"
+  unfolding spelling
   spelling-Some inner = ap (spelling types) (sym (rolls-Some inner)) ∙ fold-roll-Value (List ℕ) (spelling_step types) (layer.Some inner)
 
   abbrev step : Value-F (Ty → Bool) → Ty → Bool
@@ -47,6 +55,7 @@ module _ (types : Types) where
 
   -- a layer's type, by the layer of the type
   pub typed : (v : Value) (made : Value-F Value) (t : Ty) (seen : Ty-F Ty) → roll-Value made ≡ v → out-Ty t ≡ seen → has_type types v t ≡ type_step types (map-Value Value (Ty → Bool) (has_type types) made) seen
+  unfolding has_type
   typed v made t seen rolls outs =
       ap (λ (w : Value). has_type types w t) (sym rolls)
       ∙ ap (λ (answers : Ty → Bool). answers t) (fold-roll-Value (Ty → Bool) step made)

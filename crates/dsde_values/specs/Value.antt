@@ -60,7 +60,7 @@ spelling_step types layer.Nothing = codes "none"
 spelling_step types (layer.Some text) = codes "some(" ++ text ++ codes ")"
 
 -- the one text of a value
-abbrev pub spelling : Types → Value → List ℕ
+unfoldable pub spelling : Types → Value → List ℕ
 spelling types = fold-Value (List ℕ) (spelling_step types)
 
 -- whether a whole number has 64 signed bits
@@ -90,7 +90,7 @@ type_step types (layer.Some part) (open_ty.Opt inner) = part inner
 type_step types _ _ = false
 
 -- whether a value has a type
-abbrev pub has_type : Types → Value → Ty → Bool
+unfoldable pub has_type : Types → Value → Ty → Bool
 has_type types = fold-Value (Ty → Bool) (λ parts ty. type_step types parts (out-Ty ty))
 
 -- whole numbers of 64 signed bits

@@ -20,6 +20,7 @@ pub enum ReadValue {
 
 /// The value whose spelling begins the bytes, and how many bytes the spelling has. `NotAValue`
 /// comes exactly where no value of the type begins them. So far only whole numbers are read.
+#[tactic(auto, unfolding(crate::specs::Value::spelling))]
 pub fn read_value(
     _alloc: Global,
     bytes: &[u8],

@@ -23,7 +23,7 @@ pub fn write_value(value: &Value, types: &Types, text: &mut Text) -> Result<(), 
 }
 
 #[cycle(writing)]
-#[tactic(auto, using(crate::proofs::Layers::spelled))]
+#[tactic(auto, unfolding(crate::specs::Value::spelling))]
 fn append_value(value: &Value, types: &Types, text: &mut Text) -> Result<(), Memory>
     ensures ok { OnOk result (text.new ≡ text.old ++ spelling types.now value.now) }
     ensures grows { take (length text.old) text.new ≡ text.old }

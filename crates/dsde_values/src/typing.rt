@@ -21,7 +21,7 @@ pub fn has_type(value: &Value, ty: &Ty, types: &Types) -> bool
 
 /// Whether a value has a type.
 #[cycle(typing)]
-#[tactic(auto, using(crate::proofs::Layers::typings))]
+#[tactic(auto, using(crate::proofs::Layers::typings), unfolding(crate::specs::Value::has_type))]
 pub fn is_typed(value: &Value, ty: &Ty, types: &Types) -> bool
     ensures { result ≡ has_type types.now value.now ty.now }
 {
