@@ -1,8 +1,15 @@
+pub mod FieldReading
+pub mod Fronts
 pub mod Layers
+pub mod ListReading
 pub mod Names
 pub mod Numbers
 pub mod Orders
 pub mod Pieces
+pub mod ReadParts
 pub mod Spelled
 pub mod Typed
+pub mod ValueKinds
+pub mod ValueReading
+pub mod Variants
 pub mod Writing

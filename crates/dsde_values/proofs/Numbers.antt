@@ -77,7 +77,7 @@ behind_byte true byte bytes is behind = rw one-add behind
 behind_byte false byte bytes is behind = sym is
 
 -- No word is behind the longest word.
-begins_word-behind : (bytes : List ℕ) → begins_word (drop (prefix_len is_word_byte bytes) bytes) ≡ false
+pub begins_word-behind : (bytes : List ℕ) → begins_word (drop (prefix_len is_word_byte bytes) bytes) ≡ false
 begins_word-behind [] = refl
 begins_word-behind (byte ∷ bytes) = behind_byte (is_word_byte byte) byte bytes refl (begins_word-behind bytes)
 

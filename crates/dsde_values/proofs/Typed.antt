@@ -37,7 +37,7 @@ fill-apart types values fields apart =
     not_filled (fill (map (has_type types) values) fields)
     (λ h. apart (sym (length-map values (has_type types)) ∙ fill-lengths (map (has_type types) values) fields h))
 
-int_fits : (number : ℤ) → FitsSigned w64 number ↔ (fits_int number ≡ true)
+pub int_fits : (number : ℤ) → FitsSigned w64 number ↔ (fits_int number ≡ true)
 int_fits (pos n) = (λ fits. lt-ltb n (2 ^ 63) (omega (arith, fits.sfits)), λ e. record { sfits = ltb-true n (2 ^ 63) e })
 int_fits (negsuc n) = (λ fits. lt-ltb n (2 ^ 63) (omega (arith, fits.sfits)), λ e. record { sfits = ltb-true n (2 ^ 63) e })
 

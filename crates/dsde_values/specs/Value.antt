@@ -1,9 +1,11 @@
 -- Values, their types, and the one text of each.
-use Rattle.std.specs.Prelude.{◌≡◌, ◌≢◌, ℕ, ◌+◌, ◌^◌, ◌==◌, if◌then◌else◌, Bool, true, false, ◌&&◌, nat_lt, nat_le, ℤ, pos, negsuc, FitsSigned, IsTrue, Option, Some, None, unwrap_or, option_and_then, List, [], ◌∷◌, ◌++◌, length, drop, codes, slice_get, slice_index, slice_index_or}
+use Rattle.std.specs.Prelude.{◌≡◌, ℕ, ◌+◌, ◌^◌, ◌==◌, if◌then◌else◌, Bool, true, false, ◌&&◌, not, nat_lt, nat_le, ℤ, pos, negsuc, FitsSigned, IsTrue, Option, Some, None, unwrap_or, option_and_then, List, [], ◌∷◌, ◌++◌, length, drop, codes, slice_get, slice_index, slice_index_or}
 use Rattle.std.specs.Int.{w64}
-use Rattle.std.specs.List.{All, AllPairs, take_while, list_all, flat_map}
+use Rattle.std.specs.List.{take_while, list_all, list_any, flat_map}
+use Rattle.std.specs.Str.{bytes_eq}
 use Rattle.std.specs.Option.{option_map_or}
 use Rattle.std.specs.Fmt.{signed_decimal}
+use Rattle.dsde_values.specs.declared.types.Def.{Def}
 use Rattle.dsde_values.specs.declared.types.Field.{Field}
 use Rattle.dsde_values.specs.declared.types.Shape.{Shape}
 use Rattle.dsde_values.specs.declared.types.Shape.TheVariants as shape
@@ -107,8 +109,19 @@ HasType types value ty = IsTrue (has_type types value ty)
 abbrev pub number_size : List ℕ → ℕ
 number_size bytes = let sign = if slice_index bytes 0 == 45 then 1 else 0 in sign + length (take_while is_word_byte (drop sign bytes))
 
--- Definitions have identifiers as names, and so have an enum's variants, which differ.
-pub record IsLawful (types : Types) : Type 0 where
-  pub named : All (λ def. is_identifier def.name ≡ true) types.defs
-  pub variants_named : All (λ def. All (λ variant. is_identifier variant ≡ true) (variants def.shape)) types.defs
-  pub distinct : All (λ def. AllPairs (λ variant later. variant ≢ later) (variants def.shape)) types.defs
+-- No name stands twice.
+abbrev pub are_distinct : List (List ℕ) → Bool
+are_distinct [] = true
+are_distinct (name ∷ names) = not (list_any (λ other. bytes_eq other name) names) && are_distinct names
+
+-- An enum's variants are distinct identifiers.
+abbrev pub is_lawful_shape : Shape → Bool
+is_lawful_shape (shape.Enum names) = list_all is_identifier names && are_distinct names
+is_lawful_shape (shape.Rec _) = true
+
+abbrev pub is_lawful_def : Def → Bool
+is_lawful_def def = is_identifier def.name && is_lawful_shape def.shape
+
+-- a table whose definitions have identifiers as names, and whose enums have distinct identifiers as variants
+abbrev pub IsLawful : Types → Type 0
+IsLawful types = list_all is_lawful_def types.defs ≡ true

@@ -4,6 +4,7 @@
 
 mod arrival;
 mod decimal;
+mod lawful;
 mod laws;
 mod name;
 mod path;
@@ -20,6 +21,7 @@ mod word;
 pub use arrival::{Arrival, Item};
 pub use decimal::decimal_of;
 pub use dsde_lists::{Boxed, Memory, Seq, Text};
+pub use lawful::is_lawful;
 pub use laws::orders_are_total;
 pub use name::{Name, compare_names};
 pub use path::{Path, ReadPath, compare_paths, read_path, write_path};
