@@ -37,10 +37,10 @@ some_texts (field ∷ fields) [] some long = absurd (omega (arith, long))
 some_texts (field ∷ fields) (text ∷ texts) some long = omega arith
 
 module _ (types : Types) where
-  abbrev answers : List Value → List (Ty → Bool)
+  abbrev pub answers : List Value → List (Ty → Bool)
   answers parts = map (has_type types) parts
 
-  abbrev texts : List Field → List Value → List (List ℕ)
+  abbrev pub texts : List Field → List Value → List (List ℕ)
   texts fields parts = field_texts fields (map (spelling types) parts)
 
   -- the first of the parts that fill fields
@@ -76,20 +76,20 @@ module _ (types : Types) where
     pub only : (all : List Value) (rest : List ℕ) → fill (answers all) (done ++ fields) ≡ true → start ≡ fields_text types (done ++ fields) all ++ rest → Behind fields parts left all rest
 
   -- fields' text, cut behind the first
-  cut_first : (field : Field) (fields : List Field) (first : Value) (others : List Value) (rest : List ℕ) → fields_text types (field ∷ fields) (first ∷ others) ++ rest ≡ field_text types field first ++ (later (texts fields others) ++ 125 ∷ rest)
+  pub cut_first : (field : Field) (fields : List Field) (first : Value) (others : List Value) (rest : List ℕ) → fields_text types (field ∷ fields) (first ∷ others) ++ rest ≡ field_text types field first ++ (later (texts fields others) ++ 125 ∷ rest)
   cut_first field fields first others rest =
       append_assoc (field_text types field first ++ later (texts fields others)) (codes "}") rest ∙ append_assoc (field_text types field first) (later (texts fields others)) (125 ∷ rest)
 
-  ends_here : (part : Value) (fields : List Field) (others : List Value) (rest : List ℕ) → NoWord (spelling types) part (later (texts fields others) ++ 125 ∷ rest)
+  pub ends_here : (part : Value) (fields : List Field) (others : List Value) (rest : List ℕ) → NoWord (spelling types) part (later (texts fields others) ++ 125 ∷ rest)
   ends_here part fields others rest = and_false (ends_word (spelling types part)) _ (no_word_later (texts fields others) 125 rest refl)
 
-  abbrev TookField : Field → List ℕ → Value → List ℕ → Type 0
+  abbrev pub TookField : Field → List ℕ → Value → List ℕ → Type 0
   TookField field = Took (λ v. has_type types v field.ty ≡ true) (field_text types field) (NoWord (spelling types))
 
   abbrev LacksField : Field → List ℕ → Type 0
   LacksField field = Lacks (λ v. has_type types v field.ty ≡ true) (field_text types field) (NoWord (spelling types))
 
-  abbrev TookFields : List Field → List ℕ → List Value → List ℕ → Type 0
+  abbrev pub TookFields : List Field → List ℕ → List Value → List ℕ → Type 0
   TookFields fields = Took (λ parts. fill (answers parts) fields ≡ true) (fields_text types fields) Anything
 
   abbrev LacksFields : List Field → List ℕ → Type 0

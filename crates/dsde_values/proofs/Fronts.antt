@@ -62,11 +62,11 @@ word_same word left other rest is end are stop same =
 pub stops : (text rest : List ℕ) → ends_word text ≡ true → goes_on text rest ≡ false → begins_word rest ≡ false
 stops text rest ends none = rw ends at none
 
-truth_word : (truth : Bool) → list_all is_word_byte (truth_text truth) ≡ true
+pub truth_word : (truth : Bool) → list_all is_word_byte (truth_text truth) ≡ true
 truth_word true = refl
 truth_word false = refl
 
-truth_ends : (truth : Bool) → ends_word (truth_text truth) ≡ true
+pub truth_ends : (truth : Bool) → ends_word (truth_text truth) ≡ true
 truth_ends true = refl
 truth_ends false = refl
 

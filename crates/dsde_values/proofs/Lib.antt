@@ -4,6 +4,7 @@ pub mod Layers
 pub mod ListReading
 pub mod Names
 pub mod Numbers
+pub mod OneValue
 pub mod Orders
 pub mod Pieces
 pub mod ReadParts

@@ -47,10 +47,10 @@ cut_comma left mid text more tail comma behind =
     append_cancel_left (codes ", ") mid (text ++ (more ++ tail)) (sym comma ∙ behind ∙ behind_comma text more tail)
 
 module _ (types : Types) (ty : Ty) where
-  abbrev is_item : Value → Bool
+  abbrev pub is_item : Value → Bool
   is_item item = has_type types item ty
 
-  abbrev texts : List Value → List (List ℕ)
+  abbrev pub texts : List Value → List (List ℕ)
   texts items = map (spelling types) items
 
   -- What is behind items that were read, where a list stands: the other items, and the bracket.
@@ -68,14 +68,14 @@ module _ (types : Types) (ty : Ty) where
     pub only : (all : List Value) (rest : List ℕ) → AreItems types ty all → start ≡ items_text types all ++ rest → Behind items left all rest
 
   -- a list's text, cut behind its first item
-  cut_first : (first : Value) (others : List Value) (rest : List ℕ) → items_text types (first ∷ others) ++ rest ≡ spelling types first ++ (later (texts others) ++ 93 ∷ rest)
+  pub cut_first : (first : Value) (others : List Value) (rest : List ℕ) → items_text types (first ∷ others) ++ rest ≡ spelling types first ++ (later (texts others) ++ 93 ∷ rest)
   cut_first first others rest =
       append_assoc (spelling types first ++ later (texts others)) (codes "]") rest ∙ append_assoc (spelling types first) (later (texts others)) (93 ∷ rest)
 
-  first_typed : (first : Value) (others : List Value) → AreItems types ty (first ∷ others) → (is_item first ≡ true) × (list_all is_item others ≡ true)
+  pub first_typed : (first : Value) (others : List Value) → AreItems types ty (first ∷ others) → (is_item first ≡ true) × (list_all is_item others ≡ true)
   first_typed first others are = both_true (is_item first) (list_all is_item others) are.typed
 
-  ends_here : (item : Value) (others : List Value) (rest : List ℕ) → NoWord (spelling types) item (later (texts others) ++ 93 ∷ rest)
+  pub ends_here : (item : Value) (others : List Value) (rest : List ℕ) → NoWord (spelling types) item (later (texts others) ++ 93 ∷ rest)
   ends_here item others rest = and_false (ends_word (spelling types item)) _ (no_word_later (texts others) 93 rest refl)
 
   -- what is behind an item that was read, where another list of items stands there

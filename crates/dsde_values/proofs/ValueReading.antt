@@ -78,7 +78,7 @@ module _ (types : Types) (before after : List ℕ) where
   no_int = none_made types ty.Int (FitsSigned w64) signed_decimal (NoWord signed_decimal) (λ (z : ℤ). value.Int z)
       (λ z fits. typed-Int types z ∙ (int_fits z).0 fits) (spelling-Int types) int_from (λ z rest e. e) (λ z rest e. e) before
 
-  truth_spelled : (b : Bool) → spelling types (value.Bool b) ≡ truth_text b
+  pub truth_spelled : (b : Bool) → spelling types (value.Bool b) ≡ truth_text b
   truth_spelled true = spelling-true types
   truth_spelled false = spelling-false types
 
@@ -111,7 +111,7 @@ module _ (types : Types) (before after : List ℕ) where
     record_makes : (parts : List Value) → AreParts types number parts → has_type types (value.Rec number parts) (ty.Rec number) ≡ true
     record_makes parts are = typed-Rec types number parts number ∙ both (number == number) _ (eq-eqb number number refl) are
 
-    record_spelled : (parts : List Value) → spelling types (value.Rec number parts) ≡ record_text types number own_fields parts
+    pub record_spelled : (parts : List Value) → spelling types (value.Rec number parts) ≡ record_text types number own_fields parts
     record_spelled parts = spelling-Rec types number parts ∙ append_assoc (name_at types number ++ codes "{") (joined (field_texts own_fields (map (spelling types) parts))) (codes "}")
 
     record_ends : (parts : List Value) (rest : List ℕ) → Anything parts rest → goes_on (record_text types number own_fields parts) rest ≡ false
@@ -131,7 +131,7 @@ module _ (types : Types) (before after : List ℕ) where
     list_makes : (items : List Value) → AreItems types inner items → has_type types (value.List items) (ty.List inner) ≡ true
     list_makes items are = typed-List types items inner ∙ both (leb (length items) 65536) _ (le-leb (length items) 65536 are.few) are.typed
 
-    list_spelled : (items : List Value) → spelling types (value.List items) ≡ list_text types items
+    pub list_spelled : (items : List Value) → spelling types (value.List items) ≡ list_text types items
     list_spelled items = spelling-List types items ∙ append_assoc (codes "[") (joined (map (spelling types) items)) (codes "]")
 
     list_ends : (items : List Value) (rest : List ℕ) → Anything items rest → goes_on (list_text types items) rest ≡ false
@@ -151,7 +151,7 @@ first_same : (a b : ℕ) (xs ys : List ℕ) → a ∷ xs ≡ b ∷ ys → a ≡ 
 first_same a b xs ys same = cc
 
 -- The option without a value is no text of one with a value.
-none_or_some : (rest tail : List ℕ) → codes "none" ++ rest ≡ codes "some(" ++ tail → ⊥
+pub none_or_some : (rest tail : List ℕ) → codes "none" ++ rest ≡ codes "some(" ++ tail → ⊥
 none_or_some rest tail same = absurd (omega (arith, first_same 110 115 (111 ∷ 110 ∷ 101 ∷ rest) (111 ∷ 109 ∷ 101 ∷ 40 ∷ tail) same))
 
 module _ (types : Types) (inner : Ty) (before : List ℕ) where
@@ -159,14 +159,14 @@ module _ (types : Types) (inner : Ty) (before : List ℕ) where
   LacksOption = Lacks (λ v. has_type types v (ty.Opt inner) ≡ true) (spelling types) (NoWord (spelling types)) before
 
   -- An option's text is one of two.
-  some_text : (part : Value) (rest : List ℕ) → spelling types (value.Some part) ++ rest ≡ codes "some(" ++ (spelling types part ++ 41 ∷ rest)
+  pub some_text : (part : Value) (rest : List ℕ) → spelling types (value.Some part) ++ rest ≡ codes "some(" ++ (spelling types part ++ 41 ∷ rest)
   some_text part rest =
       ap (λ (text : List ℕ). text ++ rest) (spelling-Some types part) ∙ append_assoc (codes "some(" ++ spelling types part) (codes ")") rest ∙ append_assoc (codes "some(") (spelling types part) (41 ∷ rest)
 
-  none_text : (rest : List ℕ) → spelling types value.Nothing ++ rest ≡ codes "none" ++ rest
+  pub none_text : (rest : List ℕ) → spelling types value.Nothing ++ rest ≡ codes "none" ++ rest
   none_text rest = ap (λ (text : List ℕ). text ++ rest) (spelling-Nothing types)
 
-  part_ends : (part : Value) (rest : List ℕ) → NoWord (spelling types) part (41 ∷ rest)
+  pub part_ends : (part : Value) (rest : List ℕ) → NoWord (spelling types) part (41 ∷ rest)
   part_ends part rest = and_false (ends_word (spelling types part)) (begins_word (41 ∷ rest)) refl
 
   module _ (mid : List ℕ) (some : before ≡ codes "some(" ++ mid) where

@@ -141,10 +141,10 @@ module _ (types : Types) (lawful : IsLawful types) (number : ℕ) where
   variant_one i j variant here there = one (slice_get types.defs number) refl i j variant here there
 
   -- the name of a variant that there is
-  abbrev variant_name : ℕ → List ℕ
+  abbrev pub variant_name : ℕ → List ℕ
   variant_name variant = slice_index_or (variants_at types number) variant []
 
-  there_is : (variant : ℕ) → is_variant types number variant ≡ true → slice_get (variants_at types number) variant ≡ Some (variant_name variant)
+  pub there_is : (variant : ℕ) → is_variant types number variant ≡ true → slice_get (variants_at types number) variant ≡ Some (variant_name variant)
   there_is variant is = slice_get-get_or (variants_at types number) variant [] (ltb-true variant (length (variants_at types number)) (both_true (ltb variant (2 ^ 32)) _ is).1)
 
   module _ (bytes behind word left : List ℕ) (front : bytes ≡ (name_at types number ++ codes "::") ++ behind) (cut : behind ≡ word ++ left)
@@ -160,7 +160,7 @@ module _ (types : Types) (lawful : IsLawful types) (number : ℕ) where
         (ap (λ (tail : List ℕ). (name_at types number ++ codes "::") ++ tail) (sym cut) ∙ sym front ∙ same ∙ append_assoc (name_at types number ++ codes "::") (variant_name other) rest) in
         here ∙ ap Some (word_same word left (variant_name other) rest all end (identifier_word (variant_name other) identifier) stop one)
 
-    variant_taken : (variant : ℕ) → variant < 2 ^ 32 → slice_get (variants_at types number) variant ≡ Some word → Took (λ v. is_variant types number v ≡ true) (variant_text types number) (NoWord (variant_text types number)) bytes variant left
+    pub variant_taken : (variant : ℕ) → variant < 2 ^ 32 → slice_get (variants_at types number) variant ≡ Some word → Took (λ v. is_variant types number v ≡ true) (variant_text types number) (NoWord (variant_text types number)) bytes variant left
     variant_taken variant fits is =
         let own : variant_name variant ≡ word = get_or_from_slice_get (variants_at types number) variant word [] is in
         record {

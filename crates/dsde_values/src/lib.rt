@@ -22,7 +22,7 @@ pub use arrival::{Arrival, Item};
 pub use decimal::decimal_of;
 pub use dsde_lists::{Boxed, Memory, Seq, Text};
 pub use lawful::is_lawful;
-pub use laws::orders_are_total;
+pub use laws::{at_most_one_value_begins, orders_are_total};
 pub use name::{Name, compare_names};
 pub use path::{Path, ReadPath, compare_paths, read_path, write_path};
 pub use reading::{ReadValue, read_value};
