@@ -1,2 +1,16 @@
+pub mod FieldReading
+pub mod Fronts
+pub mod Layers
+pub mod ListReading
+pub mod Names
 pub mod Numbers
+pub mod OneValue
+pub mod Orders
+pub mod Pieces
+pub mod ReadParts
 pub mod Spelled
+pub mod Typed
+pub mod ValueKinds
+pub mod ValueReading
+pub mod Variants
+pub mod Writing

@@ -16,7 +16,7 @@ use Rattle.dsde_values.specs.Word.{is_word_byte, begins_word, ends_word, Begins}
 use Rattle.dsde_values.specs.Value.{number_size}
 
 -- a digit may stand in a word
-is_word_byte-digit : (byte : ℕ) → digit_value byte < 10 → is_word_byte byte ≡ true
+pub is_word_byte-digit : (byte : ℕ) → digit_value byte < 10 → is_word_byte byte ≡ true
 is_word_byte-digit byte small = let here = digit_from_value byte small in grind (arith, nat_tests)
 
 -- digits, and then no word
@@ -77,7 +77,7 @@ behind_byte true byte bytes is behind = rw one-add behind
 behind_byte false byte bytes is behind = sym is
 
 -- No word is behind the longest word.
-begins_word-behind : (bytes : List ℕ) → begins_word (drop (prefix_len is_word_byte bytes) bytes) ≡ false
+pub begins_word-behind : (bytes : List ℕ) → begins_word (drop (prefix_len is_word_byte bytes) bytes) ≡ false
 begins_word-behind [] = refl
 begins_word-behind (byte ∷ bytes) = behind_byte (is_word_byte byte) byte bytes refl (begins_word-behind bytes)
 

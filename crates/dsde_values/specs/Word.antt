@@ -1,6 +1,7 @@
 -- Letters, digits and `_`, and the words made of them.
-use Rattle.std.specs.Prelude.{ℕ, ◌≡◌, Bool, false, ◌||◌, ◌&&◌, not, ◌==◌, List, [], ◌∷◌, ◌++◌}
-use Rattle.std.specs.List.{list_all}
+use Rattle.std.specs.Prelude.{ℕ, ◌≡◌, Bool, false, ◌||◌, ◌&&◌, not, ◌==◌, List, [], ◌∷◌, ◌++◌, codes}
+use Rattle.std.specs.List.{list_all, list_any}
+use Rattle.std.specs.Str.{bytes_eq}
 use Rattle.std.specs.Char.{is_ascii_alphanumeric, is_ascii_digit}
 
 -- letters, digits and `_`
@@ -32,3 +33,19 @@ pub record Begins (text bytes : List ℕ) : Type 0 where
 abbrev pub is_identifier : List ℕ → Bool
 is_identifier [] = false
 is_identifier (byte ∷ bytes) = not (is_ascii_digit byte) && list_all is_word_byte (byte ∷ bytes)
+
+-- the words of the language, which name nothing else
+abbrev pub reserved_words : List (List ℕ)
+reserved_words =
+    codes "enum" ∷ codes "record" ∷ codes "fn" ∷ codes "atomic" ∷ codes "network" ∷ codes "exec" ∷
+    codes "in" ∷ codes "out" ∷ codes "state" ∷ codes "advance" ∷ codes "output" ∷ codes "internal" ∷
+    codes "external" ∷ codes "confluent" ∷ codes "structure" ∷ codes "comp" ∷ codes "link" ∷ codes "via" ∷
+    codes "is" ∷ codes "for" ∷ codes "if" ∷ codes "else" ∷ codes "let" ∷ codes "var" ∷
+    codes "send" ∷ codes "return" ∷ codes "new" ∷ codes "none" ∷ codes "empty" ∷ codes "some" ∷
+    codes "true" ∷ codes "false" ∷ codes "and" ∷ codes "or" ∷ codes "not" ∷ codes "len" ∷
+    codes "range" ∷ codes "push" ∷ codes "put" ∷ codes "take" ∷ codes "skip" ∷ codes "min" ∷
+    codes "max" ∷ codes "is_some" ∷ codes "int" ∷ codes "bool" ∷ codes "list" ∷ codes "opt" ∷
+    codes "top" ∷ codes "net" ∷ codes "elapsed" ∷ []
+
+abbrev pub is_reserved : List ℕ → Bool
+is_reserved word = list_any (λ reserved. bytes_eq reserved word) reserved_words

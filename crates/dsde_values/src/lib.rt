@@ -4,19 +4,30 @@
 
 mod arrival;
 mod decimal;
+mod lawful;
+mod laws;
 mod name;
 mod path;
+mod reading;
 mod spelling;
+#[cfg(test)]
+mod tests;
 mod types;
+mod typing;
 mod value;
 mod when;
+mod word;
 
 pub use arrival::{Arrival, Item};
 pub use decimal::decimal_of;
 pub use dsde_lists::{Boxed, Memory, Seq, Text};
-pub use name::Name;
-pub use path::{Path, write_path};
-pub use spelling::{ReadValue, read_value, write_value};
+pub use lawful::is_lawful;
+pub use laws::{at_most_one_value_begins, orders_are_total};
+pub use name::{Name, compare_names};
+pub use path::{Path, ReadPath, compare_paths, read_path, write_path};
+pub use reading::{ReadValue, read_value};
+pub use spelling::write_value;
 pub use types::{Def, Field, Shape, Ty, Types};
-pub use value::{Value, Values};
+pub use typing::has_type;
+pub use value::{Value, Values, copy_value, equal};
 pub use when::When;

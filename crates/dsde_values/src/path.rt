@@ -1,10 +1,16 @@
-ghost use Rattle.std.specs.Prelude.{◌≡◌, ◌++◌, length, take, IfOk, OnOk, OnErr};
-ghost use Rattle.dsde_values.specs.Path.{root, path_text, name_text};
+ghost use Rattle.std.specs.Prelude.{◌≡◌, ◌≢◌, ◌↔◌, ◌++◌, ◌||◌, true, ℕ, codes, Option, length, take, IfOk, OnOk, OnErr, IfSome, IfNone, IsErrOf};
+ghost use Rattle.dsde_values.specs.Path.{root, path_text, name_text, index_text, path_cmp, IsPath, is_path, are_below, is_component, is_plain, is_name, is_index};
+ghost use Rattle.dsde_values.specs.declared.name.Name.{Name};
+ghost use Rattle.dsde_values.specs.declared.path.Path.{Path};
+ghost use Rattle.dsde_values.specs.declared.path.ReadPath.TheVariants as read_path;
 
 use crate::Name;
+use crate::decimal::decimal_of;
+use crate::word::{is_identifier, is_reserved, word_size};
 use dsde_lists::{Memory, Seq, Text};
 use itoa::Buffer;
 use std::alloc::Global;
+use std::cmp::Ordering;
 
 /// A component's place in the tree of components: names from `root` on.
 #[derive(Debug, Drop)]
@@ -24,6 +30,15 @@ impl Path {
         })?;
         Ok(Path { names })
     }
+}
+
+/// The order of paths: name by name, and a path before the longer ones that begin with it. `Equal`
+/// comes exactly where the paths are the same.
+pub fn compare_paths(path: &Path, other: &Path) -> Ordering
+    ensures order { result ≡ path_cmp path.now other.now }
+    ensures equal { (result ≡ Ordering.Equal) ↔ (path.now ≡ other.now) }
+{
+    path.names.as_slice().cmp(other.names.as_slice())
 }
 
 /// Appends the path's one spelling: its names joined by `/`, an index in brackets.
@@ -66,4 +81,206 @@ fn append_name(name: &Name, text: &mut Text) -> Result<(), Memory>
         text.push(b']')?;
     }
     Ok(())
+}
+
+/// The greatest index that a name may have.
+const LAST_INDEX: u64 = 9_223_372_036_854_775_807;
+
+/// Why no path was read.
+#[derive(Clone, Copy, Debug, PartialEq, Eq)]
+pub enum ReadPath {
+    /// The bytes spell no path.
+    NotAPath,
+    Memory,
+}
+
+impl From<Memory> for ReadPath {
+    ghost from_gives = { λ _ error. error ≡ read_path.Memory };
+
+    fn from(_error: Memory) -> ReadPath {
+        ReadPath::Memory
+    }
+}
+
+/// The path whose spelling the bytes are. The first name of a path is `root`. Each later one is
+/// an identifier that is no word of the language, alone or with an index of at most 2^63 - 1 in
+/// brackets, without leading zeros; `exec` may stand last. `NotAPath` comes exactly where the bytes
+/// are the spelling of no such path.
+pub fn read_path(alloc: Global, bytes: &[u8]) -> Result<Path, ReadPath>
+    ensures path { IfOk result IsPath }
+    ensures spelled { IfOk result (λ path. path_text path ≡ bytes.now) }
+    ensures only { IfOk result (λ path. (other : Path) → IsPath other → path_text other ≡ bytes.now → other ≡ path) }
+    ensures none { IsErrOf result ReadPath.NotAPath → (path : Path) → IsPath path → path_text path ≢ bytes.now }
+{
+    let mut names = Seq::new(alloc);
+    for piece in bytes.split(|byte| *byte == b'/') {
+        names.push(read_name(alloc, piece)?)?;
+    }
+    if !is_path(names.as_slice()) {
+        return Err(ReadPath::NotAPath);
+    }
+    Ok(Path { names })
+}
+
+/// The name that a text spells, as an identifier with or without an index.
+fn read_name(alloc: Global, text: &[u8]) -> Result<Name, ReadPath>
+    ensures name { IfOk result (λ name. (is_name name ≡ true) × (name_text name ≡ text.now)) }
+    ensures none { IsErrOf result ReadPath.NotAPath → (name : Name) → is_name name ≡ true → name_text name ≢ text.now }
+{
+    let (stem, rest) = text.split_at(word_size(text));
+    if !is_identifier(stem) {
+        return Err(ReadPath::NotAPath);
+    }
+    let Some(index) = read_index(rest) else {
+        return Err(ReadPath::NotAPath);
+    };
+    Ok(Name {
+        stem: Text::from_slice(alloc, stem)?,
+        index,
+    })
+}
+
+/// The index that a text spells in brackets. An empty text spells none.
+fn read_index(text: &[u8]) -> Option<Option<u64>>
+    ensures some { IfSome result (λ index. (is_index index ≡ true) × (index_text index ≡ text.now)) }
+    ensures none { IfNone result ((index : Option ℕ) → is_index index ≡ true → index_text index ≢ text.now) }
+{
+    let Some((open, inside)) = text.split_first() else {
+        return Some(None);
+    };
+    let (close, digits) = inside.split_last()?;
+    if *open != b'[' || *close != b']' {
+        return None;
+    }
+    let index = decimal_of(digits)?;
+    (index <= LAST_INDEX).then_some(Some(index))
+}
+
+/// Whether names are those of a path.
+fn is_path(names: &[Name]) -> bool
+    ensures { result ≡ is_path names.now }
+{
+    match names {
+        [] => false,
+        [first, others @ ..] => is_plain(b"root", first) && are_below(others),
+    }
+}
+
+/// Whether names may stand below `root`.
+fn are_below(names: &[Name]) -> bool
+    ensures { result ≡ are_below names.now }
+{
+    match names.split_last() {
+        None => true,
+        Some((last, others)) => others.iter().all(is_component) && may_be_last(last),
+    }
+}
+
+/// Whether a name may stand last.
+fn may_be_last(name: &Name) -> bool
+    ensures { result ≡ is_component name.now || is_plain (codes "exec") name.now }
+{
+    is_component(name) || is_plain(b"exec", name)
+}
+
+/// Whether a component may have the name.
+fn is_component(name: &Name) -> bool
+    ensures { result ≡ is_component name.now }
+{
+    is_name(name) && !is_reserved(name.stem.as_slice())
+}
+
+/// Whether a name is one by its form.
+fn is_name(name: &Name) -> bool
+    ensures { result ≡ is_name name.now }
+{
+    is_identifier(name.stem.as_slice()) && name.index.is_none_or(|index| index <= LAST_INDEX)
+}
+
+/// Whether a name is this word without an index.
+fn is_plain(word: &[u8], name: &Name) -> bool
+    ensures { result ≡ is_plain word.now name.now }
+{
+    name.stem.as_slice() == word && name.index.is_none()
+}
+
+#[cfg(test)]
+mod tests {
+    use super::*;
+    use std::test::Fail;
+
+    #[test]
+    fn reads_and_writes_paths(rt: HostRuntime) -> Result<(), Fail> {
+        for (text, is_path) in [
+            ("root", true),
+            ("root/a/m[1]", true),
+            ("root/exec", true),
+            ("root/root/root[7]/exec", true),
+            ("root/_/x_2[0]", true),
+            ("root/m[9223372036854775807]", true),
+            ("root/m[9223372036854775808]", false),
+            ("root/m[18446744073709551616]", false),
+            ("root/m[01]", false),
+            ("root/m[-1]", false),
+            ("root/m[]", false),
+            ("root/m[", false),
+            ("root/m]", false),
+            ("root/m[1]]", false),
+            ("root/m[1]x", false),
+            ("root/2m", false),
+            ("root/a b", false),
+            ("root/", false),
+            ("/root", false),
+            ("root//a", false),
+            ("root[0]", false),
+            ("Root", false),
+            ("a", false),
+            ("exec", false),
+            ("root/exec/a", false),
+            ("root/exec[1]", false),
+            ("root/top", false),
+            ("root/is_some", false),
+            ("root/is_some_", true),
+            ("", false),
+        ] {
+            let mut written = Text::new(rt.alloc());
+            match read_path(rt.alloc(), text.as_bytes()) {
+                Ok(path) => {
+                    write_path(&path, &mut written)?;
+                    assert!(rt; is_path, "{text}");
+                    assert_eq!(rt; written.as_slice(), text.as_bytes());
+                }
+                Err(error) => {
+                    assert!(rt; !is_path, "{text}");
+                    assert_eq!(rt; error, ReadPath::NotAPath);
+                }
+            }
+        }
+        Ok(())
+    }
+
+    #[test]
+    fn orders_paths(rt: HostRuntime) -> Result<(), Fail> {
+        let texts = [
+            "root",
+            "root/A",
+            "root/a",
+            "root/a/z",
+            "root/a[0]",
+            "root/a[0]/exec",
+            "root/a[2]",
+            "root/a[10]",
+            "root/a_",
+            "root/aa",
+            "root/b",
+        ];
+        for (index, text) in texts.iter().enumerate() {
+            let path = read_path(rt.alloc(), text.as_bytes())?;
+            for (place, other) in texts.iter().enumerate() {
+                let other = read_path(rt.alloc(), other.as_bytes())?;
+                assert_eq!(rt; compare_paths(&path, &other), index.cmp(&place), "{text}");
+            }
+        }
+        Ok(())
+    }
 }

@@ -1,155 +1,119 @@
-ghost use Rattle.std.specs.Prelude.{◌≡◌, ◌≤◌, ◌++◌, ℤ, length, FitsSigned, IfOk, OnOk, OnErr, IsErrOf, IfSome, IfNone};
-ghost use Rattle.std.specs.Int.{w64};
-ghost use Rattle.std.specs.List.{take_while};
-ghost use Rattle.std.specs.Fmt.{signed_decimal};
-ghost use Rattle.dsde_values.specs.declared.value.Value.{Value};
-ghost use Rattle.dsde_values.specs.Word.{is_word_byte, Begins};
-ghost use Rattle.dsde_values.specs.Value.{HasType, spelling, number_size};
+ghost use Rattle.std.specs.Prelude.{◌≡◌, ◌++◌, length, take, map, unwrap_or, slice_index_or, [], codes, OnOk, OnErr};
+ghost use Rattle.dsde_values.specs.Value.{spelling, joined, field_texts, name_at, variants_at, fields_at};
 
-use crate::decimal::signed_decimal_of;
-use crate::{Ty, Types, Value};
+use crate::typing::{fields_at, name_at, variants_at};
+use crate::{Field, Types, Value};
 use dsde_lists::{Memory, Text};
 use itoa::Buffer;
-use std::alloc::Global;
 
-/// Why no value was read.
-#[derive(Clone, Copy, Debug, PartialEq, Eq)]
-pub enum ReadValue {
-    /// No value of the type begins the bytes.
-    NotAValue,
-    Memory,
-}
-
-/// Appends the value's one spelling. Without memory the text stays as it was.
-/// So far only whole numbers are spelled.
+/// Appends the value's one spelling: a whole number in decimal, `true` or `false`, `E::v` for an
+/// enum's variant, `R{f: v, g: w}` for a record, `[v, w]` for a list, `none` or `some(v)` for an
+/// option. A definition, variant or field that the table lacks is spelled by nothing.
+/// Without memory the text stays as it was.
 pub fn write_value(value: &Value, types: &Types, text: &mut Text) -> Result<(), Memory>
-    requires { HasType types.now value.now Ty.Int }
     ensures ok { OnOk result (text.new ≡ text.old ++ spelling types.now value.now) }
     ensures err { OnErr result (text.new ≡ text.old) }
 {
+    let start = text.len();
+    let written = append_value(value, types, text);
+    if written.is_err() {
+        text.truncate(start);
+    }
+    written
+}
+
+#[cycle(writing)]
+#[tactic(auto, unfolding(crate::specs::Value::spelling))]
+fn append_value(value: &Value, types: &Types, text: &mut Text) -> Result<(), Memory>
+    ensures ok { OnOk result (text.new ≡ text.old ++ spelling types.now value.now) }
+    ensures grows { take (length text.old) text.new ≡ text.old }
+{
     match value {
         Value::Int(number) => text.extend_from_slice(Buffer::new().format(*number).as_bytes()),
-        _ => unreachable!(),
+        Value::Bool(true) => text.extend_from_slice(b"true"),
+        Value::Bool(false) => text.extend_from_slice(b"false"),
+        Value::Enum(number, variant) => append_variant(*number, *variant, types, text),
+        Value::Rec(number, parts) => append_record(*number, parts.as_slice(), types, text),
+        Value::List(items) => append_list(items.as_slice(), types, text),
+        Value::Nothing => text.extend_from_slice(b"none"),
+        Value::Some(inner) => {
+            text.extend_from_slice(b"some(")?;
+            append_value(inner.get(), types, text)?;
+            text.push(b')')
+        }
     }
 }
 
-/// The value whose spelling begins the bytes, and how many bytes the spelling has. `NotAValue`
-/// comes exactly where no value of the type begins them. So far only whole numbers are read.
-pub fn read_value(
-    _alloc: Global,
-    bytes: &[u8],
-    ty: &Ty,
+fn append_variant(number: u32, variant: u32, types: &Types, text: &mut Text) -> Result<(), Memory>
+    ensures ok { OnOk result (text.new ≡ text.old ++ name_at types.now number ++ codes "::" ++ slice_index_or (variants_at types.now number) variant []) }
+    ensures grows { take (length text.old) text.new ≡ text.old }
+{
+    text.extend_from_slice(name_at(types, number))?;
+    text.extend_from_slice(b"::")?;
+    match variants_at(types, number).get(variant as usize) {
+        Some(variant) => text.extend_from_slice(variant.as_slice()),
+        None => Ok(()),
+    }
+}
+
+#[cycle(writing)]
+fn append_record(number: u32, parts: &[Value], types: &Types, text: &mut Text) -> Result<(), Memory>
+    ensures ok { OnOk result (text.new ≡ text.old ++ name_at types.now number ++ codes "{" ++ joined (field_texts (unwrap_or (fields_at types.now number) []) (map (spelling types.now) parts.now)) ++ codes "}") }
+    ensures grows { take (length text.old) text.new ≡ text.old }
+{
+    text.extend_from_slice(name_at(types, number))?;
+    text.push(b'{')?;
+    append_fields(fields_at(types, number).unwrap_or(&[]), parts, types, text)?;
+    text.push(b'}')
+}
+
+/// Appends fields and their values, as many as there are of both.
+#[cycle(writing)]
+fn append_fields(
+    fields: &[Field],
+    parts: &[Value],
     types: &Types,
-) -> Result<(Value, usize), ReadValue>
-    requires { ty.now ≡ Ty.Int }
-
-    ensures typed { IfOk result (λ found. HasType types.now found.0 ty.now) }
-    ensures begins { IfOk result (λ found. Begins (spelling types.now found.0) bytes.now) }
-    ensures size { IfOk result (λ found. found.1 ≡ length (spelling types.now found.0)) }
-    ensures only { IfOk result (λ found. (value : Value) → HasType types.now value ty.now → Begins (spelling types.now value) bytes.now → value ≡ found.0) }
-
-    ensures none { IsErrOf result ReadValue.NotAValue → (value : Value) → HasType types.now value ty.now → ¬ (Begins (spelling types.now value) bytes.now) }
+    text: &mut Text,
+) -> Result<(), Memory>
+    ensures ok { OnOk result (text.new ≡ text.old ++ joined (field_texts fields.now (map (spelling types.now) parts.now))) }
+    ensures grows { take (length text.old) text.new ≡ text.old }
 {
-    match read_number(bytes) {
-        Some((number, size)) => Ok((Value::Int(number), size)),
-        None => Err(ReadValue::NotAValue),
+    let Some((first, other_fields)) = fields.split_first() else {
+        return Ok(());
+    };
+    let Some((first_part, other_parts)) = parts.split_first() else {
+        return Ok(());
+    };
+    append_field(first, first_part, types, text)?;
+    for (field, part) in other_fields.iter().zip(other_parts) {
+        text.extend_from_slice(b", ")?;
+        append_field(field, part, types, text)?;
     }
+    Ok(())
 }
 
-/// The whole number whose spelling begins the bytes, where no word goes on from it, and how many
-/// bytes the spelling has.
-fn read_number(bytes: &[u8]) -> Option<(i64, usize)>
-    ensures none { IfNone result ((number : ℤ) → FitsSigned w64 number → ¬ (Begins (signed_decimal number) bytes.now)) }
-    ensures begins { IfSome result (λ found. Begins (signed_decimal found.0) bytes.now) }
-    ensures size { IfSome result (λ found. found.1 ≡ length (signed_decimal found.0)) }
-    ensures only { IfSome result (λ found. (number : ℤ) → FitsSigned w64 number → Begins (signed_decimal number) bytes.now → number ≡ found.0) }
+#[cycle(writing)]
+fn append_field(field: &Field, part: &Value, types: &Types, text: &mut Text) -> Result<(), Memory>
+    ensures ok { OnOk result (text.new ≡ text.old ++ field.now.name ++ codes ": " ++ spelling types.now part.now) }
+    ensures grows { take (length text.old) text.new ≡ text.old }
 {
-    let text = &bytes[..number_size(bytes)];
-    let number = signed_decimal_of(text)?;
-    Some((number, text.len()))
+    text.extend_from_slice(field.name.as_slice())?;
+    text.extend_from_slice(b": ")?;
+    append_value(part, types, text)
 }
 
-/// How many bytes a number at the front of the bytes has at most: a sign, and a word.
-fn number_size(bytes: &[u8]) -> usize
-    ensures size { result ≡ number_size bytes.now }
-    ensures within { result ≤ length bytes.now }
+#[cycle(writing)]
+fn append_list(items: &[Value], types: &Types, text: &mut Text) -> Result<(), Memory>
+    ensures ok { OnOk result (text.new ≡ text.old ++ codes "[" ++ joined (map (spelling types.now) items.now) ++ codes "]") }
+    ensures grows { take (length text.old) text.new ≡ text.old }
 {
-    match bytes {
-        [b'-', digits @ ..] => 1 + word_size(digits),
-        _ => word_size(bytes),
-    }
-}
-
-/// How many letters, digits and `_` the bytes begin with.
-fn word_size(bytes: &[u8]) -> usize
-    ensures size { result ≡ length (take_while is_word_byte bytes.now) }
-    ensures within { result ≤ length bytes.now }
-{
-    bytes.iter().take_while(|byte| is_word_byte(**byte)).count()
-}
-
-/// Whether a byte is a letter, a digit or `_`.
-fn is_word_byte(byte: u8) -> bool
-    ensures { result ≡ is_word_byte byte }
-{
-    byte.is_ascii_alphanumeric() || byte == b'_'
-}
-
-#[cfg(test)]
-mod tests {
-    use super::*;
-    use dsde_lists::Seq;
-    use std::test::Fail;
-
-    #[test]
-    fn reads_whole_numbers(rt: HostRuntime) -> Result<(), Fail> {
-        let types = Types {
-            defs: Seq::new(rt.alloc()),
-        };
-        for (text, want) in [
-            ("12]", Some((12, 2))),
-            ("0", Some((0, 1))),
-            ("-7; x 1", Some((-7, 2))),
-            ("12-3", Some((12, 2))),
-            ("9223372036854775807", Some((i64::MAX, 19))),
-            ("-9223372036854775808,", Some((i64::MIN, 20))),
-            ("9223372036854775808", None),
-            ("-9223372036854775809", None),
-            ("01", None),
-            ("-0", None),
-            ("+1", None),
-            ("12x", None),
-            ("12_", None),
-            ("1\u{e9}", Some((1, 1))),
-            ("--1", None),
-            ("-", None),
-            ("", None),
-            (" 1", None),
-            ("true", None),
-        ] {
-            let read = match read_value(rt.alloc(), text.as_bytes(), &Ty::Int, &types) {
-                Ok((Value::Int(number), size)) => Some((number, size)),
-                _ => None,
-            };
-            assert_eq!(rt; read, want, "{text}");
+    text.push(b'[')?;
+    if let Some((first, others)) = items.split_first() {
+        append_value(first, types, text)?;
+        for item in others {
+            text.extend_from_slice(b", ")?;
+            append_value(item, types, text)?;
         }
-        Ok(())
     }
-
-    #[test]
-    fn writes_whole_numbers(rt: HostRuntime) -> Result<(), Fail> {
-        let types = Types {
-            defs: Seq::new(rt.alloc()),
-        };
-        let mut text = Text::from_slice(rt.alloc(), b"= ")?;
-        for number in [0, -1, i64::MAX, i64::MIN] {
-            write_value(&Value::Int(number), &types, &mut text)?;
-            text.push(b' ')?;
-        }
-        assert_eq!(rt;
-            text.as_slice(),
-            b"= 0 -1 9223372036854775807 -9223372036854775808 ".as_slice()
-        );
-        Ok(())
-    }
+    text.push(b']')
 }

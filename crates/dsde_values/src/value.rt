@@ -1,4 +1,7 @@
-use dsde_lists::{Boxed, Seq};
+ghost use Rattle.std.specs.Prelude.{◌≡◌, ◌↔◌, IsTrue, IfOk};
+
+use dsde_lists::{Boxed, Memory, Seq};
+use std::alloc::Global;
 
 /// A list of values.
 pub type Values = Seq<Value>;
@@ -17,4 +20,69 @@ pub enum Value {
     Nothing,
     /// An option with this value.
     Some(Boxed<Value>),
+}
+
+/// Whether two values are equal.
+#[cycle(equality)]
+pub fn equal(value: &Value, other: &Value) -> bool
+    ensures { IsTrue result ↔ (value.now ≡ other.now) }
+{
+    match (value, other) {
+        (Value::Int(number), Value::Int(same)) => number == same,
+        (Value::Bool(truth), Value::Bool(same)) => truth == same,
+        (Value::Enum(number, variant), Value::Enum(own, same)) => {
+            number == own && variant == same
+        }
+        (Value::Rec(number, parts), Value::Rec(own, same)) => {
+            number == own && are_equal(parts.as_slice(), same.as_slice())
+        }
+        (Value::List(items), Value::List(same)) => are_equal(items.as_slice(), same.as_slice()),
+        (Value::Nothing, Value::Nothing) => true,
+        (Value::Some(inner), Value::Some(same)) => equal(inner.get(), same.get()),
+        _ => false,
+    }
+}
+
+/// Whether two lists of values are equal.
+#[cycle(equality)]
+fn are_equal(values: &[Value], others: &[Value]) -> bool
+    ensures { IsTrue result ↔ (values.now ≡ others.now) }
+{
+    if values.len() != others.len() {
+        return false;
+    }
+    for (value, other) in values.iter().zip(others) {
+        if !equal(value, other) {
+            return false;
+        }
+    }
+    true
+}
+
+/// A value equal to this one.
+#[cycle(copying)]
+pub fn copy_value(alloc: Global, value: &Value) -> Result<Value, Memory>
+    ensures { IfOk result (λ copy. copy ≡ value.now) }
+{
+    Ok(match value {
+        Value::Int(number) => Value::Int(*number),
+        Value::Bool(truth) => Value::Bool(*truth),
+        Value::Enum(number, variant) => Value::Enum(*number, *variant),
+        Value::Rec(number, parts) => Value::Rec(*number, copy_values(alloc, parts.as_slice())?),
+        Value::List(items) => Value::List(copy_values(alloc, items.as_slice())?),
+        Value::Nothing => Value::Nothing,
+        Value::Some(inner) => Value::Some(Boxed::new(alloc, copy_value(alloc, inner.get())?)?),
+    })
+}
+
+/// A list equal to this one.
+#[cycle(copying)]
+fn copy_values(alloc: Global, values: &[Value]) -> Result<Values, Memory>
+    ensures { IfOk result (λ copies. copies ≡ values.now) }
+{
+    let mut copies = Seq::new(alloc);
+    for value in values {
+        copies.push(copy_value(alloc, value)?)?;
+    }
+    Ok(copies)
 }

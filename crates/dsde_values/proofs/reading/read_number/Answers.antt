@@ -2,7 +2,7 @@ use Rattle.std.proofs.Common.{FitsSigned, rules, sym, ◌∙◌}
 use Rattle.std.specs.Int.{w64}
 use Rattle.std.proofs.lemmas.Int.{to_z-of_z}
 use Rattle.dsde_values.proofs.Numbers.{take-number_size, Begins-number_size, only_number}
-use Rattle.dsde_values.proofs.spelling.read_number.Goals as goal
+use Rattle.dsde_values.proofs.reading.read_number.Goals as goal
 
 pub returns-in_err-number-clause-none : goal.returns-in_err-number-clause-none
 returns-in_err-number-clause-none c = rw c.from_residual.ensures
