@@ -12,16 +12,14 @@ use Rattle.dsde_cli.specs.Commands.{RunCommand}
 use Rattle.dsde_sim.specs.declared.event.Finish.{Finish}
 use Rattle.dsde_sim.specs.declared.event.Finish.TheVariants as how
 use Rattle.dsde_sim.specs.Text.{trace_text}
-use Rattle.dsde_run.specs.Reading.{Told, IsCutShort, IsFront}
+use Rattle.dsde_run.specs.Reading.{IsFront}
 use Rattle.dsde_run.specs.Run.{Run, records_in}
 use Rattle.dsde_run.specs.Steps.{Tells}
 use Rattle.dsde_cli.specs.declared.status.Status.{Status}
 use Rattle.dsde_cli.specs.declared.status.Status.TheVariants.{Done, Refused, Usage, BadInput, ModelFault, Unread, Unwritten, Memory, BadSave}
-use Rattle.dsde_cli.specs.declared.status.What.{What}
 use Rattle.dsde_cli.specs.declared.status.What.TheVariants as what
-use Rattle.dsde_cli.specs.declared.status.Why.{Why}
 use Rattle.dsde_cli.specs.declared.status.Why.TheVariants as why
-use Rattle.dsde_cli.specs.Outcome.{Writes, WritesFront, Comes, ComesUnread, status_of}
+use Rattle.dsde_cli.specs.Outcome.{Writes, WritesFront, Comes, status_of}
 
 -- the whole trace is a front of it
 front-whole : (model : FirstModel) (run : Run) (written : List ℕ) (out : Option (List ℕ)) → Writes model run written out → WritesFront model run written out

@@ -7,7 +7,7 @@ use Rattle.dsde_io.specs.declared.shelf.ShelfEnd.TheVariants as shelf_end
 use Rattle.dsde_io.specs.Held.{Bytes}
 use Rattle.dsde_cli.specs.declared.status.Refusal.TheVariants.{NotBuilt}
 use Rattle.dsde_cli.specs.declared.status.Status.{Status}
-use Rattle.dsde_cli.specs.declared.status.Status.TheVariants.{Done, Refused, Usage, BadInput, ModelFault, Unread, Unwritten, Memory, BadSave}
+use Rattle.dsde_cli.specs.declared.status.Status.TheVariants.{Done, Refused, Usage, BadInput, ModelFault, Unread, Unwritten, Memory}
 use Rattle.dsde_cli.specs.declared.status.What.{What}
 use Rattle.dsde_cli.specs.declared.status.What.TheVariants as what
 use Rattle.dsde_cli.specs.declared.status.Why.{Why}

@@ -1,16 +1,15 @@
 -- What asking for the head of an input does, from what the reader says of it.
 use Rattle.std.proofs.Common.{◌≡◌, ◌≢◌, ◌==◌, ◌||◌, ◌-◌, ◌+◌, ℕ, Bool, true, false, nat_lt, List, [], ◌∷◌, ◌++◌, length, get_or, drop, refl, sym, ◌∙◌, ap, subst, arith, append_assoc, length-append}
-use Rattle.std.specs.Prelude.{Option, Some, None, Result, Ok, Err, IfSome, IsSomeAnd, OnSome, is_some}
+use Rattle.std.specs.Prelude.{Option, Some, None, Ok, Err, IfSome, IsSomeAnd, OnSome, is_some}
 use Rattle.std.proofs.lemmas.List.{append_cancel_right}
 use Rattle.dsde_values.specs.declared.arrival.Arrival.{Arrival}
 use Rattle.dsde_input.specs.declared.end.InputEnd.{InputEnd}
 use Rattle.dsde_input.specs.declared.end.InputEnd.TheVariants as input_end
-use Rattle.dsde_input.specs.Lines.{lines}
-use Rattle.dsde_input.specs.Records.{Records, end, bad, one, records_of}
+use Rattle.dsde_input.specs.Records.{Records, end, bad, one}
 use Rattle.dsde_input.specs.Reader.{Reader, to_come, records, has_line, IsOffence, IsOneLine, Moves, TakesOfLine, TakesLine}
 use Rattle.dsde_input.specs.Reader as input
 use Rattle.dsde_run.specs.declared.heads.Heads.{Heads}
-use Rattle.dsde_run.specs.Heads.{IsReady, Takes, Gives, Ends, Asked, Refused, behind_head}
+use Rattle.dsde_run.specs.Heads.{IsReady, Takes, Gives, Asked, Refused, behind_head}
 use Rattle.dsde_run.specs.Reading.{Told, feeds, front}
 use Rattle.dsde_run.proofs.Feeds.{feeds-append, feeds-lacks, feeds-unended}
 

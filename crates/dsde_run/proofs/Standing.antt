@@ -1,19 +1,18 @@
 -- A run before a turn, and what each step does to it.
-use Rattle.std.proofs.Common.{◌≡◌, ◌≢◌, ℕ, zero, suc, ◌+◌, Bool, true, false, cond, List, [], ◌∷◌, ◌++◌, length, refl, sym, ◌∙◌, ap, subst, arith, append_assoc, length-append}
-use Rattle.std.specs.Prelude.{Option, Some, None, IfSome, IsSomeAnd}
+use Rattle.std.proofs.Common.{◌≡◌, ◌≢◌, ℕ, suc, ◌+◌, Bool, true, false, cond, List, [], ◌∷◌, ◌++◌, length, refl, sym, ◌∙◌, ap, arith, append_assoc, length-append}
+use Rattle.std.specs.Prelude.{Option, Some, None, IfSome}
 use Rattle.std.proofs.lemmas.List.{append-nil}
 use Rattle.dsde_first.specs.declared.first.FirstModel.{FirstModel}
 use Rattle.dsde_values.specs.declared.arrival.Arrival.{Arrival}
 use Rattle.dsde_input.specs.declared.end.InputEnd.{InputEnd}
 use Rattle.dsde_input.specs.declared.end.InputEnd.TheVariants.{ReadFault}
-use Rattle.dsde_input.specs.Reader.{IsOffence}
 use Rattle.dsde_input.specs.Records.{Records, end, bad, one}
 use Rattle.dsde_sim.specs.declared.event.Finish.{Finish}
 use Rattle.dsde_sim.specs.Engine.{Engine}
 use Rattle.dsde_sim.specs.Text.{trace_text}
 use Rattle.dsde_run.specs.declared.heads.Heads.{Heads}
 use Rattle.dsde_run.specs.declared.run.After.TheVariants.{Turned, Ended}
-use Rattle.dsde_run.specs.Heads.{IsReady, Takes, Gives, Ends, Asked, Refused, with_head, behind_head, passed}
+use Rattle.dsde_run.specs.Heads.{IsReady, Gives, Ends, Asked, Refused, with_head, behind_head, passed}
 use Rattle.dsde_run.specs.Reading.{Told, feeds, front, cut_after, TakesWanted, IsCutShort}
 use Rattle.dsde_run.specs.Run.{Run, go, turn_on, offended}
 use Rattle.dsde_run.specs.Steps.{Tells, GoesOn, Turns, Stops, ahead, Stands}

@@ -1,5 +1,5 @@
 -- A run's start, and then its turns.
-use Rattle.std.proofs.Common.{◌≡◌, ℕ, List, [], ◌++◌, Ok, ap, subst, sym, ◌∙◌}
+use Rattle.std.proofs.Common.{◌≡◌, ℕ, List, [], ◌++◌, Ok, ap, sym, ◌∙◌}
 use Rattle.std.specs.Prelude.{Option, Some, None, IfSome}
 use Rattle.dsde_first.specs.declared.first.FirstModel.{FirstModel}
 use Rattle.dsde_input.specs.Records.{Records}
@@ -9,7 +9,7 @@ use Rattle.dsde_sim.specs.Text.{trace_text}
 use Rattle.dsde_sim.specs.Turn.{start}
 use Rattle.dsde_sim.specs.Turn as turn
 use Rattle.dsde_run.specs.Reading.{Told, TakesWanted, IsCutShort}
-use Rattle.dsde_run.specs.Run.{Run, run, go, preceded}
+use Rattle.dsde_run.specs.Run.{Run, run, go}
 use Rattle.dsde_run.specs.Steps.{GoesOn}
 use Rattle.dsde_run.proofs.RunLemmas.{run-started, text-preceded}
 

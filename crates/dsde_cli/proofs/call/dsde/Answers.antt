@@ -1,9 +1,8 @@
-use Rattle.std.proofs.Common.{◌≡◌, Some, None, sym, subst, ap, ◌∙◌, inl, inr}
+use Rattle.std.proofs.Common.{◌≡◌, subst, ap, ◌∙◌}
 use Rattle.std.specs.Prelude.{IfSome}
 use Rattle.dsde_run.specs.Reading.{Told, TakesWanted}
 use Rattle.dsde_run.specs.Run.{run, records_in}
-use Rattle.dsde_cli.specs.Causes.{Holds}
-use Rattle.dsde_cli.specs.Commands.{RunCommand, run_command, command_of}
+use Rattle.dsde_cli.specs.Commands.{run_command}
 use Rattle.dsde_cli.specs.Outcome.{Comes}
 use Rattle.dsde_cli.proofs.Outcomes.{some_command, comes-reported}
 use Rattle.dsde_cli.proofs.call.dsde.Goals as goal

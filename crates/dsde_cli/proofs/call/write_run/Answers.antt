@@ -1,4 +1,4 @@
-use Rattle.std.proofs.Common.{◌≡◌, [], Err, ap, sym, subst}
+use Rattle.std.proofs.Common.{[], Err, ap, subst}
 use Rattle.std.specs.Prelude.{IfSome}
 use Rattle.dsde_io.specs.Bytes.{GainsFront}
 use Rattle.dsde_sim.specs.Text.{trace_text}

@@ -1,12 +1,11 @@
-use Rattle.std.proofs.Common.{◌≡◌, ◌+◌, ◌-◌, ◌++◌, ◌<◌, ◌^◌, zero, suc, None, List, ℕ, refl, ap, sym, subst, ◌∙◌, arith}
+use Rattle.std.proofs.Common.{◌≡◌, ◌+◌, ◌-◌, ◌++◌, ◌<◌, ◌^◌, zero, suc, refl, ap, sym, subst, ◌∙◌, arith}
 use Rattle.std.specs.Prelude.{IfSome}
 use Rattle.std.proofs.lemmas.Result.{IfOk-weaker}
 use Rattle.dsde_sim.specs.declared.event.Finish.TheVariants as how
 use Rattle.dsde_sim.specs.Text.{end_text}
-use Rattle.dsde_input.specs.Records.{Records}
 use Rattle.dsde_run.specs.Heads.{IsReady, Refused, behind_head, passed}
 use Rattle.dsde_run.specs.Reading.{Told}
-use Rattle.dsde_run.specs.Run.{Run, go, ended, offended}
+use Rattle.dsde_run.specs.Run.{go, ended, offended}
 use Rattle.dsde_run.specs.declared.run.After.TheVariants.{Turned, Ended}
 use Rattle.dsde_run.specs.Steps.{Stands, Turns, IsNext}
 use Rattle.dsde_run.proofs.RunLemmas.{Tells-ended}

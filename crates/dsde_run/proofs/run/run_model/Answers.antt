@@ -1,10 +1,10 @@
-use Rattle.std.proofs.Common.{◌≡◌, ◌++◌, ap, subst, sym, ◌∙◌}
+use Rattle.std.proofs.Common.{◌++◌, ap, subst, sym, ◌∙◌}
 use Rattle.std.proofs.lemmas.Result.{IfOk-weaker}
 use Rattle.dsde_input.specs.Record.{ArePorts}
 use Rattle.dsde_sim.specs.Text.{end_text, trace_text}
 use Rattle.dsde_sim.specs.Turn.{start}
-use Rattle.dsde_run.specs.Heads.{behind_head, at_start}
-use Rattle.dsde_run.specs.Reading.{Told, TakesWanted, IsCutShort}
+use Rattle.dsde_run.specs.Heads.{behind_head}
+use Rattle.dsde_run.specs.Reading.{TakesWanted, IsCutShort}
 use Rattle.dsde_run.specs.Run.{run, go, records_in, ended}
 use Rattle.dsde_run.specs.Steps.{Tells}
 use Rattle.dsde_run.proofs.Cutting.{IsFront-cut}

@@ -1,4 +1,3 @@
-use Rattle.std.proofs.Common.{sym}
 use Rattle.dsde_input.proofs.Moving.{Tells-moved, TakesOfLine-moved, line_answer}
 use Rattle.dsde_input.proofs.reader.InputReader.next.Goals as goal
 

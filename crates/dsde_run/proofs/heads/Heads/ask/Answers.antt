@@ -1,4 +1,4 @@
-use Rattle.std.proofs.Common.{◌≡◌, not, None, Some, Ok, Err, ◌∙◌, ap, sym, subst}
+use Rattle.std.proofs.Common.{◌≡◌, not, None, Ok, Err, ◌∙◌, ap, sym, subst}
 use Rattle.dsde_run.specs.Heads.{Asked}
 use Rattle.dsde_run.specs.Reading.{Told}
 use Rattle.dsde_run.proofs.Asking.{none_of, asked, asked_heads, refused}
