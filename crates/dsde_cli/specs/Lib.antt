@@ -1,4 +1,5 @@
 pub mod Causes
 pub mod Commands
 pub mod Given
+pub mod Note
 pub mod Outcome

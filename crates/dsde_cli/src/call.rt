@@ -1,4 +1,4 @@
-ghost use Rattle.std.specs.Prelude.{◌≡◌, ◌≤◌, ◌⊎◌, map, string_bytes, Some, None, IfOk, IfErr, IfSome};
+ghost use Rattle.std.specs.Prelude.{◌≡◌, ◌≢◌, ◌≤◌, ◌⊎◌, map, string_bytes, Some, None, IfOk, IfErr, IfSome};
 ghost use Rattle.dsde_io.specs.Fault.{Rose};
 ghost use Rattle.dsde_sim.specs.Engine.{HasFewPorts};
 ghost use Rattle.dsde_first.specs.declared.first.FirstModel.{FirstModel};
@@ -7,10 +7,11 @@ ghost use Rattle.dsde_run.specs.Reading.{Told, TakesWanted};
 ghost use Rattle.dsde_run.specs.Run.{run, records_in};
 ghost use Rattle.dsde_cli.specs.Causes.{Cause, Holds, HoldsNone, IsBeforeRun, IsOfRun, NoModel, SpellSome, Under, unread_model};
 ghost use Rattle.dsde_cli.specs.Commands.{RunCommand, command_of};
+ghost use Rattle.dsde_cli.specs.Note.{Noted, WritesNoteFront};
 ghost use Rattle.dsde_cli.specs.Outcome.{Comes, status_of};
 
 use crate::command::{Command, MOST_TURNS, read_command};
-use crate::status::write_note;
+use crate::note::write_note;
 use crate::{Refusal, Status, What, Why};
 use dsde_first::{FirstModel, ReadFirst, read_first};
 use dsde_io::{Shelf, ShelfEnd, Sink, SinkEnd, Source, write_all};
@@ -55,6 +56,12 @@ pub fn dsde<F: Shelf, R: Source, W: Sink, E: Sink>(
         (Rose (R.faults input.old) (R.faults input.new)) (Rose (W.faults out.old) (W.faults out.new)) result }
     ensures usage { command_of (map string_bytes words.now) ≡ None
         → ((result ≡ Status.Usage) ⊎ (result ≡ Status.Memory)) × (shelf.new ≡ shelf.old) × (input.new ≡ input.old) × (out.new ≡ out.old) }
+
+    // `notes` gains the line of the status, or a part from its front where that write failed.
+    // Where memory ran out it gains some of a line from its front, and in no case anything else.
+    ensures noted { result ≢ Status.Memory
+        → Noted (Rose (E.faults notes.old) (E.faults notes.new)) (E.written notes.old) (E.written notes.new) result }
+    ensures noted_front { IfSome (E.written notes.old) (λ written. WritesNoteFront written (E.written notes.new)) }
 
     // What stays as it was.
     ensures unrun { (asked : RunCommand) → command_of (map string_bytes words.now) ≡ Some asked
@@ -193,6 +200,9 @@ fn status_of(end: Finish) -> Status
 /// nothing; where memory ran out, that is the status, and its note needs none.
 pub fn report<E: Sink>(alloc: Global, status: Status, notes: &mut E) -> Status
     ensures same { (result ≡ status) ⊎ (result ≡ Status.Memory) }
+    ensures noted { result ≢ Status.Memory
+        → Noted (Rose (E.faults notes.old) (E.faults notes.new)) (E.written notes.old) (E.written notes.new) result }
+    ensures noted_front { IfSome (E.written notes.old) (λ written. WritesNoteFront written (E.written notes.new)) }
     ensures counted { E.faults notes.old ≤ E.faults notes.new }
 {
     let mut text = Text::new(alloc);

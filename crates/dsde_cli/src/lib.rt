@@ -3,6 +3,7 @@
 
 mod call;
 mod command;
+mod note;
 mod status;
 
 pub use call::{dsde, report};
