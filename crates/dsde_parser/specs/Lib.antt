@@ -1,0 +1,5 @@
+pub mod Depth
+pub mod Follows
+pub mod Parts
+pub mod Refusal
+pub mod Took

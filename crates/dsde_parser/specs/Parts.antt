@@ -1,0 +1,244 @@
+-- The levels and the spans of the parts of expressions, statements and items.
+use Rattle.std.specs.Prelude.{◌≡◌, ◌≤◌, ℕ, Bool, true, List, ◌++◌, map, Option}
+use Rattle.std.specs.Option.{option_map}
+use Rattle.std.specs.List.{list_all}
+use Rattle.dsde_syntax.specs.declared.token.Sign.{Sign}
+use Rattle.dsde_syntax.specs.declared.expr.Expr.{Expr}
+use Rattle.dsde_syntax.specs.declared.expr.Suffix.{Suffix}
+use Rattle.dsde_syntax.specs.declared.expr.ExprArm.{ExprArm}
+use Rattle.dsde_syntax.specs.declared.expr.FieldSet.{FieldSet}
+use Rattle.dsde_syntax.specs.declared.expr.SignTail.{SignTail}
+use Rattle.dsde_syntax.specs.declared.expr.Tail.{Tail}
+use Rattle.dsde_syntax.specs.declared.expr.Expr.TheFolds.{fold-Suffix, fold-ExprArm, fold-FieldSet, fold-SignTail, fold-Tail}
+use Rattle.dsde_syntax.specs.declared.stmt.Stmt.{Stmt}
+use Rattle.dsde_syntax.specs.declared.stmt.StmtArm.{StmtArm}
+use Rattle.dsde_syntax.specs.declared.stmt.Stmt.TheFolds.{fold-StmtArm}
+use Rattle.dsde_syntax.specs.declared.item.Item.{Item}
+use Rattle.dsde_syntax.specs.declared.item.ItemArm.{ItemArm}
+use Rattle.dsde_syntax.specs.declared.item.EndPart.{EndPart}
+use Rattle.dsde_syntax.specs.declared.item.EndPart.TheVariants as end_part
+use Rattle.dsde_syntax.specs.declared.item.ViaKey.{ViaKey}
+use Rattle.dsde_syntax.specs.declared.decl.PortDecl.{PortDecl}
+use Rattle.dsde_syntax.specs.declared.decl.Body.{Body}
+use Rattle.dsde_syntax.specs.declared.decl.Phase.{Phase}
+use Rattle.dsde_syntax.specs.declared.item.Item.TheFolds.{fold-ItemArm}
+use Rattle.dsde_syntax.specs.Levels.{has_first, if_written, is_expr, is_stmt, is_item, is_index, is_end, is_phase, is_body, level_of, level_step, suffix_level_step, expr_arm_level_step, field_set_level_step, sign_tail_level_step, tail_level_step, is_stmt_step, is_stmt_arm_step, is_item_step, is_item_arm_step}
+use Rattle.dsde_syntax.specs.declared.token.Key.TheVariants as key
+use Rattle.dsde_syntax.specs.declared.token.Sign.TheVariants as sign
+use Rattle.dsde_syntax.specs.declared.id.Id.{Id}
+use Rattle.dsde_syntax.specs.declared.item.End.{End}
+use Rattle.dsde_syntax.specs.declared.item.ViaPart.{ViaPart}
+use Rattle.dsde_syntax.specs.Grammar.{Tokens, word, joined, commas, elses, optional, in_braces, in_parens, block, mark, id_tokens, args_tokens, end_tokens, via_tokens, via_key_tokens, else_block, expr_tokens, tail_tokens, stmt_tokens, item_tokens, port_tokens, phase_tokens, exec_tokens}
+use Rattle.dsde_syntax.specs.Places.{◌>>◌, token, token_at, bracketed, id_span, args_span, block_span, end_span, via_span, via_key_span, all_spans, spans_with, written_span, else_span, expr_span, stmt_span, item_span, port_span, phase_span, exec_span, Span, span_step, suffix_span_step, expr_arm_span_step, field_set_span_step, sign_tail_span_step, tail_span_step, stmt_span_step, stmt_arm_span_step, item_span_step, item_arm_span_step}
+
+-- an expression that may stand at a level
+abbrev pub IsWithin : ℕ → Expr → Type 0
+IsWithin level expr = level_of expr ≤ level
+
+abbrev pub suffix_ok : Suffix → Bool
+suffix_ok = fold-Suffix ℕ Bool Bool Bool (Sign × ℕ) ℕ level_step suffix_level_step expr_arm_level_step field_set_level_step sign_tail_level_step tail_level_step
+
+abbrev pub suffix_span : Suffix → Span
+suffix_span = fold-Suffix Span Span Span Span Span Span span_step suffix_span_step expr_arm_span_step field_set_span_step sign_tail_span_step tail_span_step
+
+abbrev pub expr_arm_ok : ExprArm → Bool
+expr_arm_ok = fold-ExprArm ℕ Bool Bool Bool (Sign × ℕ) ℕ level_step suffix_level_step expr_arm_level_step field_set_level_step sign_tail_level_step tail_level_step
+
+abbrev pub expr_arm_span : ExprArm → Span
+expr_arm_span = fold-ExprArm Span Span Span Span Span Span span_step suffix_span_step expr_arm_span_step field_set_span_step sign_tail_span_step tail_span_step
+
+abbrev pub field_set_ok : FieldSet → Bool
+field_set_ok = fold-FieldSet ℕ Bool Bool Bool (Sign × ℕ) ℕ level_step suffix_level_step expr_arm_level_step field_set_level_step sign_tail_level_step tail_level_step
+
+abbrev pub field_set_span : FieldSet → Span
+field_set_span = fold-FieldSet Span Span Span Span Span Span span_step suffix_span_step expr_arm_span_step field_set_span_step sign_tail_span_step tail_span_step
+
+abbrev pub sign_tail_own : SignTail → Sign × ℕ
+sign_tail_own = fold-SignTail ℕ Bool Bool Bool (Sign × ℕ) ℕ level_step suffix_level_step expr_arm_level_step field_set_level_step sign_tail_level_step tail_level_step
+
+abbrev pub sign_tail_span : SignTail → Span
+sign_tail_span = fold-SignTail Span Span Span Span Span Span span_step suffix_span_step expr_arm_span_step field_set_span_step sign_tail_span_step tail_span_step
+
+abbrev pub tail_own : Tail → ℕ
+tail_own = fold-Tail ℕ Bool Bool Bool (Sign × ℕ) ℕ level_step suffix_level_step expr_arm_level_step field_set_level_step sign_tail_level_step tail_level_step
+
+abbrev pub tail_span : Tail → Span
+tail_span = fold-Tail Span Span Span Span Span Span span_step suffix_span_step expr_arm_span_step field_set_span_step sign_tail_span_step tail_span_step
+
+abbrev pub stmt_arm_ok : StmtArm → Bool
+stmt_arm_ok = fold-StmtArm Bool Bool is_stmt_step is_stmt_arm_step
+
+abbrev pub stmt_arm_span : StmtArm → Span
+stmt_arm_span = fold-StmtArm Span Span stmt_span_step stmt_arm_span_step
+
+abbrev pub item_arm_ok : ItemArm → Bool
+item_arm_ok = fold-ItemArm Bool Bool is_item_step is_item_arm_step
+
+abbrev pub item_arm_span : ItemArm → Span
+item_arm_span = fold-ItemArm Span Span item_span_step item_arm_span_step
+
+-- each of some parts is of the grammar
+abbrev pub AllOk : {A : Type 0} → (A → Bool) → List A → Type 0
+AllOk ok list = list_all ok list ≡ true
+
+abbrev pub IsOk : {A : Type 0} → (A → Bool) → A → Type 0
+IsOk ok value = ok value ≡ true
+
+pub record SomeOk {A : Type 0} (ok : A → Bool) (list : List A) : Type 0 where
+  pub some : has_first list ≡ true
+  pub all : list_all ok list ≡ true
+
+-- ["if" expr]
+abbrev pub test_tokens : Option Expr → Tokens
+test_tokens cond = optional (λ test. word key.If ++ test) (option_map expr_tokens cond)
+
+abbrev pub test_span : Option Expr → Span
+test_span cond = written_span (λ test. token >> test) (option_map expr_span cond)
+
+-- operands behind "or" and "and"
+abbrev pub or_tail_tokens : Tail → Tokens
+or_tail_tokens tail = word key.Or ++ tail_tokens tail
+
+abbrev pub and_tail_tokens : Tail → Tokens
+and_tail_tokens tail = word key.And ++ tail_tokens tail
+
+abbrev pub joined_by : {A : Type 0} → (A → Tokens) → List A → Tokens
+joined_by spelled list = joined (map spelled list)
+
+abbrev pub all_by : {A : Type 0} → (A → Span) → List A → Span
+all_by span list = all_spans (map span list)
+
+abbrev pub commas_by : {A : Type 0} → (A → Tokens) → List A → Tokens
+commas_by spelled list = commas (map spelled list)
+
+abbrev pub spans_by : {A : Type 0} → (A → Span) → List A → Span
+spans_by span list = spans_with token (map span list)
+
+abbrev pub elses_by : {A : Type 0} → (A → Tokens) → List A → Tokens
+elses_by spelled list = elses (map spelled list)
+
+-- "if" expr
+abbrev pub if_span : Expr → Span
+if_span cond = token >> expr_span cond
+
+-- ["else" block], of statements and of items
+abbrev pub last_stmts_tokens : Option (List Stmt) → Tokens
+last_stmts_tokens other = optional else_block (option_map (map stmt_tokens) other)
+
+abbrev pub last_stmts_span : Option (List Stmt) → Span
+last_stmts_span other = written_span else_span (option_map (map stmt_span) other)
+
+abbrev pub last_stmts_ok : Option (List Stmt) → Type 0
+last_stmts_ok other = if_written (list_all is_stmt) other ≡ true
+
+abbrev pub last_items_tokens : Option (List Item) → Tokens
+last_items_tokens other = optional else_block (option_map (map item_tokens) other)
+
+abbrev pub last_items_span : Option (List Item) → Span
+last_items_span other = written_span else_span (option_map (map item_span) other)
+
+abbrev pub last_items_ok : Option (List Item) → Type 0
+last_items_ok other = if_written (list_all is_item) other ≡ true
+
+abbrev pub is_end_part : EndPart → Bool
+is_end_part end_part.Net = true
+is_end_part end_part.Exec = true
+is_end_part (end_part.Kid name index) = is_index index
+
+abbrev pub is_via_key : Option ViaKey → Bool
+is_via_key = if_written (λ (own : ViaKey). is_expr own.value)
+
+abbrev pub any_ok : {A : Type 0} → A → Bool
+any_ok value = true
+
+abbrev pub ResultOk : List Stmt × Expr → Type 0
+ResultOk own = (list_all is_stmt own.0 ≡ true) × (is_expr own.1 ≡ true)
+
+abbrev pub exec_spelled : ℕ × Body × List Item → Tokens
+exec_spelled own = exec_tokens own.1 own.2
+
+abbrev pub exec_placed : ℕ × Body × List Item → Span
+exec_placed own = exec_span own.0 own.1 own.2
+
+abbrev pub ExecOk : ℕ × Body × List Item → Type 0
+ExecOk own = (is_body own.1 ≡ true) × (list_all is_item own.2 ≡ true)
+
+abbrev pub network_spelled : List PortDecl × (ℕ × Body × List Item) → Tokens
+network_spelled own = in_braces (joined (map port_tokens own.0) ++ exec_spelled own.1)
+
+abbrev pub network_placed : List PortDecl × (ℕ × Body × List Item) → Span
+network_placed own = bracketed (all_spans (map port_span own.0) >> exec_placed own.1)
+
+abbrev pub NetworkOk : List PortDecl × (ℕ × Body × List Item) → Type 0
+NetworkOk own = ExecOk own.1
+
+abbrev pub phases_spelled : Option Phase × Option Phase × Option Phase × Option Phase → Tokens
+phases_spelled own = phase_tokens key.Output own.0 ++ phase_tokens key.Internal own.1 ++ phase_tokens key.External own.2 ++ phase_tokens key.Confluent own.3
+
+abbrev pub phases_placed : Option Phase × Option Phase × Option Phase × Option Phase → Span
+phases_placed own = phase_span own.0 >> phase_span own.1 >> phase_span own.2 >> phase_span own.3
+
+pub record PhasesOk (own : Option Phase × Option Phase × Option Phase × Option Phase) : Type 0 where
+  pub output : is_phase own.0 ≡ true
+  pub internal : is_phase own.1 ≡ true
+  pub external : is_phase own.2 ≡ true
+  pub confluent : is_phase own.3 ≡ true
+
+-- "is" id args ";"
+abbrev pub made_tokens : Id × List Expr → Tokens
+made_tokens own = word key.Is ++ id_tokens own.0 ++ args_tokens own.1 ++ mark sign.Semicolon
+
+abbrev pub made_span : Id × List Expr → Span
+made_span own = token >> id_span own.0 >> args_span (map expr_span own.1) >> token
+
+-- "(" id ["," id "=" expr] ")"
+abbrev pub via_names_tokens : Id × Option ViaKey → Tokens
+via_names_tokens own = in_parens (id_tokens own.0 ++ optional via_key_tokens own.1)
+
+abbrev pub via_names_span : Id × Option ViaKey → Span
+via_names_span own = bracketed (id_span own.0 >> written_span via_key_span own.1)
+
+-- "=>" expr
+abbrev pub via_body_tokens : Expr → Tokens
+via_body_tokens body = mark sign.FatArrow ++ expr_tokens body
+
+abbrev pub via_body_span : Expr → Span
+via_body_span body = token >> expr_span body
+
+-- "->" end
+abbrev pub target_tokens : End → Tokens
+target_tokens end = mark sign.Arrow ++ end_tokens end
+
+abbrev pub target_span : End → Span
+target_span end = token >> end_span end
+
+-- end "->" end
+abbrev pub ends_tokens : End × End → Tokens
+ends_tokens own = end_tokens own.0 ++ target_tokens own.1
+
+abbrev pub ends_span : End × End → Span
+ends_span own = end_span own.0 >> target_span own.1
+
+abbrev pub EndsOk : End × End → Type 0
+EndsOk own = (is_end own.0 ≡ true) × (is_end own.1 ≡ true)
+
+-- ["via" ..] ";"
+abbrev pub last_via_tokens : Option ViaPart → Tokens
+last_via_tokens via = optional via_tokens via ++ mark sign.Semicolon
+
+abbrev pub last_via_span : Option ViaPart → Span
+last_via_span via = written_span via_span via >> token
+
+-- "structure" items "}"
+abbrev pub structure_tokens : List Item → Tokens
+structure_tokens items = word key.Structure ++ block (map item_tokens items) ++ mark sign.CloseBrace
+
+abbrev pub structure_span : List Item → Span
+structure_span items = token >> block_span (map item_span items) >> token
+
+-- "advance" expr ";"
+abbrev pub advance_tokens : Expr → Tokens
+advance_tokens advance = word key.Advance ++ expr_tokens advance ++ mark sign.Semicolon
+
+abbrev pub advance_span : ℕ → Expr → Span
+advance_span at advance = token_at at >> expr_span advance >> token
