@@ -1,5 +1,5 @@
 ghost use Rattle.std.specs.Option.{is_some};
-ghost use Rattle.std.specs.Prelude.{IfErr, Err, None, false, ◌≡◌, ◌<◌, ◌≤◌, ◌+◌, ◌^◌, ◌∷◌, IfOk, true, [], map, MatchOption, length};
+ghost use Rattle.std.specs.Prelude.{IfErr, Err, None, false, ◌≡◌, ◌<◌, ◌+◌, ◌^◌, ◌∷◌, IfOk, true, [], map, MatchOption, length};
 ghost use Rattle.dsde_syntax.specs.Grammar.{id_tokens, type_tokens, in_angles};
 ghost use Rattle.dsde_syntax.specs.Levels.{is_builtin, is_comparison, is_sum_sign, is_mul_sign};
 ghost use Rattle.dsde_syntax.specs.Places.{id_span, type_span, bracketed};

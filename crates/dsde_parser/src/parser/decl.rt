@@ -1,4 +1,4 @@
-ghost use Rattle.std.specs.Prelude.{◌≡◌, ◌<◌, ◌≤◌, ◌∷◌, ◌++◌, [], true, false, map, length, OnOk, IfErr};
+ghost use Rattle.std.specs.Prelude.{◌≡◌, ◌<◌, ◌∷◌, ◌++◌, [], true, false, map, OnOk, IfErr};
 ghost use Rattle.dsde_syntax.specs.Grammar.{id_tokens, typed_tokens, params_tokens, port_tokens, state_tokens, phase_tokens, body_tokens, result_tokens, decl_tokens};
 ghost use Rattle.dsde_syntax.specs.Places.{args_span, id_span, typed_span, port_span, state_span, phase_span, body_span, result_span, decl_span};
 ghost use Rattle.dsde_syntax.specs.Levels.{is_expr, is_item, is_state, is_phase, is_body, is_decl};

@@ -1,4 +1,4 @@
-ghost use Rattle.std.specs.Prelude.{◌≡◌, ◌<◌, ◌≤◌, ◌∷◌, ◌++◌, [], true, false, map, length, OnOk, IfErr};
+ghost use Rattle.std.specs.Prelude.{◌≡◌, ◌<◌, ◌∷◌, ◌++◌, [], true, false, map, OnOk};
 ghost use Rattle.dsde_syntax.specs.Grammar.{commas, in_parens, in_braces, expr_tokens, suffix_tokens, expr_arm_tokens, field_set_tokens, sign_tail_tokens};
 ghost use Rattle.dsde_syntax.specs.Places.{bracketed, args_span, expr_span};
 ghost use Rattle.dsde_syntax.specs.Levels.{if_written, is_expr, stands_at, may_follow, is_sum_sign, is_mul_sign};

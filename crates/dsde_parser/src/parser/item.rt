@@ -1,4 +1,4 @@
-ghost use Rattle.std.specs.Prelude.{◌≡◌, ◌<◌, ◌≤◌, ◌∷◌, ◌++◌, [], true, false, map, length, OnOk, IfErr};
+ghost use Rattle.std.specs.Prelude.{◌≡◌, ◌<◌, ◌∷◌, ◌++◌, [], true, false, map, OnOk};
 ghost use Rattle.dsde_syntax.specs.Grammar.{block, optional, component_tokens, end_tokens, end_part_tokens, via_tokens, via_key_tokens, item_tokens, item_arm_tokens};
 ghost use Rattle.dsde_syntax.specs.Places.{block_span, written_span, component_span, end_span, end_part_span, via_span, via_key_span, item_span};
 ghost use Rattle.dsde_syntax.specs.Levels.{if_written, is_expr, is_index, is_end, is_via, is_item};

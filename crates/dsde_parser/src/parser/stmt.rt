@@ -1,4 +1,4 @@
-ghost use Rattle.std.specs.Prelude.{◌≡◌, ◌<◌, ◌≤◌, ◌∷◌, ◌++◌, [], true, false, map, length, OnOk, IfErr};
+ghost use Rattle.std.specs.Prelude.{◌≡◌, ◌<◌, ◌∷◌, [], true, false, map, OnOk};
 ghost use Rattle.dsde_syntax.specs.Grammar.{block, set_tokens, for_tokens, if_tokens, stmt_tokens, stmt_arm_tokens};
 ghost use Rattle.dsde_syntax.specs.Places.{block_span, set_span, for_span, stmt_span};
 ghost use Rattle.dsde_syntax.specs.Levels.{is_expr, is_stmt};
