@@ -21,11 +21,11 @@ use Rattle.dsde_syntax.specs.declared.expr.Expr.TheOpen.{Suffix-F, SignTail-F, T
 use Rattle.dsde_syntax.specs.declared.expr.Expr.TheViews.{roll-Suffix, roll-SignTail, roll-Tail}
 use Rattle.dsde_syntax.specs.declared.expr.Expr.TheFolds.{map-Suffix}
 use Rattle.dsde_syntax.specs.Grammar.{Tokens, word, joined, suffix_step as suffix_tokens_step, type_step as type_tokens_step, type_tokens, expr_tokens, suffix_tokens, expr_arm_tokens, field_set_tokens, sign_tail_tokens, tail_tokens}
-use Rattle.dsde_syntax.specs.Levels.{suffix_level_step, stands_at, level_of, may_follow, is_comparison, is_sum_sign, is_mul_sign}
+use Rattle.dsde_syntax.specs.Levels.{suffix_level_step, stands_at, level_of, may_follow, is_comparison, is_sum_sign, is_mul_sign, is_expr_arm, is_field_set, is_suffix, sign_tail_level, tail_level}
 use Rattle.dsde_grammar.specs.Want.{Want}
 use Rattle.dsde_grammar.specs.Want as want
 use Rattle.dsde_grammar.specs.Steps.{repeated, type_step, neg_wants, mul_wants, sum_wants, negation_step, minus_step, suffix_step, factor_step, term_step, comparison_step, conjunct_step, disjunct_step, fallback_step}
-use Rattle.dsde_grammar.proofs.Layers.{suffix_ok, expr_arm_ok, field_set_ok, sign_tail_own, tail_own, type-tokens, suffix-tokens, suffix-level, sign_tail-tokens, sign_tail-level, tail-tokens, tail-level}
+use Rattle.dsde_grammar.proofs.Layers.{type-tokens, suffix-tokens, suffix-level, sign_tail-tokens, sign_tail-level, tail-tokens, tail-level}
 use Rattle.dsde_grammar.proofs.Values.{Good, Several, ExprOf, Spelled, Meets}
 use Rattle.dsde_grammar.proofs.Taking.{Takes, Sound, repeated-sound, go_if-takes, named, one_more, true-and}
 use Rattle.dsde_grammar.proofs.Levels.{neg-of, mul-of, sum-of, not-of, and-of, or-of}
@@ -51,7 +51,7 @@ minus-takes (tok.Sign sign.Minus) = λ vs. record { value = true; spells = refl 
 minus-takes _ = tt
 
 -- a suffix by its layer
-suffix-made : (x : Suffix-F Expr Suffix ExprArm FieldSet SignTail Tail) {u : Tokens} → suffix_tokens_step (map-Suffix Expr Suffix ExprArm FieldSet SignTail Tail Tokens Tokens Tokens Tokens Tokens Tokens expr_tokens suffix_tokens expr_arm_tokens field_set_tokens sign_tail_tokens tail_tokens x) ≡ u → suffix_level_step (map-Suffix Expr Suffix ExprArm FieldSet SignTail Tail ℕ Bool Bool Bool (Sign × ℕ) ℕ level_of suffix_ok expr_arm_ok field_set_ok sign_tail_own tail_own x) ≡ true → Meets want.suffix u
+suffix-made : (x : Suffix-F Expr Suffix ExprArm FieldSet SignTail Tail) {u : Tokens} → suffix_tokens_step (map-Suffix Expr Suffix ExprArm FieldSet SignTail Tail Tokens Tokens Tokens Tokens Tokens Tokens expr_tokens suffix_tokens expr_arm_tokens field_set_tokens sign_tail_tokens tail_tokens x) ≡ u → suffix_level_step (map-Suffix Expr Suffix ExprArm FieldSet SignTail Tail ℕ Bool Bool Bool (Sign × ℕ) ℕ level_of is_suffix is_expr_arm is_field_set sign_tail_level tail_level x) ≡ true → Meets want.suffix u
 suffix-made x e h = record { value = record { value = roll-Suffix x; good = suffix-level x ∙ h }; spells = suffix-tokens x ∙ e }
 
 pub suffix-takes : (t : Tok) → Takes (λ u. Meets want.suffix (t ∷ u)) (suffix_step t)
@@ -68,12 +68,12 @@ several-join own ok one all turn u first vs =
 pub suffixes-sound : (t : Tok) → Sound (λ u. Meets want.suffixes (t ∷ u)) (Meets want.suffixes []) (repeated want.suffixes (suffix_step t))
 suffixes-sound t =
     repeated-sound (Meets want.suffix) want.suffixes t (suffix_step t) (suffix-takes t)
-    (several-join suffix_ok (λ holds. holds) suffix_tokens (λ items. joined (map suffix_tokens items)) (λ x xs. refl))
+    (several-join is_suffix (λ holds. holds) suffix_tokens (λ items. joined (map suffix_tokens items)) (λ x xs. refl))
     (record { value = record { items = []; all = refl }; spells = refl })
 
 -- a sign and what stands behind it
 abbrev SignTailOf : (Sign → Bool) → ℕ → Tokens → Type 0
-SignTailOf is level = Spelled (λ (v : Good (λ v. may_follow is level (sign_tail_own v))). sign_tail_tokens v.value)
+SignTailOf is level = Spelled (λ (v : Good (λ v. may_follow is level (sign_tail_level v))). sign_tail_tokens v.value)
 
 sign_tail-of : (is : Sign → Bool) (level : ℕ) (which : Sign) → is which ≡ true → {u : Tokens} → ExprOf level u → SignTailOf is level (tok.Sign which ∷ u)
 sign_tail-of is level which h own =
@@ -91,7 +91,7 @@ factor-takes _ = tt
 pub factors-sound : (t : Tok) → Sound (λ u. Meets want.factors (t ∷ u)) (Meets want.factors []) (repeated want.factors (factor_step t))
 factors-sound t =
     repeated-sound (SignTailOf is_mul_sign 2) want.factors t (factor_step t) (factor-takes t)
-    (several-join sign_tail_own (may_follow is_mul_sign 2) sign_tail_tokens (λ items. joined (map sign_tail_tokens items)) (λ x xs. refl))
+    (several-join sign_tail_level (may_follow is_mul_sign 2) sign_tail_tokens (λ items. joined (map sign_tail_tokens items)) (λ x xs. refl))
     (record { value = record { items = []; all = refl }; spells = refl })
 
 term-takes : (t : Tok) → Takes (λ u. SignTailOf is_sum_sign 3 (t ∷ u)) (term_step t)
@@ -102,7 +102,7 @@ term-takes _ = tt
 pub terms-sound : (t : Tok) → Sound (λ u. Meets want.terms (t ∷ u)) (Meets want.terms []) (repeated want.terms (term_step t))
 terms-sound t =
     repeated-sound (SignTailOf is_sum_sign 3) want.terms t (term_step t) (term-takes t)
-    (several-join sign_tail_own (may_follow is_sum_sign 3) sign_tail_tokens (λ items. joined (map sign_tail_tokens items)) (λ x xs. refl))
+    (several-join sign_tail_level (may_follow is_sum_sign 3) sign_tail_tokens (λ items. joined (map sign_tail_tokens items)) (λ x xs. refl))
     (record { value = record { items = []; all = refl }; spells = refl })
 
 comparison-of : (which : Sign) → is_comparison which ≡ true → {u : Tokens} → ExprOf 4 u → Meets want.comparison (tok.Sign which ∷ u)
@@ -116,7 +116,7 @@ comparison-takes _ = tt
 
 -- a word and what stands behind it
 abbrev TailOf : Key → ℕ → Tokens → Type 0
-TailOf which level = Spelled (λ (v : Good (λ v. stands_at level (tail_own v))). word which ++ tail_tokens v.value)
+TailOf which level = Spelled (λ (v : Good (λ v. stands_at level (tail_level v))). word which ++ tail_tokens v.value)
 
 tail-of : (which : Key) (level : ℕ) {u : Tokens} → ExprOf level u → TailOf which level (tok.Key which ∷ u)
 tail-of which level own =
@@ -133,7 +133,7 @@ conjunct-takes _ = tt
 pub conjuncts-sound : (t : Tok) → Sound (λ u. Meets want.conjuncts (t ∷ u)) (Meets want.conjuncts []) (repeated want.conjuncts (conjunct_step t))
 conjuncts-sound t =
     repeated-sound (TailOf key.And 6) want.conjuncts t (conjunct_step t) (conjunct-takes t)
-    (several-join tail_own (stands_at 6) (λ v. word key.And ++ tail_tokens v) (λ items. flat_map (λ own. word key.And ++ own) (map tail_tokens items)) (λ x xs. refl))
+    (several-join tail_level (stands_at 6) (λ v. word key.And ++ tail_tokens v) (λ items. flat_map (λ own. word key.And ++ own) (map tail_tokens items)) (λ x xs. refl))
     (record { value = record { items = []; all = refl }; spells = refl })
 
 disjunct-takes : (t : Tok) → Takes (λ u. TailOf key.Or 7 (t ∷ u)) (disjunct_step t)
@@ -143,7 +143,7 @@ disjunct-takes _ = tt
 pub disjuncts-sound : (t : Tok) → Sound (λ u. Meets want.disjuncts (t ∷ u)) (Meets want.disjuncts []) (repeated want.disjuncts (disjunct_step t))
 disjuncts-sound t =
     repeated-sound (TailOf key.Or 7) want.disjuncts t (disjunct_step t) (disjunct-takes t)
-    (several-join tail_own (stands_at 7) (λ v. word key.Or ++ tail_tokens v) (λ items. flat_map (λ own. word key.Or ++ own) (map tail_tokens items)) (λ x xs. refl))
+    (several-join tail_level (stands_at 7) (λ v. word key.Or ++ tail_tokens v) (λ items. flat_map (λ own. word key.Or ++ own) (map tail_tokens items)) (λ x xs. refl))
     (record { value = record { items = []; all = refl }; spells = refl })
 
 fallback-of : {u : Tokens} → ExprOf 8 u → Meets want.fallback (tok.Sign sign.QuestionQuestion ∷ u)

@@ -11,8 +11,7 @@ use Rattle.dsde_syntax.specs.declared.expr.Expr.TheOpen.{Expr-F, Suffix-F, ExprA
 use Rattle.dsde_syntax.specs.declared.expr.Expr.TheViews.{roll-Expr, roll-Suffix, roll-ExprArm, roll-FieldSet, roll-SignTail, roll-Tail}
 use Rattle.dsde_syntax.specs.declared.expr.Expr.TheFolds.{map-Expr, map-Suffix, map-ExprArm, map-FieldSet, map-SignTail, map-Tail, fold-roll-Expr, fold-roll-Suffix, fold-roll-ExprArm, fold-roll-FieldSet, fold-roll-SignTail, fold-roll-Tail, ind-Expr}
 use Rattle.dsde_syntax.specs.Grammar.{Tokens, expr_step, suffix_step, expr_arm_step, field_set_step, sign_tail_step, tail_step, expr_tokens, suffix_tokens, expr_arm_tokens, field_set_tokens, sign_tail_tokens, tail_tokens}
-use Rattle.dsde_syntax.specs.Levels.{level_step, suffix_level_step, expr_arm_level_step, field_set_level_step, sign_tail_level_step, tail_level_step, level_of, is_expr}
-use Rattle.dsde_syntax.proofs.ExprFolds.{suffix_ok, expr_arm_ok, field_set_ok, sign_tail_own, tail_own}
+use Rattle.dsde_syntax.specs.Levels.{level_step, suffix_level_step, expr_arm_level_step, field_set_level_step, sign_tail_level_step, tail_level_step, level_of, is_expr, is_expr_arm, is_field_set, is_suffix, sign_tail_level, tail_level}
 use Rattle.dsde_grammar.proofs.LevelPasses.{ExprPasses, WholeExpr, whole}
 use Rattle.dsde_grammar.proofs.OperatorPasses.{SuffixPasses, SignTailPasses, TailPasses, SuffixClaim, SignTailClaim, TailClaim, or_else-passes, or-passes, and-passes, not-passes, compare-passes, sum-passes, mul-passes, neg-passes, post-passes, sign_tail-passes, tail-passes}
 use Rattle.dsde_grammar.proofs.PrimPasses.{ArmPasses, FieldPasses, ExprClaim, ArmClaim, FieldClaim, field_suffix, index_suffix, unwrap_suffix, field_set-passes, expr_arm-passes, number-passes, truth-passes, elapsed-passes, name-passes, call-passes, variant-passes, new-passes, none-passes, empty-passes, builtin-passes, paren-passes, row-passes, each-passes, choice-passes}
@@ -21,32 +20,32 @@ use Rattle.dsde_grammar.proofs.PrimPasses.{ArmPasses, FieldPasses, ExprClaim, Ar
 pub roll-claim : {A B : Type 0} (P : A → B → Type 0) (a a' : A) (b b' : B) → a ≡ a' → b ≡ b' → P a' b' → P a b
 roll-claim P a a' b b' ha hb own = subst (λ own. P own b) (sym ha) (subst (λ own. P a' own) (sym hb) own)
 
-expr-roll : (x : Expr-F Expr Suffix ExprArm FieldSet SignTail Tail) → ExprPasses (expr_step (map-Expr Expr Suffix ExprArm FieldSet SignTail Tail Tokens Tokens Tokens Tokens Tokens Tokens expr_tokens suffix_tokens expr_arm_tokens field_set_tokens sign_tail_tokens tail_tokens x)) (level_step (map-Expr Expr Suffix ExprArm FieldSet SignTail Tail ℕ Bool Bool Bool (Sign × ℕ) ℕ level_of suffix_ok expr_arm_ok field_set_ok sign_tail_own tail_own x)) → ExprClaim (roll-Expr x)
+expr-roll : (x : Expr-F Expr Suffix ExprArm FieldSet SignTail Tail) → ExprPasses (expr_step (map-Expr Expr Suffix ExprArm FieldSet SignTail Tail Tokens Tokens Tokens Tokens Tokens Tokens expr_tokens suffix_tokens expr_arm_tokens field_set_tokens sign_tail_tokens tail_tokens x)) (level_step (map-Expr Expr Suffix ExprArm FieldSet SignTail Tail ℕ Bool Bool Bool (Sign × ℕ) ℕ level_of is_suffix is_expr_arm is_field_set sign_tail_level tail_level x)) → ExprClaim (roll-Expr x)
 expr-roll x own = roll-claim ExprPasses _ _ _ _
     (fold-roll-Expr Tokens Tokens Tokens Tokens Tokens Tokens expr_step suffix_step expr_arm_step field_set_step sign_tail_step tail_step x)
     (fold-roll-Expr ℕ Bool Bool Bool (Sign × ℕ) ℕ level_step suffix_level_step expr_arm_level_step field_set_level_step sign_tail_level_step tail_level_step x) own
 
-suffix-roll : (x : Suffix-F Expr Suffix ExprArm FieldSet SignTail Tail) → SuffixPasses (suffix_step (map-Suffix Expr Suffix ExprArm FieldSet SignTail Tail Tokens Tokens Tokens Tokens Tokens Tokens expr_tokens suffix_tokens expr_arm_tokens field_set_tokens sign_tail_tokens tail_tokens x)) (suffix_level_step (map-Suffix Expr Suffix ExprArm FieldSet SignTail Tail ℕ Bool Bool Bool (Sign × ℕ) ℕ level_of suffix_ok expr_arm_ok field_set_ok sign_tail_own tail_own x)) → SuffixClaim (roll-Suffix x)
+suffix-roll : (x : Suffix-F Expr Suffix ExprArm FieldSet SignTail Tail) → SuffixPasses (suffix_step (map-Suffix Expr Suffix ExprArm FieldSet SignTail Tail Tokens Tokens Tokens Tokens Tokens Tokens expr_tokens suffix_tokens expr_arm_tokens field_set_tokens sign_tail_tokens tail_tokens x)) (suffix_level_step (map-Suffix Expr Suffix ExprArm FieldSet SignTail Tail ℕ Bool Bool Bool (Sign × ℕ) ℕ level_of is_suffix is_expr_arm is_field_set sign_tail_level tail_level x)) → SuffixClaim (roll-Suffix x)
 suffix-roll x own = roll-claim SuffixPasses _ _ _ _
     (fold-roll-Suffix Tokens Tokens Tokens Tokens Tokens Tokens expr_step suffix_step expr_arm_step field_set_step sign_tail_step tail_step x)
     (fold-roll-Suffix ℕ Bool Bool Bool (Sign × ℕ) ℕ level_step suffix_level_step expr_arm_level_step field_set_level_step sign_tail_level_step tail_level_step x) own
 
-expr_arm-roll : (x : ExprArm-F Expr Suffix ExprArm FieldSet SignTail Tail) → ArmPasses (expr_arm_step (map-ExprArm Expr Suffix ExprArm FieldSet SignTail Tail Tokens Tokens Tokens Tokens Tokens Tokens expr_tokens suffix_tokens expr_arm_tokens field_set_tokens sign_tail_tokens tail_tokens x)) (expr_arm_level_step (map-ExprArm Expr Suffix ExprArm FieldSet SignTail Tail ℕ Bool Bool Bool (Sign × ℕ) ℕ level_of suffix_ok expr_arm_ok field_set_ok sign_tail_own tail_own x)) → ArmClaim (roll-ExprArm x)
+expr_arm-roll : (x : ExprArm-F Expr Suffix ExprArm FieldSet SignTail Tail) → ArmPasses (expr_arm_step (map-ExprArm Expr Suffix ExprArm FieldSet SignTail Tail Tokens Tokens Tokens Tokens Tokens Tokens expr_tokens suffix_tokens expr_arm_tokens field_set_tokens sign_tail_tokens tail_tokens x)) (expr_arm_level_step (map-ExprArm Expr Suffix ExprArm FieldSet SignTail Tail ℕ Bool Bool Bool (Sign × ℕ) ℕ level_of is_suffix is_expr_arm is_field_set sign_tail_level tail_level x)) → ArmClaim (roll-ExprArm x)
 expr_arm-roll x own = roll-claim ArmPasses _ _ _ _
     (fold-roll-ExprArm Tokens Tokens Tokens Tokens Tokens Tokens expr_step suffix_step expr_arm_step field_set_step sign_tail_step tail_step x)
     (fold-roll-ExprArm ℕ Bool Bool Bool (Sign × ℕ) ℕ level_step suffix_level_step expr_arm_level_step field_set_level_step sign_tail_level_step tail_level_step x) own
 
-field_set-roll : (x : FieldSet-F Expr Suffix ExprArm FieldSet SignTail Tail) → FieldPasses (field_set_step (map-FieldSet Expr Suffix ExprArm FieldSet SignTail Tail Tokens Tokens Tokens Tokens Tokens Tokens expr_tokens suffix_tokens expr_arm_tokens field_set_tokens sign_tail_tokens tail_tokens x)) (field_set_level_step (map-FieldSet Expr Suffix ExprArm FieldSet SignTail Tail ℕ Bool Bool Bool (Sign × ℕ) ℕ level_of suffix_ok expr_arm_ok field_set_ok sign_tail_own tail_own x)) → FieldClaim (roll-FieldSet x)
+field_set-roll : (x : FieldSet-F Expr Suffix ExprArm FieldSet SignTail Tail) → FieldPasses (field_set_step (map-FieldSet Expr Suffix ExprArm FieldSet SignTail Tail Tokens Tokens Tokens Tokens Tokens Tokens expr_tokens suffix_tokens expr_arm_tokens field_set_tokens sign_tail_tokens tail_tokens x)) (field_set_level_step (map-FieldSet Expr Suffix ExprArm FieldSet SignTail Tail ℕ Bool Bool Bool (Sign × ℕ) ℕ level_of is_suffix is_expr_arm is_field_set sign_tail_level tail_level x)) → FieldClaim (roll-FieldSet x)
 field_set-roll x own = roll-claim FieldPasses _ _ _ _
     (fold-roll-FieldSet Tokens Tokens Tokens Tokens Tokens Tokens expr_step suffix_step expr_arm_step field_set_step sign_tail_step tail_step x)
     (fold-roll-FieldSet ℕ Bool Bool Bool (Sign × ℕ) ℕ level_step suffix_level_step expr_arm_level_step field_set_level_step sign_tail_level_step tail_level_step x) own
 
-sign_tail-roll : (x : SignTail-F Expr Suffix ExprArm FieldSet SignTail Tail) → SignTailPasses (sign_tail_step (map-SignTail Expr Suffix ExprArm FieldSet SignTail Tail Tokens Tokens Tokens Tokens Tokens Tokens expr_tokens suffix_tokens expr_arm_tokens field_set_tokens sign_tail_tokens tail_tokens x)) (sign_tail_level_step (map-SignTail Expr Suffix ExprArm FieldSet SignTail Tail ℕ Bool Bool Bool (Sign × ℕ) ℕ level_of suffix_ok expr_arm_ok field_set_ok sign_tail_own tail_own x)) → SignTailClaim (roll-SignTail x)
+sign_tail-roll : (x : SignTail-F Expr Suffix ExprArm FieldSet SignTail Tail) → SignTailPasses (sign_tail_step (map-SignTail Expr Suffix ExprArm FieldSet SignTail Tail Tokens Tokens Tokens Tokens Tokens Tokens expr_tokens suffix_tokens expr_arm_tokens field_set_tokens sign_tail_tokens tail_tokens x)) (sign_tail_level_step (map-SignTail Expr Suffix ExprArm FieldSet SignTail Tail ℕ Bool Bool Bool (Sign × ℕ) ℕ level_of is_suffix is_expr_arm is_field_set sign_tail_level tail_level x)) → SignTailClaim (roll-SignTail x)
 sign_tail-roll x own = roll-claim SignTailPasses _ _ _ _
     (fold-roll-SignTail Tokens Tokens Tokens Tokens Tokens Tokens expr_step suffix_step expr_arm_step field_set_step sign_tail_step tail_step x)
     (fold-roll-SignTail ℕ Bool Bool Bool (Sign × ℕ) ℕ level_step suffix_level_step expr_arm_level_step field_set_level_step sign_tail_level_step tail_level_step x) own
 
-tail-roll : (x : Tail-F Expr Suffix ExprArm FieldSet SignTail Tail) → TailPasses (tail_step (map-Tail Expr Suffix ExprArm FieldSet SignTail Tail Tokens Tokens Tokens Tokens Tokens Tokens expr_tokens suffix_tokens expr_arm_tokens field_set_tokens sign_tail_tokens tail_tokens x)) (tail_level_step (map-Tail Expr Suffix ExprArm FieldSet SignTail Tail ℕ Bool Bool Bool (Sign × ℕ) ℕ level_of suffix_ok expr_arm_ok field_set_ok sign_tail_own tail_own x)) → TailClaim (roll-Tail x)
+tail-roll : (x : Tail-F Expr Suffix ExprArm FieldSet SignTail Tail) → TailPasses (tail_step (map-Tail Expr Suffix ExprArm FieldSet SignTail Tail Tokens Tokens Tokens Tokens Tokens Tokens expr_tokens suffix_tokens expr_arm_tokens field_set_tokens sign_tail_tokens tail_tokens x)) (tail_level_step (map-Tail Expr Suffix ExprArm FieldSet SignTail Tail ℕ Bool Bool Bool (Sign × ℕ) ℕ level_of is_suffix is_expr_arm is_field_set sign_tail_level tail_level x)) → TailClaim (roll-Tail x)
 tail-roll x own = roll-claim TailPasses _ _ _ _
     (fold-roll-Tail Tokens Tokens Tokens Tokens Tokens Tokens expr_step suffix_step expr_arm_step field_set_step sign_tail_step tail_step x)
     (fold-roll-Tail ℕ Bool Bool Bool (Sign × ℕ) ℕ level_step suffix_level_step expr_arm_level_step field_set_level_step sign_tail_level_step tail_level_step x) own

@@ -18,10 +18,10 @@ use Rattle.dsde_syntax.specs.declared.item.ViaPart.{ViaPart}
 use Rattle.dsde_syntax.specs.declared.item.ViaKey.{ViaKey}
 use Rattle.dsde_syntax.specs.declared.item.Item.TheOpen.{Item-F, ItemArm-F}
 use Rattle.dsde_syntax.specs.declared.item.Item.TheViews.{roll-Item, roll-ItemArm}
-use Rattle.dsde_syntax.specs.declared.item.Item.TheFolds.{map-Item, map-ItemArm, fold-ItemArm, fold-roll-Item, fold-roll-ItemArm, ind-Item}
+use Rattle.dsde_syntax.specs.declared.item.Item.TheFolds.{map-Item, map-ItemArm, fold-roll-Item, fold-roll-ItemArm, ind-Item}
 use Rattle.dsde_syntax.specs.Grammar.{Tokens, word, mark, id_tokens, elses, optional, expr_tokens, args_tokens, set_tokens, for_tokens, if_tokens, else_block, bracket_tokens, component_tokens, end_part_tokens, end_tokens, via_key_tokens, via_tokens, link_tokens, item_step, item_arm_step, item_tokens, item_arm_tokens}
 use Rattle.dsde_syntax.specs.Grammar.{block as block_tokens}
-use Rattle.dsde_syntax.specs.Levels.{has_first, all_hold, if_written, is_expr, is_index, is_end, is_via, is_item_step, is_item_arm_step, is_item}
+use Rattle.dsde_syntax.specs.Levels.{has_first, all_hold, if_written, is_expr, is_index, is_end, is_via, is_item_step, is_item_arm_step, is_item, is_item_arm}
 use Rattle.dsde_syntax.proofs.ExprReaders.{stops, is_if}
 use Rattle.dsde_syntax.proofs.ListReads.{and-true}
 use Rattle.dsde_syntax.proofs.StmtReads.{no_else, first-arm, false-true}
@@ -95,9 +95,6 @@ record ItemPasses (t : Tokens) (ok : Bool) : Type 0 where
 record ArmPasses (t : Tokens) (ok : Bool) : Type 0 where
   begins : (rest : Tokens) → is_if (t ++ rest) ≡ true
   passes : ok ≡ true → Leads any (want.else_items ∷ []) (want.other_items ∷ []) t
-
-abbrev is_item_arm : ItemArm → Bool
-is_item_arm = fold-ItemArm Bool Bool is_item_step is_item_arm_step
 
 abbrev ItemClaim : Item → Type 0
 ItemClaim v = ItemPasses (item_tokens v) (is_item v)

@@ -18,16 +18,16 @@ use Rattle.dsde_syntax.specs.declared.expr.Expr.TheOpen.{Expr-F}
 use Rattle.dsde_syntax.specs.declared.expr.Expr.TheViews.{roll-Expr}
 use Rattle.dsde_syntax.specs.declared.expr.Expr.TheFolds.{map-Expr}
 use Rattle.dsde_syntax.specs.Grammar.{Tokens, word, mark, joined, expr_step, expr_tokens, suffix_tokens, expr_arm_tokens, field_set_tokens, sign_tail_tokens, tail_tokens}
-use Rattle.dsde_syntax.specs.Levels.{level_step, level_of, level_if, stands_at, may_follow, is_sum_sign, is_mul_sign}
+use Rattle.dsde_syntax.specs.Levels.{level_step, level_of, level_if, stands_at, may_follow, is_sum_sign, is_mul_sign, is_expr_arm, is_field_set, is_suffix, sign_tail_level, tail_level}
 use Rattle.dsde_grammar.specs.Want.{Want}
 use Rattle.dsde_grammar.specs.Want as want
 use Rattle.dsde_grammar.specs.Steps.{Wants, post_wants, neg_wants, mul_wants, sum_wants, cmp_wants, not_wants, and_wants, or_wants, expr_wants}
-use Rattle.dsde_grammar.proofs.Layers.{suffix_ok, expr_arm_ok, field_set_ok, sign_tail_own, tail_own, expr-tokens, expr-level}
+use Rattle.dsde_grammar.proofs.Layers.{expr-tokens, expr-level}
 use Rattle.dsde_grammar.proofs.Values.{ExprAt, ExprOf, Compared, Value, spelled, Values, spells, spelled-same}
 use Rattle.dsde_grammar.proofs.Taking.{split, true-and}
 
 -- an expression by its layer
-pub made : (level : ℕ) (x : Expr-F Expr Suffix ExprArm FieldSet SignTail Tail) {u : Tokens} → expr_step (map-Expr Expr Suffix ExprArm FieldSet SignTail Tail Tokens Tokens Tokens Tokens Tokens Tokens expr_tokens suffix_tokens expr_arm_tokens field_set_tokens sign_tail_tokens tail_tokens x) ≡ u → stands_at level (level_step (map-Expr Expr Suffix ExprArm FieldSet SignTail Tail ℕ Bool Bool Bool (Sign × ℕ) ℕ level_of suffix_ok expr_arm_ok field_set_ok sign_tail_own tail_own x)) ≡ true → ExprOf level u
+pub made : (level : ℕ) (x : Expr-F Expr Suffix ExprArm FieldSet SignTail Tail) {u : Tokens} → expr_step (map-Expr Expr Suffix ExprArm FieldSet SignTail Tail Tokens Tokens Tokens Tokens Tokens Tokens expr_tokens suffix_tokens expr_arm_tokens field_set_tokens sign_tail_tokens tail_tokens x) ≡ u → stands_at level (level_step (map-Expr Expr Suffix ExprArm FieldSet SignTail Tail ℕ Bool Bool Bool (Sign × ℕ) ℕ level_of is_suffix is_expr_arm is_field_set sign_tail_level tail_level x)) ≡ true → ExprOf level u
 made level x e h = record { value = record { value = roll-Expr x; good = ap (stands_at level) (expr-level x) ∙ h }; spells = expr-tokens x ∙ e }
 
 -- a node whose parts stand where they may
@@ -61,7 +61,7 @@ behind wants a level vs make =
 pub post-of : (vs : Values post_wants) → ExprOf 1 (spells post_wants vs)
 post-of vs =
     behind (want.prim ∷ []) want.suffixes 1 vs (λ front v.
-    chain 0 1 (omega arith) suffix_ok (λ holds. holds) (λ items. joined (map suffix_tokens items)) refl
+    chain 0 1 (omega arith) is_suffix (λ holds. holds) (λ items. joined (map suffix_tokens items)) refl
     (λ e x xs all. made 1 (Expr-F.Post e.value (x ∷ xs)) refl
     (placed 1 1 _ (true-and _ _ (true-and _ _ e.good refl) all) refl))
     (let first : ExprOf 0 (expr_tokens front.0.value ++ []) = record { value = front.0; spells = sym (append-nil (expr_tokens front.0.value)) } in first) v.items v.all)
@@ -77,7 +77,7 @@ neg-of vs = negated vs.0 (post-of vs.1)
 pub mul-of : (vs : Values mul_wants) → ExprOf 3 (spells mul_wants vs)
 mul-of vs =
     behind neg_wants want.factors 3 vs (λ front v.
-    chain 2 3 (omega arith) sign_tail_own (may_follow is_mul_sign 2) (λ items. joined (map sign_tail_tokens items)) refl
+    chain 2 3 (omega arith) sign_tail_level (may_follow is_mul_sign 2) (λ items. joined (map sign_tail_tokens items)) refl
     (λ e x xs all. made 3 (Expr-F.Mul e.value (x ∷ xs)) refl
     (placed 3 3 _ (true-and _ _ (true-and _ _ e.good refl) all) refl))
     (neg-of front) v.items v.all)
@@ -85,7 +85,7 @@ mul-of vs =
 pub sum-of : (vs : Values sum_wants) → ExprOf 4 (spells sum_wants vs)
 sum-of vs =
     behind mul_wants want.terms 4 vs (λ front v.
-    chain 3 4 (omega arith) sign_tail_own (may_follow is_sum_sign 3) (λ items. joined (map sign_tail_tokens items)) refl
+    chain 3 4 (omega arith) sign_tail_level (may_follow is_sum_sign 3) (λ items. joined (map sign_tail_tokens items)) refl
     (λ e x xs all. made 4 (Expr-F.Sum e.value (x ∷ xs)) refl
     (placed 4 4 _ (true-and _ _ (true-and _ _ e.good refl) all) refl))
     (mul-of front) v.items v.all)
@@ -110,7 +110,7 @@ not-of vs = denied vs.0 (cmp-of vs.1)
 pub and-of : (vs : Values and_wants) → ExprOf 7 (spells and_wants vs)
 and-of vs =
     behind not_wants want.conjuncts 7 vs (λ front v.
-    chain 6 7 (omega arith) tail_own (stands_at 6) (λ items. flat_map (λ own. word key.And ++ own) (map tail_tokens items)) refl
+    chain 6 7 (omega arith) tail_level (stands_at 6) (λ items. flat_map (λ own. word key.And ++ own) (map tail_tokens items)) refl
     (λ e x xs all. made 7 (Expr-F.And e.value (x ∷ xs)) refl
     (placed 7 7 _ (true-and _ _ (true-and _ _ e.good refl) all) refl))
     (not-of front) v.items v.all)
@@ -118,7 +118,7 @@ and-of vs =
 pub or-of : (vs : Values or_wants) → ExprOf 8 (spells or_wants vs)
 or-of vs =
     behind and_wants want.disjuncts 8 vs (λ front v.
-    chain 7 8 (omega arith) tail_own (stands_at 7) (λ items. flat_map (λ own. word key.Or ++ own) (map tail_tokens items)) refl
+    chain 7 8 (omega arith) tail_level (stands_at 7) (λ items. flat_map (λ own. word key.Or ++ own) (map tail_tokens items)) refl
     (λ e x xs all. made 8 (Expr-F.Or e.value (x ∷ xs)) refl
     (placed 8 8 _ (true-and _ _ (true-and _ _ e.good refl) all) refl))
     (and-of front) v.items v.all)

@@ -13,11 +13,10 @@ use Rattle.dsde_syntax.specs.declared.expr.Suffix.{Suffix}
 use Rattle.dsde_syntax.specs.declared.expr.SignTail.{SignTail}
 use Rattle.dsde_syntax.specs.declared.expr.Tail.{Tail}
 use Rattle.dsde_syntax.specs.Grammar.{Tokens, joined, word, mark, suffix_tokens, sign_tail_tokens, tail_tokens}
-use Rattle.dsde_syntax.specs.Levels.{level_if, stands_at, has_first, all_hold, may_follow, is_comparison, is_sum_sign, is_mul_sign}
+use Rattle.dsde_syntax.specs.Levels.{level_if, stands_at, has_first, all_hold, may_follow, is_comparison, is_sum_sign, is_mul_sign, is_suffix, sign_tail_level, tail_level}
 use Rattle.dsde_syntax.proofs.ExprReaders.{continues, stops, sign_continues, begin_of}
 use Rattle.dsde_syntax.proofs.LevelReads.{goes_on-stops, stops-less}
 use Rattle.dsde_syntax.proofs.ListReads.{and-true, flat_map-joined}
-use Rattle.dsde_syntax.proofs.ExprFolds.{suffix_ok, sign_tail_own, tail_own}
 use Rattle.dsde_grammar.specs.Want.{Want}
 use Rattle.dsde_grammar.specs.Want as want
 use Rattle.dsde_grammar.specs.Steps.{Wants, Step, go, go_if, optional, repeated, onward, behind, step, stop, mul_wants, neg_wants, sum_wants}
@@ -142,13 +141,13 @@ false-no : false ≡ true → ⊥
 false-no h = cc
 
 abbrev pub SignTailClaim : SignTail → Type 0
-SignTailClaim v = SignTailPasses (sign_tail_tokens v) (sign_tail_own v)
+SignTailClaim v = SignTailPasses (sign_tail_tokens v) (sign_tail_level v)
 
 abbrev pub TailClaim : Tail → Type 0
-TailClaim v = TailPasses (tail_tokens v) (tail_own v)
+TailClaim v = TailPasses (tail_tokens v) (tail_level v)
 
 abbrev pub SuffixClaim : Suffix → Type 0
-SuffixClaim v = SuffixPasses (suffix_tokens v) (suffix_ok v)
+SuffixClaim v = SuffixPasses (suffix_tokens v) (is_suffix v)
 
 abbrev G : Type 0
 G = (v : SignTail) × SignTailClaim v
@@ -159,66 +158,66 @@ T = (v : Tail) × TailClaim v
 abbrev S : Type 0
 S = (v : Suffix) × SuffixClaim v
 
-sum-rest : (rest : List G) → list_all (may_follow is_sum_sign 3) (map sign_tail_own (map (λ e. e.0) rest)) ≡ true → AllLead (stops 3) (want.terms ∷ []) (map sign_tail_tokens (map (λ e. e.0) rest))
+sum-rest : (rest : List G) → list_all (may_follow is_sum_sign 3) (map sign_tail_level (map (λ e. e.0) rest)) ≡ true → AllLead (stops 3) (want.terms ∷ []) (map sign_tail_tokens (map (λ e. e.0) rest))
 sum-rest [] h = tt
 sum-rest ((v, own) ∷ rest) h =
-    let both = and-true (may_follow is_sum_sign 3 (sign_tail_own v)) (list_all (may_follow is_sum_sign 3) (map sign_tail_own (map (λ e. e.0) rest))) h in
-    let here = and-true (is_sum_sign (sign_tail_own v).0) (stands_at 3 (sign_tail_own v).1) both.0 in (
-      own.passes 3 (omega arith) here.1 want.terms (stepped want.terms (tok.Sign (sign_tail_own v).0) (mul_wants ++ want.terms ∷ []) (ap (λ (own : Bool). repeated want.terms (go_if own mul_wants)) here.0)),
-      (λ more. goes_on-stops 4 3 _ (omega arith) (is-goes_on 4 _ (own.begins more ∙ sum-continues (sign_tail_own v).0 here.0))),
+    let both = and-true (may_follow is_sum_sign 3 (sign_tail_level v)) (list_all (may_follow is_sum_sign 3) (map sign_tail_level (map (λ e. e.0) rest))) h in
+    let here = and-true (is_sum_sign (sign_tail_level v).0) (stands_at 3 (sign_tail_level v).1) both.0 in (
+      own.passes 3 (omega arith) here.1 want.terms (stepped want.terms (tok.Sign (sign_tail_level v).0) (mul_wants ++ want.terms ∷ []) (ap (λ (own : Bool). repeated want.terms (go_if own mul_wants)) here.0)),
+      (λ more. goes_on-stops 4 3 _ (omega arith) (is-goes_on 4 _ (own.begins more ∙ sum-continues (sign_tail_level v).0 here.0))),
       sum-rest rest both.1,
     )
 
-pub sum-passes : {t : Tokens} {own : ℕ} → ExprPasses t own → (rest : List G) → ExprPasses (t ++ joined (map sign_tail_tokens (map (λ e. e.0) rest))) (level_if ((stands_at 3 own && has_first (map sign_tail_own (map (λ e. e.0) rest))) && list_all (may_follow is_sum_sign 3) (map sign_tail_own (map (λ e. e.0) rest))) 4)
+pub sum-passes : {t : Tokens} {own : ℕ} → ExprPasses t own → (rest : List G) → ExprPasses (t ++ joined (map sign_tail_tokens (map (λ e. e.0) rest))) (level_if ((stands_at 3 own && has_first (map sign_tail_level (map (λ e. e.0) rest))) && list_all (may_follow is_sum_sign 3) (map sign_tail_level (map (λ e. e.0) rest))) 4)
 sum-passes {t} {own} first [] = if-ExprPasses _ 4 (λ h. let none = and-true (stands_at 3 own) false (and-true (stands_at 3 own && false) true h).0 in absurd (false-no none.1))
 sum-passes {t} {own} first ((v, tail) ∷ rest) = if-ExprPasses _ 4 (λ h.
     let all : List G = (v, tail) ∷ rest in
-    let split = and-true (stands_at 3 own && true) (list_all (may_follow is_sum_sign 3) (map sign_tail_own (map (λ e. e.0) all))) h in
+    let split = and-true (stands_at 3 own && true) (list_all (may_follow is_sum_sign 3) (map sign_tail_level (map (λ e. e.0) all))) h in
     let there = stands 3 (omega arith) first (and-true (stands_at 3 own) true split.0).0 in
-    let here = and-true (may_follow is_sum_sign 3 (sign_tail_own v)) (list_all (may_follow is_sum_sign 3) (map sign_tail_own (map (λ e. e.0) rest))) split.1 in
-    let is = and-true (is_sum_sign (sign_tail_own v).0) (stands_at 3 (sign_tail_own v).1) here.0 in
+    let here = and-true (may_follow is_sum_sign 3 (sign_tail_level v)) (list_all (may_follow is_sum_sign 3) (map sign_tail_level (map (λ e. e.0) rest))) split.1 in
+    let is = and-true (is_sum_sign (sign_tail_level v).0) (stands_at 3 (sign_tail_level v).1) here.0 in
     record {
       begins = λ less. begins-first 3 4 (omega arith) there (joined (map sign_tail_tokens (map (λ e. e.0) all)));
       passes = λ less. chain-some 4 3 (omega arith) (stops 3) (λ rest. stops-less 4 3 rest (omega arith)) (wants_of 3) want.terms terms-passed there.passes
-          (sign_tail_tokens v) (map sign_tail_tokens (map (λ e. e.0) rest)) (λ more. is-goes_on 4 _ (tail.begins more ∙ sum-continues (sign_tail_own v).0 is.0)) (sum-rest all split.1);
+          (sign_tail_tokens v) (map sign_tail_tokens (map (λ e. e.0) rest)) (λ more. is-goes_on 4 _ (tail.begins more ∙ sum-continues (sign_tail_level v).0 is.0)) (sum-rest all split.1);
     })
 
-mul-rest : (rest : List G) → list_all (may_follow is_mul_sign 2) (map sign_tail_own (map (λ e. e.0) rest)) ≡ true → AllLead (stops 2) (want.factors ∷ []) (map sign_tail_tokens (map (λ e. e.0) rest))
+mul-rest : (rest : List G) → list_all (may_follow is_mul_sign 2) (map sign_tail_level (map (λ e. e.0) rest)) ≡ true → AllLead (stops 2) (want.factors ∷ []) (map sign_tail_tokens (map (λ e. e.0) rest))
 mul-rest [] h = tt
 mul-rest ((v, own) ∷ rest) h =
-    let both = and-true (may_follow is_mul_sign 2 (sign_tail_own v)) (list_all (may_follow is_mul_sign 2) (map sign_tail_own (map (λ e. e.0) rest))) h in
-    let here = and-true (is_mul_sign (sign_tail_own v).0) (stands_at 2 (sign_tail_own v).1) both.0 in (
-      own.passes 2 (omega arith) here.1 want.factors (stepped want.factors (tok.Sign (sign_tail_own v).0) (neg_wants ++ want.factors ∷ []) (ap (λ (own : Bool). repeated want.factors (go_if own neg_wants)) here.0)),
-      (λ more. goes_on-stops 3 2 _ (omega arith) (is-goes_on 3 _ (own.begins more ∙ mul-continues (sign_tail_own v).0 here.0))),
+    let both = and-true (may_follow is_mul_sign 2 (sign_tail_level v)) (list_all (may_follow is_mul_sign 2) (map sign_tail_level (map (λ e. e.0) rest))) h in
+    let here = and-true (is_mul_sign (sign_tail_level v).0) (stands_at 2 (sign_tail_level v).1) both.0 in (
+      own.passes 2 (omega arith) here.1 want.factors (stepped want.factors (tok.Sign (sign_tail_level v).0) (neg_wants ++ want.factors ∷ []) (ap (λ (own : Bool). repeated want.factors (go_if own neg_wants)) here.0)),
+      (λ more. goes_on-stops 3 2 _ (omega arith) (is-goes_on 3 _ (own.begins more ∙ mul-continues (sign_tail_level v).0 here.0))),
       mul-rest rest both.1,
     )
 
-pub mul-passes : {t : Tokens} {own : ℕ} → ExprPasses t own → (rest : List G) → ExprPasses (t ++ joined (map sign_tail_tokens (map (λ e. e.0) rest))) (level_if ((stands_at 2 own && has_first (map sign_tail_own (map (λ e. e.0) rest))) && list_all (may_follow is_mul_sign 2) (map sign_tail_own (map (λ e. e.0) rest))) 3)
+pub mul-passes : {t : Tokens} {own : ℕ} → ExprPasses t own → (rest : List G) → ExprPasses (t ++ joined (map sign_tail_tokens (map (λ e. e.0) rest))) (level_if ((stands_at 2 own && has_first (map sign_tail_level (map (λ e. e.0) rest))) && list_all (may_follow is_mul_sign 2) (map sign_tail_level (map (λ e. e.0) rest))) 3)
 mul-passes {t} {own} first [] = if-ExprPasses _ 3 (λ h. let none = and-true (stands_at 2 own) false (and-true (stands_at 2 own && false) true h).0 in absurd (false-no none.1))
 mul-passes {t} {own} first ((v, tail) ∷ rest) = if-ExprPasses _ 3 (λ h.
     let all : List G = (v, tail) ∷ rest in
-    let split = and-true (stands_at 2 own && true) (list_all (may_follow is_mul_sign 2) (map sign_tail_own (map (λ e. e.0) all))) h in
+    let split = and-true (stands_at 2 own && true) (list_all (may_follow is_mul_sign 2) (map sign_tail_level (map (λ e. e.0) all))) h in
     let there = stands 2 (omega arith) first (and-true (stands_at 2 own) true split.0).0 in
-    let here = and-true (may_follow is_mul_sign 2 (sign_tail_own v)) (list_all (may_follow is_mul_sign 2) (map sign_tail_own (map (λ e. e.0) rest))) split.1 in
-    let is = and-true (is_mul_sign (sign_tail_own v).0) (stands_at 2 (sign_tail_own v).1) here.0 in
+    let here = and-true (may_follow is_mul_sign 2 (sign_tail_level v)) (list_all (may_follow is_mul_sign 2) (map sign_tail_level (map (λ e. e.0) rest))) split.1 in
+    let is = and-true (is_mul_sign (sign_tail_level v).0) (stands_at 2 (sign_tail_level v).1) here.0 in
     record {
       begins = λ less. begins-first 2 3 (omega arith) there (joined (map sign_tail_tokens (map (λ e. e.0) all)));
       passes = λ less. chain-some 3 2 (omega arith) (stops 2) (λ rest. stops-less 3 2 rest (omega arith)) (wants_of 2) want.factors factors-passed there.passes
-          (sign_tail_tokens v) (map sign_tail_tokens (map (λ e. e.0) rest)) (λ more. is-goes_on 3 _ (tail.begins more ∙ mul-continues (sign_tail_own v).0 is.0)) (mul-rest all split.1);
+          (sign_tail_tokens v) (map sign_tail_tokens (map (λ e. e.0) rest)) (λ more. is-goes_on 3 _ (tail.begins more ∙ mul-continues (sign_tail_level v).0 is.0)) (mul-rest all split.1);
     })
 
-and-rest : (rest : List T) → list_all (stands_at 6) (map tail_own (map (λ e. e.0) rest)) ≡ true → AllLead (stops 6) (want.conjuncts ∷ []) (map (λ own. word key.And ++ own) (map tail_tokens (map (λ e. e.0) rest)))
+and-rest : (rest : List T) → list_all (stands_at 6) (map tail_level (map (λ e. e.0) rest)) ≡ true → AllLead (stops 6) (want.conjuncts ∷ []) (map (λ own. word key.And ++ own) (map tail_tokens (map (λ e. e.0) rest)))
 and-rest [] h = tt
 and-rest ((v, own) ∷ rest) h =
-    let both = and-true (stands_at 6 (tail_own v)) (list_all (stands_at 6) (map tail_own (map (λ e. e.0) rest))) h in
+    let both = and-true (stands_at 6 (tail_level v)) (list_all (stands_at 6) (map tail_level (map (λ e. e.0) rest))) h in
     (own.passes key.And 6 (omega arith) both.0 want.conjuncts (λ more at rest. refl), (λ more. refl), and-rest rest both.1)
 
-pub and-passes : {t : Tokens} {own : ℕ} → ExprPasses t own → (rest : List T) → ExprPasses (t ++ flat_map (λ own. word key.And ++ own) (map tail_tokens (map (λ e. e.0) rest))) (level_if ((stands_at 6 own && has_first (map tail_own (map (λ e. e.0) rest))) && list_all (stands_at 6) (map tail_own (map (λ e. e.0) rest))) 7)
+pub and-passes : {t : Tokens} {own : ℕ} → ExprPasses t own → (rest : List T) → ExprPasses (t ++ flat_map (λ own. word key.And ++ own) (map tail_tokens (map (λ e. e.0) rest))) (level_if ((stands_at 6 own && has_first (map tail_level (map (λ e. e.0) rest))) && list_all (stands_at 6) (map tail_level (map (λ e. e.0) rest))) 7)
 and-passes {t} {own} first [] = if-ExprPasses _ 7 (λ h. let none = and-true (stands_at 6 own) false (and-true (stands_at 6 own && false) true h).0 in absurd (false-no none.1))
 and-passes {t} {own} first ((v, tail) ∷ rest) = if-ExprPasses _ 7 (λ h.
     let all : List T = (v, tail) ∷ rest in
     let toks = map tail_tokens (map (λ e. e.0) all) in
-    let split = and-true (stands_at 6 own && true) (list_all (stands_at 6) (map tail_own (map (λ e. e.0) all))) h in
+    let split = and-true (stands_at 6 own && true) (list_all (stands_at 6) (map tail_level (map (λ e. e.0) all))) h in
     let there = stands 6 (omega arith) first (and-true (stands_at 6 own) true split.0).0 in
     let P : Tokens → Type 0 = λ own. Leads (stops 7) (wants_of 7) [] (t ++ own) in
     record {
@@ -228,18 +227,18 @@ and-passes {t} {own} first ((v, tail) ∷ rest) = if-ExprPasses _ 7 (λ h.
           (word key.And ++ tail_tokens v) (map (λ own. word key.And ++ own) (map tail_tokens (map (λ e. e.0) rest))) (λ more. refl) (and-rest all split.1));
     })
 
-or-rest : (rest : List T) → list_all (stands_at 7) (map tail_own (map (λ e. e.0) rest)) ≡ true → AllLead (stops 7) (want.disjuncts ∷ []) (map (λ own. word key.Or ++ own) (map tail_tokens (map (λ e. e.0) rest)))
+or-rest : (rest : List T) → list_all (stands_at 7) (map tail_level (map (λ e. e.0) rest)) ≡ true → AllLead (stops 7) (want.disjuncts ∷ []) (map (λ own. word key.Or ++ own) (map tail_tokens (map (λ e. e.0) rest)))
 or-rest [] h = tt
 or-rest ((v, own) ∷ rest) h =
-    let both = and-true (stands_at 7 (tail_own v)) (list_all (stands_at 7) (map tail_own (map (λ e. e.0) rest))) h in
+    let both = and-true (stands_at 7 (tail_level v)) (list_all (stands_at 7) (map tail_level (map (λ e. e.0) rest))) h in
     (own.passes key.Or 7 (omega arith) both.0 want.disjuncts (λ more at rest. refl), (λ more. refl), or-rest rest both.1)
 
-pub or-passes : {t : Tokens} {own : ℕ} → ExprPasses t own → (rest : List T) → ExprPasses (t ++ flat_map (λ own. word key.Or ++ own) (map tail_tokens (map (λ e. e.0) rest))) (level_if ((stands_at 7 own && has_first (map tail_own (map (λ e. e.0) rest))) && list_all (stands_at 7) (map tail_own (map (λ e. e.0) rest))) 8)
+pub or-passes : {t : Tokens} {own : ℕ} → ExprPasses t own → (rest : List T) → ExprPasses (t ++ flat_map (λ own. word key.Or ++ own) (map tail_tokens (map (λ e. e.0) rest))) (level_if ((stands_at 7 own && has_first (map tail_level (map (λ e. e.0) rest))) && list_all (stands_at 7) (map tail_level (map (λ e. e.0) rest))) 8)
 or-passes {t} {own} first [] = if-ExprPasses _ 8 (λ h. let none = and-true (stands_at 7 own) false (and-true (stands_at 7 own && false) true h).0 in absurd (false-no none.1))
 or-passes {t} {own} first ((v, tail) ∷ rest) = if-ExprPasses _ 8 (λ h.
     let all : List T = (v, tail) ∷ rest in
     let toks = map tail_tokens (map (λ e. e.0) all) in
-    let split = and-true (stands_at 7 own && true) (list_all (stands_at 7) (map tail_own (map (λ e. e.0) all))) h in
+    let split = and-true (stands_at 7 own && true) (list_all (stands_at 7) (map tail_level (map (λ e. e.0) all))) h in
     let there = stands 7 (omega arith) first (and-true (stands_at 7 own) true split.0).0 in
     let P : Tokens → Type 0 = λ own. Leads (stops 8) (wants_of 8) [] (t ++ own) in
     record {
@@ -249,17 +248,17 @@ or-passes {t} {own} first ((v, tail) ∷ rest) = if-ExprPasses _ 8 (λ h.
           (word key.Or ++ tail_tokens v) (map (λ own. word key.Or ++ own) (map tail_tokens (map (λ e. e.0) rest))) (λ more. refl) (or-rest all split.1));
     })
 
-post-rest : (rest : List S) → all_hold (map suffix_ok (map (λ e. e.0) rest)) ≡ true → AllLead any (want.suffixes ∷ []) (map suffix_tokens (map (λ e. e.0) rest))
+post-rest : (rest : List S) → all_hold (map is_suffix (map (λ e. e.0) rest)) ≡ true → AllLead any (want.suffixes ∷ []) (map suffix_tokens (map (λ e. e.0) rest))
 post-rest [] h = tt
 post-rest ((v, own) ∷ rest) h =
-    let both = and-true (suffix_ok v) (all_hold (map suffix_ok (map (λ e. e.0) rest))) h in
+    let both = and-true (is_suffix v) (all_hold (map is_suffix (map (λ e. e.0) rest))) h in
     (own.passes both.0, (λ more. refl), post-rest rest both.1)
 
-pub post-passes : {t : Tokens} {own : ℕ} → ExprPasses t own → (rest : List S) → ExprPasses (t ++ joined (map suffix_tokens (map (λ e. e.0) rest))) (level_if ((stands_at 0 own && has_first (map suffix_ok (map (λ e. e.0) rest))) && all_hold (map suffix_ok (map (λ e. e.0) rest))) 1)
+pub post-passes : {t : Tokens} {own : ℕ} → ExprPasses t own → (rest : List S) → ExprPasses (t ++ joined (map suffix_tokens (map (λ e. e.0) rest))) (level_if ((stands_at 0 own && has_first (map is_suffix (map (λ e. e.0) rest))) && all_hold (map is_suffix (map (λ e. e.0) rest))) 1)
 post-passes {t} {own} first [] = if-ExprPasses _ 1 (λ h. let none = and-true (stands_at 0 own) false (and-true (stands_at 0 own && false) true h).0 in absurd (false-no none.1))
 post-passes {t} {own} first ((v, tail) ∷ rest) = if-ExprPasses _ 1 (λ h.
     let all : List S = (v, tail) ∷ rest in
-    let split = and-true (stands_at 0 own && true) (all_hold (map suffix_ok (map (λ e. e.0) all))) h in
+    let split = and-true (stands_at 0 own && true) (all_hold (map is_suffix (map (λ e. e.0) all))) h in
     let there = stands 0 (omega arith) first (and-true (stands_at 0 own) true split.0).0 in
     record {
       begins = λ less. begins-first 0 1 (omega arith) there (joined (map suffix_tokens (map (λ e. e.0) all)));

@@ -17,11 +17,11 @@ use Rattle.dsde_syntax.specs.declared.expr.Tail.{Tail}
 use Rattle.dsde_syntax.specs.declared.expr.Expr.TheOpen.{Expr-F, ExprArm-F, FieldSet-F}
 use Rattle.dsde_syntax.specs.declared.expr.Expr.TheViews.{roll-ExprArm, roll-FieldSet}
 use Rattle.dsde_syntax.specs.Grammar.{Tokens, word, mark, id_tokens, commas, elses, in_braces, expr_tokens, expr_arm_tokens, field_set_tokens}
-use Rattle.dsde_syntax.specs.Levels.{stands_at, level_of, is_expr, is_builtin}
+use Rattle.dsde_syntax.specs.Levels.{stands_at, level_of, is_expr, is_builtin, is_expr_arm, is_field_set}
 use Rattle.dsde_grammar.specs.Want.{Want}
 use Rattle.dsde_grammar.specs.Want as want
 use Rattle.dsde_grammar.specs.Steps.{Wants, repeated, followed, args, choice_rest, field_set, prim_key, prim_step, expr_step, after_name_step, args_rest_step, more_expr_step, more_field_step, row_rest_step, test_step, else_rest_step}
-use Rattle.dsde_grammar.proofs.Layers.{expr_arm_ok, field_set_ok, expr_arm-tokens, expr_arm-level, field_set-tokens, field_set-level}
+use Rattle.dsde_grammar.proofs.Layers.{expr_arm-tokens, expr_arm-level, field_set-tokens, field_set-level}
 use Rattle.dsde_grammar.proofs.Values.{Good, Several, ExprOf, Spelled, Value, spelled, Values, spells, Meets, spelled-same, commas_rest, choice_tokens}
 use Rattle.dsde_grammar.proofs.Taking.{Takes, Sound, repeated-sound, go_if-takes, followed-takes, named, one_more, true-and, three}
 use Rattle.dsde_grammar.proofs.Levels.{made, placed, expr-of}
@@ -29,7 +29,7 @@ use Rattle.dsde_grammar.proofs.ExprParts.{several-join}
 
 -- id ":" expr
 abbrev FieldOf : Tokens → Type 0
-FieldOf = Spelled (λ (v : Good field_set_ok). field_set_tokens v.value)
+FieldOf = Spelled (λ (v : Good is_field_set). field_set_tokens v.value)
 
 field-of : (name : Id) (value : Good is_expr) → FieldOf (id_tokens name ++ (mark sign.Colon ++ expr_tokens value.value))
 field-of name value =
@@ -38,7 +38,7 @@ field-of name value =
 
 -- "if" expr "{" expr "}"
 abbrev ArmOf : Tokens → Type 0
-ArmOf = Spelled (λ (v : Good expr_arm_ok). expr_arm_tokens v.value)
+ArmOf = Spelled (λ (v : Good is_expr_arm). expr_arm_tokens v.value)
 
 arm-of : (cond value : Good is_expr) → ArmOf ((word key.If ++ expr_tokens cond.value) ++ in_braces (expr_tokens value.value))
 arm-of cond value =
@@ -185,7 +185,7 @@ more_exprs-sound t =
     (record { value = record { items = []; all = refl }; spells = refl })
 
 abbrev MoreField : Tokens → Type 0
-MoreField = Spelled (λ (v : Good field_set_ok). mark sign.Comma ++ field_set_tokens v.value)
+MoreField = Spelled (λ (v : Good is_field_set). mark sign.Comma ++ field_set_tokens v.value)
 
 more_field-of : (vs : Values field_set) → MoreField (tok.Sign sign.Comma ∷ spells field_set vs)
 more_field-of (name, (colon, (value, end))) =
@@ -199,7 +199,7 @@ more_field-takes _ = tt
 pub more_fields-sound : (t : Tok) → Sound (λ u. Meets want.more_fields (t ∷ u)) (Meets want.more_fields []) (repeated want.more_fields (more_field_step t))
 more_fields-sound t =
     repeated-sound MoreField want.more_fields t (more_field_step t) (more_field-takes t)
-    (several-join field_set_ok (λ holds. holds) (λ v. mark sign.Comma ++ field_set_tokens v) (λ items. commas_rest (map field_set_tokens items)) (λ x xs. refl))
+    (several-join is_field_set (λ holds. holds) (λ v. mark sign.Comma ++ field_set_tokens v) (λ items. commas_rest (map field_set_tokens items)) (λ x xs. refl))
     (record { value = record { items = []; all = refl }; spells = refl })
 
 pub test-takes : (t : Tok) → Takes (λ u. Meets want.test (t ∷ u)) (test_step t)

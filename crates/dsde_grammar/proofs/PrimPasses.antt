@@ -15,10 +15,9 @@ use Rattle.dsde_syntax.specs.declared.expr.ExprArm.{ExprArm}
 use Rattle.dsde_syntax.specs.declared.expr.FieldSet.{FieldSet}
 use Rattle.dsde_syntax.specs.Grammar.{Tokens, word, mark, id_tokens, commas, elses, in_parens, in_brackets, in_braces, in_angles, truth_tokens, type_tokens, expr_tokens, expr_arm_tokens, field_set_tokens}
 use Rattle.dsde_syntax.specs.Grammar.{optional as optional_tokens}
-use Rattle.dsde_syntax.specs.Levels.{level_if, stands_at, has_first, all_hold, if_written, is_builtin, level_of}
+use Rattle.dsde_syntax.specs.Levels.{level_if, stands_at, has_first, all_hold, if_written, is_builtin, level_of, is_expr_arm, is_field_set}
 use Rattle.dsde_syntax.proofs.ExprReaders.{stops, begin_of, begins_expr, is_if}
 use Rattle.dsde_syntax.proofs.ListReads.{and-true}
-use Rattle.dsde_syntax.proofs.ExprFolds.{expr_arm_ok, field_set_ok}
 use Rattle.dsde_grammar.specs.Want.{Want}
 use Rattle.dsde_grammar.specs.Want as want
 use Rattle.dsde_grammar.specs.Steps.{Wants, stop, args, field_set}
@@ -40,10 +39,10 @@ pub record FieldPasses (t : Tokens) (ok : Bool) : Type 0 where
   pub passes : ok ≡ true → Leads (stops 9) field_set [] t
 
 abbrev pub ArmClaim : ExprArm → Type 0
-ArmClaim v = ArmPasses (expr_arm_tokens v) (expr_arm_ok v)
+ArmClaim v = ArmPasses (expr_arm_tokens v) (is_expr_arm v)
 
 abbrev pub FieldClaim : FieldSet → Type 0
-FieldClaim v = FieldPasses (field_set_tokens v) (field_set_ok v)
+FieldClaim v = FieldPasses (field_set_tokens v) (is_field_set v)
 
 abbrev E : Type 0
 E = (e : Expr) × ExprClaim e
@@ -233,13 +232,13 @@ row-passes ((e, own) ∷ list) = if-ExprPasses _ 0 (λ h.
     (λ more at rest fits. row-wants more at _ (first-begins all.0 (flat_map (λ own. mark sign.Comma ++ own) (map expr_tokens (map (λ e. e.0) list))) (mark sign.CloseBracket) rest)))
     (λ more at rest. refl)))
 
-fields-all : (list : List F) → all_hold (map field_set_ok (map (λ e. e.0) list)) ≡ true → AllPass (stops 9) field_set (map field_set_tokens (map (λ e. e.0) list))
+fields-all : (list : List F) → all_hold (map is_field_set (map (λ e. e.0) list)) ≡ true → AllPass (stops 9) field_set (map field_set_tokens (map (λ e. e.0) list))
 fields-all [] h = tt
 fields-all ((v, own) ∷ list) h =
-    let both = and-true (field_set_ok v) (all_hold (map field_set_ok (map (λ e. e.0) list))) h in
+    let both = and-true (is_field_set v) (all_hold (map is_field_set (map (λ e. e.0) list))) h in
     (own.passes both.0, fields-all list both.1)
 
-pub new-passes : (owner : Id) (list : List F) → ExprPasses ((word key.New ++ id_tokens owner) ++ in_braces (commas (map field_set_tokens (map (λ e. e.0) list)))) (level_if (has_first (map field_set_ok (map (λ e. e.0) list)) && all_hold (map field_set_ok (map (λ e. e.0) list))) 0)
+pub new-passes : (owner : Id) (list : List F) → ExprPasses ((word key.New ++ id_tokens owner) ++ in_braces (commas (map field_set_tokens (map (λ e. e.0) list)))) (level_if (has_first (map is_field_set (map (λ e. e.0) list)) && all_hold (map is_field_set (map (λ e. e.0) list))) 0)
 new-passes owner [] = if-ExprPasses _ 0 (λ h. absurd (false-no (and-true false true h).0))
 new-passes owner ((v, own) ∷ list) = if-ExprPasses _ 0 (λ h.
     let fields = separated (stops 9) field_set (tok.Sign sign.Comma) want.more_fields (λ rest. refl) (λ more at rest. refl) _ _ (fields-all ((v, own) ∷ list) h) in
@@ -248,10 +247,10 @@ new-passes owner ((v, own) ∷ list) = if-ExprPasses _ 0 (λ h.
     (closed (tok.Sign sign.CloseBrace) (beside fields (want.mark sign.CloseBrace ∷ [])) (λ rest. refl) (λ more at rest. refl))
     (λ more at rest. refl)))
 
-arms-all : (list : List A) → all_hold (map expr_arm_ok (map (λ e. e.0) list)) ≡ true → AllFrom (want.else_rest ∷ []) (want.word key.Else ∷ want.else_rest ∷ []) (map expr_arm_tokens (map (λ e. e.0) list))
+arms-all : (list : List A) → all_hold (map is_expr_arm (map (λ e. e.0) list)) ≡ true → AllFrom (want.else_rest ∷ []) (want.word key.Else ∷ want.else_rest ∷ []) (map expr_arm_tokens (map (λ e. e.0) list))
 arms-all [] h = tt
 arms-all ((v, own) ∷ list) h =
-    let both = and-true (expr_arm_ok v) (all_hold (map expr_arm_ok (map (λ e. e.0) list))) h in
+    let both = and-true (is_expr_arm v) (all_hold (map is_expr_arm (map (λ e. e.0) list))) h in
     (own.passes both.0, arms-all list both.1)
 
 -- what begins with "if" is a choice
@@ -267,11 +266,11 @@ first-if : {t : Tokens} {ok : Bool} → ArmPasses t ok → (m1 m2 m3 rest : Toke
 first-if {t} own m1 m2 m3 rest =
     rw (append_assoc ((t ++ m1) ++ m2) m3 rest, append_assoc (t ++ m1) m2 (m3 ++ rest), append_assoc t m1 (m2 ++ (m3 ++ rest))) (own.begins (m1 ++ (m2 ++ (m3 ++ rest))))
 
-pub choice-passes : {t : Tokens} {own : ℕ} (list : List A) → ExprPasses t own → ExprPasses ((elses (map expr_arm_tokens (map (λ e. e.0) list)) ++ word key.Else) ++ in_braces t) (level_if ((has_first (map expr_arm_ok (map (λ e. e.0) list)) && all_hold (map expr_arm_ok (map (λ e. e.0) list))) && stands_at 9 own) 0)
+pub choice-passes : {t : Tokens} {own : ℕ} (list : List A) → ExprPasses t own → ExprPasses ((elses (map expr_arm_tokens (map (λ e. e.0) list)) ++ word key.Else) ++ in_braces t) (level_if ((has_first (map is_expr_arm (map (λ e. e.0) list)) && all_hold (map is_expr_arm (map (λ e. e.0) list))) && stands_at 9 own) 0)
 choice-passes {t} {own} [] other = if-ExprPasses _ 0 (λ h. absurd (false-no (and-true false (stands_at 9 own) h).0))
 choice-passes {t} {own} ((v, arm) ∷ list) other = if-ExprPasses _ 0 (λ h.
     let all : List A = (v, arm) ∷ list in
-    let both = and-true (all_hold (map expr_arm_ok (map (λ e. e.0) all))) (stands_at 9 own) h in
+    let both = and-true (all_hold (map is_expr_arm (map (λ e. e.0) all))) (stands_at 9 own) h in
     let arms = alternated (want.else_rest ∷ []) (want.word key.Else ∷ want.else_rest ∷ []) (tok.Key key.Else) (λ more at rest. refl) _ _ (arms-all all both.0) in
     let begun : Leads any (want.else_rest ∷ []) (want.else_rest ∷ []) (elses (map expr_arm_tokens (map (λ e. e.0) all)) ++ word key.Else) = closed (tok.Key key.Else) arms (λ rest. refl) (λ more at rest. refl) in
     let value : Leads any (want.else_rest ∷ []) [] (in_braces t) = take (tok.Sign sign.OpenBrace) (closed (tok.Sign sign.CloseBrace) (beside (whole other both.1).passes (want.mark sign.CloseBrace ∷ [])) (λ rest. refl) (λ more at rest. refl)) (λ more at rest. refl) in

@@ -11,10 +11,10 @@ use Rattle.dsde_syntax.specs.declared.stmt.Stmt.{Stmt}
 use Rattle.dsde_syntax.specs.declared.stmt.StmtArm.{StmtArm}
 use Rattle.dsde_syntax.specs.declared.stmt.Stmt.TheOpen.{Stmt-F, StmtArm-F}
 use Rattle.dsde_syntax.specs.declared.stmt.Stmt.TheViews.{roll-Stmt, roll-StmtArm}
-use Rattle.dsde_syntax.specs.declared.stmt.Stmt.TheFolds.{map-Stmt, map-StmtArm, fold-StmtArm, fold-roll-Stmt, fold-roll-StmtArm, ind-Stmt}
+use Rattle.dsde_syntax.specs.declared.stmt.Stmt.TheFolds.{map-Stmt, map-StmtArm, fold-roll-Stmt, fold-roll-StmtArm, ind-Stmt}
 use Rattle.dsde_syntax.specs.Grammar.{Tokens, word, mark, id_tokens, elses, optional, in_parens, expr_tokens, let_tokens, set_tokens, for_tokens, if_tokens, else_block, stmt_step, stmt_arm_step, stmt_tokens, stmt_arm_tokens}
 use Rattle.dsde_syntax.specs.Grammar.{block as block_tokens}
-use Rattle.dsde_syntax.specs.Levels.{has_first, all_hold, if_written, is_expr, is_stmt_step, is_stmt_arm_step, is_stmt}
+use Rattle.dsde_syntax.specs.Levels.{has_first, all_hold, if_written, is_expr, is_stmt_step, is_stmt_arm_step, is_stmt, is_stmt_arm}
 use Rattle.dsde_syntax.proofs.ExprReaders.{is_if}
 use Rattle.dsde_syntax.proofs.ListReads.{and-true}
 use Rattle.dsde_syntax.proofs.StmtReads.{no_else, first-arm, false-true}
@@ -33,9 +33,6 @@ record StmtPasses (t : Tokens) (ok : Bool) : Type 0 where
 record ArmPasses (t : Tokens) (ok : Bool) : Type 0 where
   begins : (rest : Tokens) → is_if (t ++ rest) ≡ true
   passes : ok ≡ true → Leads any (want.else_stmts ∷ []) (want.other_stmts ∷ []) t
-
-abbrev is_stmt_arm : StmtArm → Bool
-is_stmt_arm = fold-StmtArm Bool Bool is_stmt_step is_stmt_arm_step
 
 abbrev StmtClaim : Stmt → Type 0
 StmtClaim v = StmtPasses (stmt_tokens v) (is_stmt v)

@@ -12,11 +12,10 @@ use Rattle.dsde_syntax.specs.declared.item.ViaKey.{ViaKey}
 use Rattle.dsde_syntax.specs.declared.decl.Typed.{Typed}
 use Rattle.dsde_syntax.specs.declared.decl.PortDecl.{PortDecl}
 use Rattle.dsde_syntax.specs.Grammar.{Tokens, word, mark, id_tokens, joined, commas, optional, in_braces, else_block, type_tokens, expr_tokens, suffix_tokens, expr_arm_tokens, field_set_tokens, sign_tail_tokens, tail_tokens, stmt_tokens, stmt_arm_tokens, item_tokens, item_arm_tokens, bracket_tokens, end_tokens, via_key_tokens, via_tokens, typed_tokens, port_tokens, state_tokens, phase_tokens, decl_tokens}
-use Rattle.dsde_syntax.specs.Levels.{prim_level, neg_level, mul_level, sum_level, and_level, or_level, not_level, stands_at, may_follow, is_comparison, is_sum_sign, is_mul_sign, level_of, is_expr, is_stmt, is_item, is_index, is_end, is_via, is_state, is_phase, is_decl}
+use Rattle.dsde_syntax.specs.Levels.{prim_level, neg_level, mul_level, sum_level, and_level, or_level, not_level, stands_at, may_follow, is_comparison, is_sum_sign, is_mul_sign, level_of, is_expr, is_stmt, is_item, is_index, is_end, is_via, is_state, is_phase, is_decl, is_expr_arm, is_field_set, is_item_arm, is_stmt_arm, is_suffix, sign_tail_level, tail_level}
 use Rattle.dsde_grammar.specs.Want.{Want}
 use Rattle.dsde_grammar.specs.Want as want
 use Rattle.dsde_grammar.specs.Steps.{Wants}
-use Rattle.dsde_grammar.proofs.Layers.{suffix_ok, expr_arm_ok, field_set_ok, sign_tail_own, tail_own, is_stmt_arm, is_item_arm}
 
 -- a value that passes a test
 pub record Good {A : Type 0} (ok : A → Bool) : Type 0 where
@@ -54,7 +53,7 @@ pub record Compared : Type 0 where
 
 -- arms, and the other part
 pub record Choice : Type 0 where
-  pub arms : Several expr_arm_ok (λ holds. holds)
+  pub arms : Several is_expr_arm (λ holds. holds)
   pub other : Good is_expr
 
 -- arms, and the last block
@@ -97,18 +96,18 @@ Value want.expr = Good is_expr
 Value want.negation = Bool
 Value want.minus = Bool
 Value want.prim = ExprAt prim_level
-Value want.suffix = Good suffix_ok
-Value want.suffixes = Several suffix_ok (λ holds. holds)
-Value want.factors = Several sign_tail_own (may_follow is_mul_sign neg_level)
-Value want.terms = Several sign_tail_own (may_follow is_sum_sign mul_level)
+Value want.suffix = Good is_suffix
+Value want.suffixes = Several is_suffix (λ holds. holds)
+Value want.factors = Several sign_tail_level (may_follow is_mul_sign neg_level)
+Value want.terms = Several sign_tail_level (may_follow is_sum_sign mul_level)
 Value want.comparison = Option Compared
-Value want.conjuncts = Several tail_own (stands_at not_level)
-Value want.disjuncts = Several tail_own (stands_at and_level)
+Value want.conjuncts = Several tail_level (stands_at not_level)
+Value want.disjuncts = Several tail_level (stands_at and_level)
 Value want.fallback = Option (ExprAt or_level)
 Value want.after_name = Behind id_tokens
 Value want.args_rest = Several level_of (stands_at 9)
 Value want.more_exprs = Several level_of (stands_at 9)
-Value want.more_fields = Several field_set_ok (λ holds. holds)
+Value want.more_fields = Several is_field_set (λ holds. holds)
 Value want.row_rest = Behind (λ (own : Unit {0}). mark sign.OpenBracket)
 Value want.test = Option (Good is_expr)
 Value want.else_rest = Choice

@@ -14,10 +14,10 @@ use Rattle.dsde_syntax.specs.declared.expr.Tail.{Tail}
 use Rattle.dsde_syntax.specs.declared.expr.Expr.TheOpen.{Expr-F}
 use Rattle.dsde_syntax.specs.declared.expr.Expr.TheFolds.{fold-roll-Expr}
 use Rattle.dsde_syntax.specs.Grammar.{Tokens, word, joined, expr_step, suffix_step, expr_arm_step, field_set_step, sign_tail_step, tail_step, expr_tokens, suffix_tokens, sign_tail_tokens, tail_tokens}
-use Rattle.dsde_syntax.specs.Levels.{level_if, stands_at, has_first, may_follow, is_sum_sign, is_mul_sign, level_step, suffix_level_step, expr_arm_level_step, field_set_level_step, sign_tail_level_step, tail_level_step, level_of}
-use Rattle.dsde_syntax.specs.Places.{Span, ◌>>◌, span_step, suffix_span_step, expr_arm_span_step, field_set_span_step, sign_tail_span_step, tail_span_step, expr_span}
+use Rattle.dsde_syntax.specs.Levels.{level_if, stands_at, has_first, may_follow, is_sum_sign, is_mul_sign, level_step, suffix_level_step, expr_arm_level_step, field_set_level_step, sign_tail_level_step, tail_level_step, level_of, is_suffix, sign_tail_level, tail_level}
+use Rattle.dsde_syntax.specs.Places.{Span, ◌>>◌, span_step, suffix_span_step, expr_arm_span_step, field_set_span_step, sign_tail_span_step, tail_span_step, expr_span, sign_tail_span, suffix_span, tail_span}
 use Rattle.dsde_parser.specs.Took.{Spot, Took, TookAll}
-use Rattle.dsde_parser.specs.Parts.{IsWithin, AllOk, joined_by, all_by, or_tail_tokens, and_tail_tokens, suffix_ok, suffix_span, sign_tail_own, sign_tail_span, tail_own, tail_span}
+use Rattle.dsde_parser.specs.Parts.{IsWithin, AllOk, joined_by, all_by, or_tail_tokens, and_tail_tokens}
 
 pub le-stands : (own k : ℕ) → own ≤ k → stands_at k own ≡ true
 le-stands own k h = grind (arith, nat_tests)
@@ -53,57 +53,57 @@ chain-Took {before} {mid} {after} first node more rest k own begun spells placed
   moved = omega (arith, begun.moved, moved);
 }
 
-pub or-Took : {before mid after : Spot} (first : Expr) (rest : List Tail) → Took expr_tokens expr_span (IsWithin 7) before mid first → TookAll (joined_by or_tail_tokens) (all_by tail_span) (AllOk (λ tail. stands_at 7 (tail_own tail))) mid after rest → (rest ≡ [] → ⊥) → Took expr_tokens expr_span (IsWithin 8) before after (expr.Or first rest)
+pub or-Took : {before mid after : Spot} (first : Expr) (rest : List Tail) → Took expr_tokens expr_span (IsWithin 7) before mid first → TookAll (joined_by or_tail_tokens) (all_by tail_span) (AllOk (λ tail. stands_at 7 (tail_level tail))) mid after rest → (rest ≡ [] → ⊥) → Took expr_tokens expr_span (IsWithin 8) before after (expr.Or first rest)
 or-Took {before} {mid} {after} first rest begun more some =
     let node = expr.Or first rest in
     let toks = ap expr_tokens (sym (rolls-Or first rest)) ∙ fold-roll-Expr Tokens Tokens Tokens Tokens Tokens Tokens expr_step suffix_step expr_arm_step field_set_step sign_tail_step tail_step (Expr-F.Or first rest) in
     let span = ap expr_span (sym (rolls-Or first rest)) ∙ fold-roll-Expr Span Span Span Span Span Span span_step suffix_span_step expr_arm_span_step field_set_span_step sign_tail_span_step tail_span_step (Expr-F.Or first rest) in
     let lvl = ap level_of (sym (rolls-Or first rest)) ∙ fold-roll-Expr ℕ Bool Bool Bool (Sign × ℕ) ℕ level_step suffix_level_step expr_arm_level_step field_set_level_step sign_tail_level_step tail_level_step (Expr-F.Or first rest) in
-    let small = within (stands_at 7 (level_of first)) (has_first (map tail_own rest)) (list_all (stands_at 7) (map tail_own rest)) 8 (le-stands (level_of first) 7 begun.good) (has-some tail_own rest some) (all-map tail_own (stands_at 7) rest more.good) in
+    let small = within (stands_at 7 (level_of first)) (has_first (map tail_level rest)) (list_all (stands_at 7) (map tail_level rest)) 8 (le-stands (level_of first) 7 begun.good) (has-some tail_level rest some) (all-map tail_level (stands_at 7) rest more.good) in
     let P : ℕ → Type 0 = λ own. own ≤ 8 in
     chain-Took first node (joined_by or_tail_tokens rest) (all_by tail_span rest) 7 8 begun more.spells more.placed more.shorter more.moved
     (toks ∙ ap (λ (own : Tokens). expr_tokens first ++ own) (flat-joined tail_tokens (λ value. word key.Or ++ value) rest)) span (subst P (sym lvl) small)
 
-pub and-Took : {before mid after : Spot} (first : Expr) (rest : List Tail) → Took expr_tokens expr_span (IsWithin 6) before mid first → TookAll (joined_by and_tail_tokens) (all_by tail_span) (AllOk (λ tail. stands_at 6 (tail_own tail))) mid after rest → (rest ≡ [] → ⊥) → Took expr_tokens expr_span (IsWithin 7) before after (expr.And first rest)
+pub and-Took : {before mid after : Spot} (first : Expr) (rest : List Tail) → Took expr_tokens expr_span (IsWithin 6) before mid first → TookAll (joined_by and_tail_tokens) (all_by tail_span) (AllOk (λ tail. stands_at 6 (tail_level tail))) mid after rest → (rest ≡ [] → ⊥) → Took expr_tokens expr_span (IsWithin 7) before after (expr.And first rest)
 and-Took {before} {mid} {after} first rest begun more some =
     let node = expr.And first rest in
     let toks = ap expr_tokens (sym (rolls-And first rest)) ∙ fold-roll-Expr Tokens Tokens Tokens Tokens Tokens Tokens expr_step suffix_step expr_arm_step field_set_step sign_tail_step tail_step (Expr-F.And first rest) in
     let span = ap expr_span (sym (rolls-And first rest)) ∙ fold-roll-Expr Span Span Span Span Span Span span_step suffix_span_step expr_arm_span_step field_set_span_step sign_tail_span_step tail_span_step (Expr-F.And first rest) in
     let lvl = ap level_of (sym (rolls-And first rest)) ∙ fold-roll-Expr ℕ Bool Bool Bool (Sign × ℕ) ℕ level_step suffix_level_step expr_arm_level_step field_set_level_step sign_tail_level_step tail_level_step (Expr-F.And first rest) in
-    let small = within (stands_at 6 (level_of first)) (has_first (map tail_own rest)) (list_all (stands_at 6) (map tail_own rest)) 7 (le-stands (level_of first) 6 begun.good) (has-some tail_own rest some) (all-map tail_own (stands_at 6) rest more.good) in
+    let small = within (stands_at 6 (level_of first)) (has_first (map tail_level rest)) (list_all (stands_at 6) (map tail_level rest)) 7 (le-stands (level_of first) 6 begun.good) (has-some tail_level rest some) (all-map tail_level (stands_at 6) rest more.good) in
     let P : ℕ → Type 0 = λ own. own ≤ 7 in
     chain-Took first node (joined_by and_tail_tokens rest) (all_by tail_span rest) 6 7 begun more.spells more.placed more.shorter more.moved
     (toks ∙ ap (λ (own : Tokens). expr_tokens first ++ own) (flat-joined tail_tokens (λ value. word key.And ++ value) rest)) span (subst P (sym lvl) small)
 
-pub sum-Took : {before mid after : Spot} (first : Expr) (rest : List SignTail) → Took expr_tokens expr_span (IsWithin 3) before mid first → TookAll (joined_by sign_tail_tokens) (all_by sign_tail_span) (AllOk (λ tail. may_follow is_sum_sign 3 (sign_tail_own tail))) mid after rest → (rest ≡ [] → ⊥) → Took expr_tokens expr_span (IsWithin 4) before after (expr.Sum first rest)
+pub sum-Took : {before mid after : Spot} (first : Expr) (rest : List SignTail) → Took expr_tokens expr_span (IsWithin 3) before mid first → TookAll (joined_by sign_tail_tokens) (all_by sign_tail_span) (AllOk (λ tail. may_follow is_sum_sign 3 (sign_tail_level tail))) mid after rest → (rest ≡ [] → ⊥) → Took expr_tokens expr_span (IsWithin 4) before after (expr.Sum first rest)
 sum-Took {before} {mid} {after} first rest begun more some =
     let node = expr.Sum first rest in
     let toks = ap expr_tokens (sym (rolls-Sum first rest)) ∙ fold-roll-Expr Tokens Tokens Tokens Tokens Tokens Tokens expr_step suffix_step expr_arm_step field_set_step sign_tail_step tail_step (Expr-F.Sum first rest) in
     let span = ap expr_span (sym (rolls-Sum first rest)) ∙ fold-roll-Expr Span Span Span Span Span Span span_step suffix_span_step expr_arm_span_step field_set_span_step sign_tail_span_step tail_span_step (Expr-F.Sum first rest) in
     let lvl = ap level_of (sym (rolls-Sum first rest)) ∙ fold-roll-Expr ℕ Bool Bool Bool (Sign × ℕ) ℕ level_step suffix_level_step expr_arm_level_step field_set_level_step sign_tail_level_step tail_level_step (Expr-F.Sum first rest) in
-    let small = within (stands_at 3 (level_of first)) (has_first (map sign_tail_own rest)) (list_all (may_follow is_sum_sign 3) (map sign_tail_own rest)) 4 (le-stands (level_of first) 3 begun.good) (has-some sign_tail_own rest some) (all-map sign_tail_own (may_follow is_sum_sign 3) rest more.good) in
+    let small = within (stands_at 3 (level_of first)) (has_first (map sign_tail_level rest)) (list_all (may_follow is_sum_sign 3) (map sign_tail_level rest)) 4 (le-stands (level_of first) 3 begun.good) (has-some sign_tail_level rest some) (all-map sign_tail_level (may_follow is_sum_sign 3) rest more.good) in
     let P : ℕ → Type 0 = λ own. own ≤ 4 in
     chain-Took first node (joined_by sign_tail_tokens rest) (all_by sign_tail_span rest) 3 4 begun more.spells more.placed more.shorter more.moved
     (toks) span (subst P (sym lvl) small)
 
-pub mul-Took : {before mid after : Spot} (first : Expr) (rest : List SignTail) → Took expr_tokens expr_span (IsWithin 2) before mid first → TookAll (joined_by sign_tail_tokens) (all_by sign_tail_span) (AllOk (λ tail. may_follow is_mul_sign 2 (sign_tail_own tail))) mid after rest → (rest ≡ [] → ⊥) → Took expr_tokens expr_span (IsWithin 3) before after (expr.Mul first rest)
+pub mul-Took : {before mid after : Spot} (first : Expr) (rest : List SignTail) → Took expr_tokens expr_span (IsWithin 2) before mid first → TookAll (joined_by sign_tail_tokens) (all_by sign_tail_span) (AllOk (λ tail. may_follow is_mul_sign 2 (sign_tail_level tail))) mid after rest → (rest ≡ [] → ⊥) → Took expr_tokens expr_span (IsWithin 3) before after (expr.Mul first rest)
 mul-Took {before} {mid} {after} first rest begun more some =
     let node = expr.Mul first rest in
     let toks = ap expr_tokens (sym (rolls-Mul first rest)) ∙ fold-roll-Expr Tokens Tokens Tokens Tokens Tokens Tokens expr_step suffix_step expr_arm_step field_set_step sign_tail_step tail_step (Expr-F.Mul first rest) in
     let span = ap expr_span (sym (rolls-Mul first rest)) ∙ fold-roll-Expr Span Span Span Span Span Span span_step suffix_span_step expr_arm_span_step field_set_span_step sign_tail_span_step tail_span_step (Expr-F.Mul first rest) in
     let lvl = ap level_of (sym (rolls-Mul first rest)) ∙ fold-roll-Expr ℕ Bool Bool Bool (Sign × ℕ) ℕ level_step suffix_level_step expr_arm_level_step field_set_level_step sign_tail_level_step tail_level_step (Expr-F.Mul first rest) in
-    let small = within (stands_at 2 (level_of first)) (has_first (map sign_tail_own rest)) (list_all (may_follow is_mul_sign 2) (map sign_tail_own rest)) 3 (le-stands (level_of first) 2 begun.good) (has-some sign_tail_own rest some) (all-map sign_tail_own (may_follow is_mul_sign 2) rest more.good) in
+    let small = within (stands_at 2 (level_of first)) (has_first (map sign_tail_level rest)) (list_all (may_follow is_mul_sign 2) (map sign_tail_level rest)) 3 (le-stands (level_of first) 2 begun.good) (has-some sign_tail_level rest some) (all-map sign_tail_level (may_follow is_mul_sign 2) rest more.good) in
     let P : ℕ → Type 0 = λ own. own ≤ 3 in
     chain-Took first node (joined_by sign_tail_tokens rest) (all_by sign_tail_span rest) 2 3 begun more.spells more.placed more.shorter more.moved
     (toks) span (subst P (sym lvl) small)
 
-pub post-Took : {before mid after : Spot} (first : Expr) (rest : List Suffix) → Took expr_tokens expr_span (IsWithin 0) before mid first → TookAll (joined_by suffix_tokens) (all_by suffix_span) (AllOk suffix_ok) mid after rest → (rest ≡ [] → ⊥) → Took expr_tokens expr_span (IsWithin 1) before after (expr.Post first rest)
+pub post-Took : {before mid after : Spot} (first : Expr) (rest : List Suffix) → Took expr_tokens expr_span (IsWithin 0) before mid first → TookAll (joined_by suffix_tokens) (all_by suffix_span) (AllOk is_suffix) mid after rest → (rest ≡ [] → ⊥) → Took expr_tokens expr_span (IsWithin 1) before after (expr.Post first rest)
 post-Took {before} {mid} {after} first rest begun more some =
     let node = expr.Post first rest in
     let toks = ap expr_tokens (sym (rolls-Post first rest)) ∙ fold-roll-Expr Tokens Tokens Tokens Tokens Tokens Tokens expr_step suffix_step expr_arm_step field_set_step sign_tail_step tail_step (Expr-F.Post first rest) in
     let span = ap expr_span (sym (rolls-Post first rest)) ∙ fold-roll-Expr Span Span Span Span Span Span span_step suffix_span_step expr_arm_span_step field_set_span_step sign_tail_span_step tail_span_step (Expr-F.Post first rest) in
     let lvl = ap level_of (sym (rolls-Post first rest)) ∙ fold-roll-Expr ℕ Bool Bool Bool (Sign × ℕ) ℕ level_step suffix_level_step expr_arm_level_step field_set_level_step sign_tail_level_step tail_level_step (Expr-F.Post first rest) in
-    let small = within (stands_at 0 (level_of first)) (has_first (map suffix_ok rest)) (list_all ((λ ok. ok)) (map suffix_ok rest)) 1 (le-stands (level_of first) 0 begun.good) (has-some suffix_ok rest some) (all-map suffix_ok ((λ ok. ok)) rest more.good) in
+    let small = within (stands_at 0 (level_of first)) (has_first (map is_suffix rest)) (list_all ((λ ok. ok)) (map is_suffix rest)) 1 (le-stands (level_of first) 0 begun.good) (has-some is_suffix rest some) (all-map is_suffix ((λ ok. ok)) rest more.good) in
     let P : ℕ → Type 0 = λ own. own ≤ 1 in
     chain-Took first node (joined_by suffix_tokens rest) (all_by suffix_span rest) 0 1 begun more.spells more.placed more.shorter more.moved
     (toks) span (subst P (sym lvl) small)

@@ -22,11 +22,11 @@ use Rattle.dsde_syntax.specs.declared.expr.Expr.TheOpen.{Expr-F, SignTail-F, Tai
 use Rattle.dsde_syntax.specs.declared.expr.Expr.TheViews.{roll-SignTail, roll-Tail}
 use Rattle.dsde_syntax.specs.declared.expr.Expr.TheFolds.{fold-roll-Expr, fold-roll-SignTail, fold-roll-Tail}
 use Rattle.dsde_syntax.specs.Grammar.{Tokens, word, commas, elses, in_parens, in_braces, id_tokens, expr_step, suffix_step, expr_arm_step, field_set_step, sign_tail_step, tail_step, expr_tokens, expr_arm_tokens, field_set_tokens, sign_tail_tokens}
-use Rattle.dsde_syntax.specs.Levels.{level_if, stands_at, has_first, may_follow, is_builtin, is_expr, is_sum_sign, is_mul_sign, level_step, suffix_level_step, expr_arm_level_step, field_set_level_step, sign_tail_level_step, tail_level_step, level_of}
-use Rattle.dsde_syntax.specs.Places.{Span, token, token_at, begins_at, id_span, args_span, bracketed, spans_with, span_step, suffix_span_step, expr_arm_span_step, field_set_span_step, sign_tail_span_step, tail_span_step, expr_span}
+use Rattle.dsde_syntax.specs.Levels.{level_if, stands_at, has_first, may_follow, is_builtin, is_expr, is_sum_sign, is_mul_sign, level_step, suffix_level_step, expr_arm_level_step, field_set_level_step, sign_tail_level_step, tail_level_step, level_of, is_expr_arm, is_field_set, sign_tail_level, tail_level}
+use Rattle.dsde_syntax.specs.Places.{Span, token, token_at, begins_at, id_span, args_span, bracketed, spans_with, span_step, suffix_span_step, expr_arm_span_step, field_set_span_step, sign_tail_span_step, tail_span_step, expr_span, expr_arm_span, field_set_span, sign_tail_span, tail_span}
 use Rattle.dsde_parser.specs.declared.parser.ParseError.{ParseError}
 use Rattle.dsde_parser.specs.Took.{Spot, Took, TookOne, Takes, Reads}
-use Rattle.dsde_parser.specs.Parts.{IsWithin, AllOk, SomeOk, IsOk, commas_by, elses_by, spans_by, or_tail_tokens, and_tail_tokens, expr_arm_ok, expr_arm_span, field_set_ok, field_set_span, sign_tail_own, sign_tail_span, tail_own, tail_span}
+use Rattle.dsde_parser.specs.Parts.{IsWithin, AllOk, SomeOk, IsOk, commas_by, elses_by, spans_by, or_tail_tokens, and_tail_tokens}
 use Rattle.dsde_parser.proofs.ChainLemmas.{le-stands, all-map}
 
 pub boxed-Reads : {before after : Spot} {k : ℕ} (result : Result Expr ParseError) (e : Expr) → IfOk result (λ own. own ≡ e) → Took expr_tokens expr_span (IsWithin k) before after e → Reads expr_tokens expr_span (IsWithin k) before result after
@@ -49,7 +49,7 @@ token-here at index h = let same : (at == index) ≡ true = (Decides-eqb at inde
 
 -- the operands of a chain
 
-pub or_tail-Took : {before mid after : Spot} (at : ℕ) (e : Expr) → TookOne (tok.Key key.Or) before mid → at ≡ before.0 → Took expr_tokens expr_span (IsWithin 7) mid after e → Took or_tail_tokens tail_span (IsOk (λ tail. stands_at 7 (tail_own tail))) before after (roll-Tail (record { at = at; value = e }))
+pub or_tail-Took : {before mid after : Spot} (at : ℕ) (e : Expr) → TookOne (tok.Key key.Or) before mid → at ≡ before.0 → Took expr_tokens expr_span (IsWithin 7) mid after e → Took or_tail_tokens tail_span (IsOk (λ tail. stands_at 7 (tail_level tail))) before after (roll-Tail (record { at = at; value = e }))
 or_tail-Took {before} {mid} {after} at e one place own =
     let x : Tail-F Expr Suffix ExprArm FieldSet SignTail Tail = record { at = at; value = e } in
     let toks = fold-roll-Tail Tokens Tokens Tokens Tokens Tokens Tokens expr_step suffix_step expr_arm_step field_set_step sign_tail_step tail_step x in
@@ -63,7 +63,7 @@ or_tail-Took {before} {mid} {after} at e one place own =
       moved = omega (arith, one.next, ap length one.comes, own.moved);
     }
 
-pub and_tail-Took : {before mid after : Spot} (at : ℕ) (e : Expr) → TookOne (tok.Key key.And) before mid → at ≡ before.0 → Took expr_tokens expr_span (IsWithin 6) mid after e → Took and_tail_tokens tail_span (IsOk (λ tail. stands_at 6 (tail_own tail))) before after (roll-Tail (record { at = at; value = e }))
+pub and_tail-Took : {before mid after : Spot} (at : ℕ) (e : Expr) → TookOne (tok.Key key.And) before mid → at ≡ before.0 → Took expr_tokens expr_span (IsWithin 6) mid after e → Took and_tail_tokens tail_span (IsOk (λ tail. stands_at 6 (tail_level tail))) before after (roll-Tail (record { at = at; value = e }))
 and_tail-Took {before} {mid} {after} at e one place own =
     let x : Tail-F Expr Suffix ExprArm FieldSet SignTail Tail = record { at = at; value = e } in
     let toks = fold-roll-Tail Tokens Tokens Tokens Tokens Tokens Tokens expr_step suffix_step expr_arm_step field_set_step sign_tail_step tail_step x in
@@ -77,7 +77,7 @@ and_tail-Took {before} {mid} {after} at e one place own =
       moved = omega (arith, one.next, ap length one.comes, own.moved);
     }
 
-pub sum_tail-Took : {before mid after : Spot} (which : Sign) (at : ℕ) (e : Expr) → TookOne (tok.Sign which) before mid → is_sum_sign which ≡ true → at ≡ before.0 → Took expr_tokens expr_span (IsWithin 3) mid after e → Took sign_tail_tokens sign_tail_span (IsOk (λ tail. may_follow is_sum_sign 3 (sign_tail_own tail))) before after (roll-SignTail (record { sign = which; at = at; value = e }))
+pub sum_tail-Took : {before mid after : Spot} (which : Sign) (at : ℕ) (e : Expr) → TookOne (tok.Sign which) before mid → is_sum_sign which ≡ true → at ≡ before.0 → Took expr_tokens expr_span (IsWithin 3) mid after e → Took sign_tail_tokens sign_tail_span (IsOk (λ tail. may_follow is_sum_sign 3 (sign_tail_level tail))) before after (roll-SignTail (record { sign = which; at = at; value = e }))
 sum_tail-Took {before} {mid} {after} which at e one fits place own =
     let x : SignTail-F Expr Suffix ExprArm FieldSet SignTail Tail = record { sign = which; at = at; value = e } in
     let toks = fold-roll-SignTail Tokens Tokens Tokens Tokens Tokens Tokens expr_step suffix_step expr_arm_step field_set_step sign_tail_step tail_step x in
@@ -92,7 +92,7 @@ sum_tail-Took {before} {mid} {after} which at e one fits place own =
       moved = omega (arith, one.next, ap length one.comes, own.moved);
     }
 
-pub mul_tail-Took : {before mid after : Spot} (which : Sign) (at : ℕ) (e : Expr) → TookOne (tok.Sign which) before mid → is_mul_sign which ≡ true → at ≡ before.0 → Took expr_tokens expr_span (IsWithin 2) mid after e → Took sign_tail_tokens sign_tail_span (IsOk (λ tail. may_follow is_mul_sign 2 (sign_tail_own tail))) before after (roll-SignTail (record { sign = which; at = at; value = e }))
+pub mul_tail-Took : {before mid after : Spot} (which : Sign) (at : ℕ) (e : Expr) → TookOne (tok.Sign which) before mid → is_mul_sign which ≡ true → at ≡ before.0 → Took expr_tokens expr_span (IsWithin 2) mid after e → Took sign_tail_tokens sign_tail_span (IsOk (λ tail. may_follow is_mul_sign 2 (sign_tail_level tail))) before after (roll-SignTail (record { sign = which; at = at; value = e }))
 mul_tail-Took {before} {mid} {after} which at e one fits place own =
     let x : SignTail-F Expr Suffix ExprArm FieldSet SignTail Tail = record { sign = which; at = at; value = e } in
     let toks = fold-roll-SignTail Tokens Tokens Tokens Tokens Tokens Tokens expr_step suffix_step expr_arm_step field_set_step sign_tail_step tail_step x in
@@ -174,7 +174,7 @@ row-Took {before} {mid} {next} {after} at items one place own last =
     whole.shorter
     whole.moved
 
-pub new-Took : {before mid next after : Spot} (at : ℕ) (owner : Id) (fields : List FieldSet) → TookOne (tok.Key key.New) before mid → at ≡ before.0 → mid.1 ≡ id_tokens owner ++ next.1 → id_span owner mid.0 ≡ Some next.0 → length next.1 < length mid.1 → next.0 + length next.1 ≡ mid.0 + length mid.1 → Took (λ fields. in_braces (commas (map field_set_tokens fields))) (λ fields. args_span (map field_set_span fields)) (SomeOk field_set_ok) next after fields → Took expr_tokens expr_span (IsWithin 0) before after (expr.New at owner fields)
+pub new-Took : {before mid next after : Spot} (at : ℕ) (owner : Id) (fields : List FieldSet) → TookOne (tok.Key key.New) before mid → at ≡ before.0 → mid.1 ≡ id_tokens owner ++ next.1 → id_span owner mid.0 ≡ Some next.0 → length next.1 < length mid.1 → next.0 + length next.1 ≡ mid.0 + length mid.1 → Took (λ fields. in_braces (commas (map field_set_tokens fields))) (λ fields. args_span (map field_set_span fields)) (SomeOk is_field_set) next after fields → Took expr_tokens expr_span (IsWithin 0) before after (expr.New at owner fields)
 new-Took {before} {mid} {next} {after} at owner fields one place spells placed shorter moved own =
     node-Took (expr.New at owner fields) _ _ _ 0
     (ap expr_tokens (sym (rolls-New at owner fields)) ∙ fold-roll-Expr Tokens Tokens Tokens Tokens Tokens Tokens expr_step suffix_step expr_arm_step field_set_step sign_tail_step tail_step (Expr-F.New at owner fields))
@@ -184,11 +184,11 @@ new-Took {before} {mid} {next} {after} at owner fields one place spells placed s
     (ap (λ (got : Option ℕ). option_and_then (args_span (map field_set_span fields)) (option_and_then (id_span owner) got)) (token-here at before.0 place)
     ∙ (ap (λ (index : ℕ). option_and_then (args_span (map field_set_span fields)) (id_span owner index)) (sym one.next)
     ∙ (ap (λ (got : Option ℕ). option_and_then (args_span (map field_set_span fields)) got) placed ∙ own.placed)))
-    (level-one (has_first (map field_set_ok fields) && list_all (λ ok. ok) (map field_set_ok fields)) 0 (true-and (has_first (map field_set_ok fields)) (list_all (λ ok. ok) (map field_set_ok fields)) (has-map field_set_ok fields own.good.some) (all-map field_set_ok (λ ok. ok) fields own.good.all)))
+    (level-one (has_first (map is_field_set fields) && list_all (λ ok. ok) (map is_field_set fields)) 0 (true-and (has_first (map is_field_set fields)) (list_all (λ ok. ok) (map is_field_set fields)) (has-map is_field_set fields own.good.some) (all-map is_field_set (λ ok. ok) fields own.good.all)))
     (omega (arith, ap length one.comes, shorter, own.shorter))
     (omega (arith, one.next, ap length one.comes, moved, own.moved))
 
-pub choice-Took : {before mid next after : Spot} (at : ℕ) (arms : List ExprArm) (other : Expr) → at ≡ before.0 → Took (elses_by expr_arm_tokens) (spans_by expr_arm_span) (SomeOk expr_arm_ok) before mid arms → TookOne (tok.Key key.Else) mid next → Took (λ expr. in_braces (expr_tokens expr)) (λ expr. bracketed (expr_span expr)) (IsWithin 9) next after other → Took expr_tokens expr_span (IsWithin 0) before after (expr.If at arms other)
+pub choice-Took : {before mid next after : Spot} (at : ℕ) (arms : List ExprArm) (other : Expr) → at ≡ before.0 → Took (elses_by expr_arm_tokens) (spans_by expr_arm_span) (SomeOk is_expr_arm) before mid arms → TookOne (tok.Key key.Else) mid next → Took (λ expr. in_braces (expr_tokens expr)) (λ expr. bracketed (expr_span expr)) (IsWithin 9) next after other → Took expr_tokens expr_span (IsWithin 0) before after (expr.If at arms other)
 choice-Took {before} {mid} {next} {after} at arms other place begun one own =
     node-Took (expr.If at arms other) _ _ _ 0
     (ap expr_tokens (sym (rolls-If at arms other)) ∙ fold-roll-Expr Tokens Tokens Tokens Tokens Tokens Tokens expr_step suffix_step expr_arm_step field_set_step sign_tail_step tail_step (Expr-F.If at arms other))
@@ -200,9 +200,9 @@ choice-Took {before} {mid} {next} {after} at arms other place begun one own =
     (ap (λ (got : Option ℕ). option_and_then (bracketed (expr_span other)) (option_and_then token (option_and_then (spans_with token (map expr_arm_span arms)) got))) (begins-here at before.0 place)
     ∙ (ap (λ (got : Option ℕ). option_and_then (bracketed (expr_span other)) (option_and_then token got)) begun.placed
     ∙ (ap (bracketed (expr_span other)) (sym one.next) ∙ own.placed)))
-    (level-one ((has_first (map expr_arm_ok arms) && list_all (λ ok. ok) (map expr_arm_ok arms)) && stands_at 9 (level_of other)) 0
-    (true-and (has_first (map expr_arm_ok arms) && list_all (λ ok. ok) (map expr_arm_ok arms)) (stands_at 9 (level_of other))
-    (true-and (has_first (map expr_arm_ok arms)) (list_all (λ ok. ok) (map expr_arm_ok arms)) (has-map expr_arm_ok arms begun.good.some) (all-map expr_arm_ok (λ ok. ok) arms begun.good.all))
+    (level-one ((has_first (map is_expr_arm arms) && list_all (λ ok. ok) (map is_expr_arm arms)) && stands_at 9 (level_of other)) 0
+    (true-and (has_first (map is_expr_arm arms) && list_all (λ ok. ok) (map is_expr_arm arms)) (stands_at 9 (level_of other))
+    (true-and (has_first (map is_expr_arm arms)) (list_all (λ ok. ok) (map is_expr_arm arms)) (has-map is_expr_arm arms begun.good.some) (all-map is_expr_arm (λ ok. ok) arms begun.good.all))
     (le-stands (level_of other) 9 own.good)))
     (omega (arith, begun.shorter, ap length one.comes, own.shorter))
     (omega (arith, begun.moved, one.next, ap length one.comes, own.moved))

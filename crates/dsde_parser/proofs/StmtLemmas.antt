@@ -24,10 +24,10 @@ use Rattle.dsde_syntax.specs.declared.token.Key.TheVariants as key
 use Rattle.dsde_syntax.specs.declared.token.Sign.TheVariants as sign
 use Rattle.dsde_syntax.specs.declared.item.Bracket.{Bracket}
 use Rattle.dsde_syntax.specs.Grammar.{Tokens, word, mark, id_tokens, args_tokens, component_tokens, block, for_tokens, if_tokens, stmt_step, stmt_arm_step, stmt_tokens, stmt_arm_tokens, item_step, item_arm_step, item_tokens, item_arm_tokens}
-use Rattle.dsde_syntax.specs.Places.{Span, ◌>>◌, token, id_span, args_span, component_span, expr_span, block_span, for_span, stmt_span_step, stmt_arm_span_step, stmt_span, item_span_step, item_arm_span_step, item_span}
-use Rattle.dsde_syntax.specs.Levels.{has_first, all_hold, if_written, is_expr, is_index, is_stmt_step, is_stmt_arm_step, is_stmt, is_item_step, is_item_arm_step, is_item}
+use Rattle.dsde_syntax.specs.Places.{Span, ◌>>◌, token, id_span, args_span, component_span, expr_span, block_span, for_span, stmt_span_step, stmt_arm_span_step, stmt_span, item_span_step, item_arm_span_step, item_span, item_arm_span, stmt_arm_span}
+use Rattle.dsde_syntax.specs.Levels.{has_first, all_hold, if_written, is_expr, is_index, is_stmt_step, is_stmt_arm_step, is_stmt, is_item_step, is_item_arm_step, is_item, is_item_arm, is_stmt_arm}
 use Rattle.dsde_parser.specs.Took.{Spot, Took, TookAll, TookOne}
-use Rattle.dsde_parser.specs.Parts.{AllOk, SomeOk, IsOk, elses_by, spans_by, if_span, stmt_arm_ok, stmt_arm_span, last_stmts_tokens, last_stmts_span, last_stmts_ok, item_arm_ok, item_arm_span, last_items_tokens, last_items_span, last_items_ok, made_tokens, made_span}
+use Rattle.dsde_parser.specs.Parts.{AllOk, SomeOk, IsOk, elses_by, spans_by, if_span, last_stmts_tokens, last_stmts_span, last_stmts_ok, last_items_tokens, last_items_span, last_items_ok, made_tokens, made_span}
 use Rattle.dsde_parser.proofs.ChainLemmas.{all-map}
 use Rattle.dsde_parser.proofs.NodeLemmas.{token-here}
 
@@ -62,30 +62,30 @@ stmt_loop-Took name list body head own =
     (ap stmt_span (sym (rolls-For name list body)) ∙ fold-roll-Stmt Span Span stmt_span_step stmt_arm_span_step (Stmt-F.For name list body))
     (ap is_stmt (sym (rolls-For name list body)) ∙ (fold-roll-Stmt Bool Bool is_stmt_step is_stmt_arm_step (Stmt-F.For name list body) ∙ true-and (is_expr list) (all_hold (map is_stmt body)) head.good (all-map is_stmt (λ own. own) body own.good)))
 
-pub stmt_arm-Took : {before mid after : Spot} (cond : Expr) (body : List Stmt) → Took if_tokens if_span (IsOk is_expr) before mid cond → Took (λ own. block (map stmt_tokens own)) (λ own. block_span (map stmt_span own)) (AllOk is_stmt) mid after body → Took stmt_arm_tokens stmt_arm_span (IsOk stmt_arm_ok) before after (roll-StmtArm (record { cond = cond; body = body }))
+pub stmt_arm-Took : {before mid after : Spot} (cond : Expr) (body : List Stmt) → Took if_tokens if_span (IsOk is_expr) before mid cond → Took (λ own. block (map stmt_tokens own)) (λ own. block_span (map stmt_span own)) (AllOk is_stmt) mid after body → Took stmt_arm_tokens stmt_arm_span (IsOk is_stmt_arm) before after (roll-StmtArm (record { cond = cond; body = body }))
 stmt_arm-Took cond body head own =
     let x : StmtArm-F Stmt StmtArm = record { cond = cond; body = body } in
-    two-Took stmt_arm_tokens stmt_arm_span stmt_arm_ok (roll-StmtArm x) head (loose own)
+    two-Took stmt_arm_tokens stmt_arm_span is_stmt_arm (roll-StmtArm x) head (loose own)
     (fold-roll-StmtArm Tokens Tokens stmt_step stmt_arm_step x)
     (fold-roll-StmtArm Span Span stmt_span_step stmt_arm_span_step x)
     (fold-roll-StmtArm Bool Bool is_stmt_step is_stmt_arm_step x ∙ true-and (is_expr cond) (all_hold (map is_stmt body)) head.good (all-map is_stmt (λ own. own) body own.good))
 
-pub stmt_choice-Took : {before mid after : Spot} (arms : List StmtArm) (other : Option (List Stmt)) → Took (elses_by stmt_arm_tokens) (spans_by stmt_arm_span) (SomeOk stmt_arm_ok) before mid arms → TookAll last_stmts_tokens last_stmts_span last_stmts_ok mid after other → Took stmt_tokens stmt_span (IsOk is_stmt) before after (stmt.If arms other)
+pub stmt_choice-Took : {before mid after : Spot} (arms : List StmtArm) (other : Option (List Stmt)) → Took (elses_by stmt_arm_tokens) (spans_by stmt_arm_span) (SomeOk is_stmt_arm) before mid arms → TookAll last_stmts_tokens last_stmts_span last_stmts_ok mid after other → Took stmt_tokens stmt_span (IsOk is_stmt) before after (stmt.If arms other)
 stmt_choice-Took arms None head own =
     two-Took stmt_tokens stmt_span is_stmt (stmt.If arms None) head own
     (ap stmt_tokens (sym (rolls-If arms None)) ∙ fold-roll-Stmt Tokens Tokens stmt_step stmt_arm_step (Stmt-F.If arms None))
     (ap stmt_span (sym (rolls-If arms None)) ∙ fold-roll-Stmt Span Span stmt_span_step stmt_arm_span_step (Stmt-F.If arms None))
     (ap is_stmt (sym (rolls-If arms None)) ∙ (fold-roll-Stmt Bool Bool is_stmt_step is_stmt_arm_step (Stmt-F.If arms None)
-    ∙ true-and (has_first (map stmt_arm_ok arms) && all_hold (map stmt_arm_ok arms)) (if_written all_hold (option_map (map is_stmt) None))
-    (true-and (has_first (map stmt_arm_ok arms)) (all_hold (map stmt_arm_ok arms)) (has-map stmt_arm_ok arms head.good.some) (all-map stmt_arm_ok (λ own. own) arms head.good.all))
+    ∙ true-and (has_first (map is_stmt_arm arms) && all_hold (map is_stmt_arm arms)) (if_written all_hold (option_map (map is_stmt) None))
+    (true-and (has_first (map is_stmt_arm arms)) (all_hold (map is_stmt_arm arms)) (has-map is_stmt_arm arms head.good.some) (all-map is_stmt_arm (λ own. own) arms head.good.all))
     (last-map is_stmt None own.good)))
 stmt_choice-Took arms (Some last) head own =
     two-Took stmt_tokens stmt_span is_stmt (stmt.If arms (Some last)) head own
     (ap stmt_tokens (sym (rolls-If arms (Some last))) ∙ fold-roll-Stmt Tokens Tokens stmt_step stmt_arm_step (Stmt-F.If arms (Some last)))
     (ap stmt_span (sym (rolls-If arms (Some last))) ∙ fold-roll-Stmt Span Span stmt_span_step stmt_arm_span_step (Stmt-F.If arms (Some last)))
     (ap is_stmt (sym (rolls-If arms (Some last))) ∙ (fold-roll-Stmt Bool Bool is_stmt_step is_stmt_arm_step (Stmt-F.If arms (Some last))
-    ∙ true-and (has_first (map stmt_arm_ok arms) && all_hold (map stmt_arm_ok arms)) (if_written all_hold (option_map (map is_stmt) (Some last)))
-    (true-and (has_first (map stmt_arm_ok arms)) (all_hold (map stmt_arm_ok arms)) (has-map stmt_arm_ok arms head.good.some) (all-map stmt_arm_ok (λ own. own) arms head.good.all))
+    ∙ true-and (has_first (map is_stmt_arm arms) && all_hold (map is_stmt_arm arms)) (if_written all_hold (option_map (map is_stmt) (Some last)))
+    (true-and (has_first (map is_stmt_arm arms)) (all_hold (map is_stmt_arm arms)) (has-map is_stmt_arm arms head.good.some) (all-map is_stmt_arm (λ own. own) arms head.good.all))
     (last-map is_stmt (Some last) own.good)))
 
 pub item_loop-Took : {before mid after : Spot} (name : Id) (list : Expr) (body : List Item) → Took (λ (own : Id × Expr). for_tokens own.0 own.1) (λ (own : Id × Expr). for_span own.0 own.1) (λ (own : Id × Expr). is_expr own.1 ≡ true) before mid (name, list) → Took (λ own. block (map item_tokens own)) (λ own. block_span (map item_span own)) (AllOk is_item) mid after body → Took item_tokens item_span (IsOk is_item) before after (item.For name list body)
@@ -95,30 +95,30 @@ item_loop-Took name list body head own =
     (ap item_span (sym (rolls-ForItem name list body)) ∙ fold-roll-Item Span Span item_span_step item_arm_span_step (Item-F.For name list body))
     (ap is_item (sym (rolls-ForItem name list body)) ∙ (fold-roll-Item Bool Bool is_item_step is_item_arm_step (Item-F.For name list body) ∙ true-and (is_expr list) (all_hold (map is_item body)) head.good (all-map is_item (λ own. own) body own.good)))
 
-pub item_arm-Took : {before mid after : Spot} (cond : Expr) (body : List Item) → Took if_tokens if_span (IsOk is_expr) before mid cond → Took (λ own. block (map item_tokens own)) (λ own. block_span (map item_span own)) (AllOk is_item) mid after body → Took item_arm_tokens item_arm_span (IsOk item_arm_ok) before after (roll-ItemArm (record { cond = cond; body = body }))
+pub item_arm-Took : {before mid after : Spot} (cond : Expr) (body : List Item) → Took if_tokens if_span (IsOk is_expr) before mid cond → Took (λ own. block (map item_tokens own)) (λ own. block_span (map item_span own)) (AllOk is_item) mid after body → Took item_arm_tokens item_arm_span (IsOk is_item_arm) before after (roll-ItemArm (record { cond = cond; body = body }))
 item_arm-Took cond body head own =
     let x : ItemArm-F Item ItemArm = record { cond = cond; body = body } in
-    two-Took item_arm_tokens item_arm_span item_arm_ok (roll-ItemArm x) head (loose own)
+    two-Took item_arm_tokens item_arm_span is_item_arm (roll-ItemArm x) head (loose own)
     (fold-roll-ItemArm Tokens Tokens item_step item_arm_step x)
     (fold-roll-ItemArm Span Span item_span_step item_arm_span_step x)
     (fold-roll-ItemArm Bool Bool is_item_step is_item_arm_step x ∙ true-and (is_expr cond) (all_hold (map is_item body)) head.good (all-map is_item (λ own. own) body own.good))
 
-pub item_choice-Took : {before mid after : Spot} (arms : List ItemArm) (other : Option (List Item)) → Took (elses_by item_arm_tokens) (spans_by item_arm_span) (SomeOk item_arm_ok) before mid arms → TookAll last_items_tokens last_items_span last_items_ok mid after other → Took item_tokens item_span (IsOk is_item) before after (item.If arms other)
+pub item_choice-Took : {before mid after : Spot} (arms : List ItemArm) (other : Option (List Item)) → Took (elses_by item_arm_tokens) (spans_by item_arm_span) (SomeOk is_item_arm) before mid arms → TookAll last_items_tokens last_items_span last_items_ok mid after other → Took item_tokens item_span (IsOk is_item) before after (item.If arms other)
 item_choice-Took arms None head own =
     two-Took item_tokens item_span is_item (item.If arms None) head own
     (ap item_tokens (sym (rolls-IfItem arms None)) ∙ fold-roll-Item Tokens Tokens item_step item_arm_step (Item-F.If arms None))
     (ap item_span (sym (rolls-IfItem arms None)) ∙ fold-roll-Item Span Span item_span_step item_arm_span_step (Item-F.If arms None))
     (ap is_item (sym (rolls-IfItem arms None)) ∙ (fold-roll-Item Bool Bool is_item_step is_item_arm_step (Item-F.If arms None)
-    ∙ true-and (has_first (map item_arm_ok arms) && all_hold (map item_arm_ok arms)) (if_written all_hold (option_map (map is_item) None))
-    (true-and (has_first (map item_arm_ok arms)) (all_hold (map item_arm_ok arms)) (has-map item_arm_ok arms head.good.some) (all-map item_arm_ok (λ own. own) arms head.good.all))
+    ∙ true-and (has_first (map is_item_arm arms) && all_hold (map is_item_arm arms)) (if_written all_hold (option_map (map is_item) None))
+    (true-and (has_first (map is_item_arm arms)) (all_hold (map is_item_arm arms)) (has-map is_item_arm arms head.good.some) (all-map is_item_arm (λ own. own) arms head.good.all))
     (last-map is_item None own.good)))
 item_choice-Took arms (Some last) head own =
     two-Took item_tokens item_span is_item (item.If arms (Some last)) head own
     (ap item_tokens (sym (rolls-IfItem arms (Some last))) ∙ fold-roll-Item Tokens Tokens item_step item_arm_step (Item-F.If arms (Some last)))
     (ap item_span (sym (rolls-IfItem arms (Some last))) ∙ fold-roll-Item Span Span item_span_step item_arm_span_step (Item-F.If arms (Some last)))
     (ap is_item (sym (rolls-IfItem arms (Some last))) ∙ (fold-roll-Item Bool Bool is_item_step is_item_arm_step (Item-F.If arms (Some last))
-    ∙ true-and (has_first (map item_arm_ok arms) && all_hold (map item_arm_ok arms)) (if_written all_hold (option_map (map is_item) (Some last)))
-    (true-and (has_first (map item_arm_ok arms)) (all_hold (map item_arm_ok arms)) (has-map item_arm_ok arms head.good.some) (all-map item_arm_ok (λ own. own) arms head.good.all))
+    ∙ true-and (has_first (map is_item_arm arms) && all_hold (map is_item_arm arms)) (if_written all_hold (option_map (map is_item) (Some last)))
+    (true-and (has_first (map is_item_arm arms)) (all_hold (map is_item_arm arms)) (has-map is_item_arm arms head.good.some) (all-map is_item_arm (λ own. own) arms head.good.all))
     (last-map is_item (Some last) own.good)))
 
 -- a part in front of a group of parts

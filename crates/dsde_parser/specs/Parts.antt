@@ -2,80 +2,28 @@
 use Rattle.std.specs.Prelude.{◌≡◌, ◌≤◌, ℕ, Bool, true, List, ◌++◌, map, Option}
 use Rattle.std.specs.Option.{option_map}
 use Rattle.std.specs.List.{list_all}
-use Rattle.dsde_syntax.specs.declared.token.Sign.{Sign}
 use Rattle.dsde_syntax.specs.declared.expr.Expr.{Expr}
-use Rattle.dsde_syntax.specs.declared.expr.Suffix.{Suffix}
-use Rattle.dsde_syntax.specs.declared.expr.ExprArm.{ExprArm}
-use Rattle.dsde_syntax.specs.declared.expr.FieldSet.{FieldSet}
-use Rattle.dsde_syntax.specs.declared.expr.SignTail.{SignTail}
 use Rattle.dsde_syntax.specs.declared.expr.Tail.{Tail}
-use Rattle.dsde_syntax.specs.declared.expr.Expr.TheFolds.{fold-Suffix, fold-ExprArm, fold-FieldSet, fold-SignTail, fold-Tail}
 use Rattle.dsde_syntax.specs.declared.stmt.Stmt.{Stmt}
-use Rattle.dsde_syntax.specs.declared.stmt.StmtArm.{StmtArm}
-use Rattle.dsde_syntax.specs.declared.stmt.Stmt.TheFolds.{fold-StmtArm}
 use Rattle.dsde_syntax.specs.declared.item.Item.{Item}
-use Rattle.dsde_syntax.specs.declared.item.ItemArm.{ItemArm}
 use Rattle.dsde_syntax.specs.declared.item.EndPart.{EndPart}
 use Rattle.dsde_syntax.specs.declared.item.EndPart.TheVariants as end_part
 use Rattle.dsde_syntax.specs.declared.item.ViaKey.{ViaKey}
 use Rattle.dsde_syntax.specs.declared.decl.PortDecl.{PortDecl}
 use Rattle.dsde_syntax.specs.declared.decl.Body.{Body}
 use Rattle.dsde_syntax.specs.declared.decl.Phase.{Phase}
-use Rattle.dsde_syntax.specs.declared.item.Item.TheFolds.{fold-ItemArm}
-use Rattle.dsde_syntax.specs.Levels.{has_first, if_written, is_expr, is_stmt, is_item, is_index, is_end, is_phase, is_body, level_of, level_step, suffix_level_step, expr_arm_level_step, field_set_level_step, sign_tail_level_step, tail_level_step, is_stmt_step, is_stmt_arm_step, is_item_step, is_item_arm_step}
+use Rattle.dsde_syntax.specs.Levels.{has_first, if_written, is_expr, is_stmt, is_item, is_index, is_end, is_phase, is_body, level_of}
 use Rattle.dsde_syntax.specs.declared.token.Key.TheVariants as key
 use Rattle.dsde_syntax.specs.declared.token.Sign.TheVariants as sign
 use Rattle.dsde_syntax.specs.declared.id.Id.{Id}
 use Rattle.dsde_syntax.specs.declared.item.End.{End}
 use Rattle.dsde_syntax.specs.declared.item.ViaPart.{ViaPart}
 use Rattle.dsde_syntax.specs.Grammar.{Tokens, word, joined, commas, elses, optional, in_braces, in_parens, block, mark, id_tokens, args_tokens, end_tokens, via_tokens, via_key_tokens, else_block, expr_tokens, tail_tokens, stmt_tokens, item_tokens, port_tokens, phase_tokens, exec_tokens}
-use Rattle.dsde_syntax.specs.Places.{◌>>◌, token, token_at, bracketed, id_span, args_span, block_span, end_span, via_span, via_key_span, all_spans, spans_with, written_span, else_span, expr_span, stmt_span, item_span, port_span, phase_span, exec_span, Span, span_step, suffix_span_step, expr_arm_span_step, field_set_span_step, sign_tail_span_step, tail_span_step, stmt_span_step, stmt_arm_span_step, item_span_step, item_arm_span_step}
+use Rattle.dsde_syntax.specs.Places.{◌>>◌, token, token_at, bracketed, id_span, args_span, block_span, end_span, via_span, via_key_span, all_spans, spans_with, written_span, else_span, expr_span, stmt_span, item_span, port_span, phase_span, exec_span, Span}
 
 -- an expression that may stand at a level
 abbrev pub IsWithin : ℕ → Expr → Type 0
 IsWithin level expr = level_of expr ≤ level
-
-abbrev pub suffix_ok : Suffix → Bool
-suffix_ok = fold-Suffix ℕ Bool Bool Bool (Sign × ℕ) ℕ level_step suffix_level_step expr_arm_level_step field_set_level_step sign_tail_level_step tail_level_step
-
-abbrev pub suffix_span : Suffix → Span
-suffix_span = fold-Suffix Span Span Span Span Span Span span_step suffix_span_step expr_arm_span_step field_set_span_step sign_tail_span_step tail_span_step
-
-abbrev pub expr_arm_ok : ExprArm → Bool
-expr_arm_ok = fold-ExprArm ℕ Bool Bool Bool (Sign × ℕ) ℕ level_step suffix_level_step expr_arm_level_step field_set_level_step sign_tail_level_step tail_level_step
-
-abbrev pub expr_arm_span : ExprArm → Span
-expr_arm_span = fold-ExprArm Span Span Span Span Span Span span_step suffix_span_step expr_arm_span_step field_set_span_step sign_tail_span_step tail_span_step
-
-abbrev pub field_set_ok : FieldSet → Bool
-field_set_ok = fold-FieldSet ℕ Bool Bool Bool (Sign × ℕ) ℕ level_step suffix_level_step expr_arm_level_step field_set_level_step sign_tail_level_step tail_level_step
-
-abbrev pub field_set_span : FieldSet → Span
-field_set_span = fold-FieldSet Span Span Span Span Span Span span_step suffix_span_step expr_arm_span_step field_set_span_step sign_tail_span_step tail_span_step
-
-abbrev pub sign_tail_own : SignTail → Sign × ℕ
-sign_tail_own = fold-SignTail ℕ Bool Bool Bool (Sign × ℕ) ℕ level_step suffix_level_step expr_arm_level_step field_set_level_step sign_tail_level_step tail_level_step
-
-abbrev pub sign_tail_span : SignTail → Span
-sign_tail_span = fold-SignTail Span Span Span Span Span Span span_step suffix_span_step expr_arm_span_step field_set_span_step sign_tail_span_step tail_span_step
-
-abbrev pub tail_own : Tail → ℕ
-tail_own = fold-Tail ℕ Bool Bool Bool (Sign × ℕ) ℕ level_step suffix_level_step expr_arm_level_step field_set_level_step sign_tail_level_step tail_level_step
-
-abbrev pub tail_span : Tail → Span
-tail_span = fold-Tail Span Span Span Span Span Span span_step suffix_span_step expr_arm_span_step field_set_span_step sign_tail_span_step tail_span_step
-
-abbrev pub stmt_arm_ok : StmtArm → Bool
-stmt_arm_ok = fold-StmtArm Bool Bool is_stmt_step is_stmt_arm_step
-
-abbrev pub stmt_arm_span : StmtArm → Span
-stmt_arm_span = fold-StmtArm Span Span stmt_span_step stmt_arm_span_step
-
-abbrev pub item_arm_ok : ItemArm → Bool
-item_arm_ok = fold-ItemArm Bool Bool is_item_step is_item_arm_step
-
-abbrev pub item_arm_span : ItemArm → Span
-item_arm_span = fold-ItemArm Span Span item_span_step item_arm_span_step
 
 -- each of some parts is of the grammar
 abbrev pub AllOk : {A : Type 0} → (A → Bool) → List A → Type 0

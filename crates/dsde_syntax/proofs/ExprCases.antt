@@ -11,9 +11,8 @@ use Rattle.dsde_syntax.specs.declared.expr.Expr.TheOpen.{Expr-F, Suffix-F, ExprA
 use Rattle.dsde_syntax.specs.declared.expr.Expr.TheViews.{roll-Expr, roll-Suffix, roll-ExprArm, roll-FieldSet, roll-SignTail, roll-Tail}
 use Rattle.dsde_syntax.specs.declared.expr.Expr.TheFolds.{map-Expr, map-Suffix, map-ExprArm, map-FieldSet, map-SignTail, map-Tail, fold-roll-Expr, fold-roll-Suffix, fold-roll-ExprArm, fold-roll-FieldSet, fold-roll-SignTail, fold-roll-Tail, ind-Expr}
 use Rattle.dsde_syntax.specs.Grammar.{Tokens, expr_step, suffix_step, expr_arm_step, field_set_step, sign_tail_step, tail_step, expr_tokens, suffix_tokens, expr_arm_tokens, field_set_tokens, sign_tail_tokens, tail_tokens}
-use Rattle.dsde_syntax.specs.Levels.{level_step, suffix_level_step, expr_arm_level_step, field_set_level_step, sign_tail_level_step, tail_level_step, level_of}
-use Rattle.dsde_syntax.specs.Places.{Span, span_step, suffix_span_step, expr_arm_span_step, field_set_span_step, sign_tail_span_step, tail_span_step, expr_span}
-use Rattle.dsde_syntax.proofs.ExprFolds.{suffix_ok, suffix_span, expr_arm_ok, expr_arm_span, field_set_ok, field_set_span, sign_tail_own, sign_tail_span, tail_own, tail_span}
+use Rattle.dsde_syntax.specs.Levels.{level_step, suffix_level_step, expr_arm_level_step, field_set_level_step, sign_tail_level_step, tail_level_step, level_of, is_expr_arm, is_field_set, is_suffix, sign_tail_level, tail_level}
+use Rattle.dsde_syntax.specs.Places.{Span, span_step, suffix_span_step, expr_arm_span_step, field_set_span_step, sign_tail_span_step, tail_span_step, expr_span, expr_arm_span, field_set_span, sign_tail_span, suffix_span, tail_span}
 use Rattle.dsde_syntax.proofs.LevelReads.{ExprReads}
 use Rattle.dsde_syntax.proofs.OperatorReads.{SuffixReads, SignTailReads, TailReads, SuffixClaim, SignTailClaim, TailClaim, or_else-reads, or-reads, and-reads, not-reads, compare-reads, sum-reads, mul-reads, neg-reads, post-reads, sign_tail-reads, tail-reads}
 use Rattle.dsde_syntax.proofs.PrimReads.{ArmReads, FieldReads, ExprClaim, ArmClaim, FieldClaim, field_suffix, index_suffix, unwrap_suffix, field_set-reads, expr_arm-reads, number-reads, truth-reads, elapsed-reads, name-reads, call-reads, variant-reads, new-reads, none-reads, empty-reads, builtin-reads, paren-reads, row-reads, each-reads, choice-reads}
@@ -23,37 +22,37 @@ pub roll-claim : {X A B C : Type 0} (P : X → A → B → C → Type 0) (x : X)
 roll-claim P x a a' b b' c c' ha hb hc own =
     subst (λ own. P x own b c) (sym ha) (subst (λ own. P x a' own c) (sym hb) (subst (λ own. P x a' b' own) (sym hc) own))
 
-expr-roll : (x : Expr-F Expr Suffix ExprArm FieldSet SignTail Tail) → ExprReads (roll-Expr x) (expr_step (map-Expr Expr Suffix ExprArm FieldSet SignTail Tail Tokens Tokens Tokens Tokens Tokens Tokens expr_tokens suffix_tokens expr_arm_tokens field_set_tokens sign_tail_tokens tail_tokens x)) (level_step (map-Expr Expr Suffix ExprArm FieldSet SignTail Tail ℕ Bool Bool Bool (Sign × ℕ) ℕ level_of suffix_ok expr_arm_ok field_set_ok sign_tail_own tail_own x)) (span_step (map-Expr Expr Suffix ExprArm FieldSet SignTail Tail Span Span Span Span Span Span expr_span suffix_span expr_arm_span field_set_span sign_tail_span tail_span x)) → ExprClaim (roll-Expr x)
+expr-roll : (x : Expr-F Expr Suffix ExprArm FieldSet SignTail Tail) → ExprReads (roll-Expr x) (expr_step (map-Expr Expr Suffix ExprArm FieldSet SignTail Tail Tokens Tokens Tokens Tokens Tokens Tokens expr_tokens suffix_tokens expr_arm_tokens field_set_tokens sign_tail_tokens tail_tokens x)) (level_step (map-Expr Expr Suffix ExprArm FieldSet SignTail Tail ℕ Bool Bool Bool (Sign × ℕ) ℕ level_of is_suffix is_expr_arm is_field_set sign_tail_level tail_level x)) (span_step (map-Expr Expr Suffix ExprArm FieldSet SignTail Tail Span Span Span Span Span Span expr_span suffix_span expr_arm_span field_set_span sign_tail_span tail_span x)) → ExprClaim (roll-Expr x)
 expr-roll x own = roll-claim ExprReads (roll-Expr x) _ _ _ _ _ _
     (fold-roll-Expr Tokens Tokens Tokens Tokens Tokens Tokens expr_step suffix_step expr_arm_step field_set_step sign_tail_step tail_step x)
     (fold-roll-Expr ℕ Bool Bool Bool (Sign × ℕ) ℕ level_step suffix_level_step expr_arm_level_step field_set_level_step sign_tail_level_step tail_level_step x)
     (fold-roll-Expr Span Span Span Span Span Span span_step suffix_span_step expr_arm_span_step field_set_span_step sign_tail_span_step tail_span_step x) own
 
-suffix-roll : (x : Suffix-F Expr Suffix ExprArm FieldSet SignTail Tail) → SuffixReads (roll-Suffix x) (suffix_step (map-Suffix Expr Suffix ExprArm FieldSet SignTail Tail Tokens Tokens Tokens Tokens Tokens Tokens expr_tokens suffix_tokens expr_arm_tokens field_set_tokens sign_tail_tokens tail_tokens x)) (suffix_level_step (map-Suffix Expr Suffix ExprArm FieldSet SignTail Tail ℕ Bool Bool Bool (Sign × ℕ) ℕ level_of suffix_ok expr_arm_ok field_set_ok sign_tail_own tail_own x)) (suffix_span_step (map-Suffix Expr Suffix ExprArm FieldSet SignTail Tail Span Span Span Span Span Span expr_span suffix_span expr_arm_span field_set_span sign_tail_span tail_span x)) → SuffixClaim (roll-Suffix x)
+suffix-roll : (x : Suffix-F Expr Suffix ExprArm FieldSet SignTail Tail) → SuffixReads (roll-Suffix x) (suffix_step (map-Suffix Expr Suffix ExprArm FieldSet SignTail Tail Tokens Tokens Tokens Tokens Tokens Tokens expr_tokens suffix_tokens expr_arm_tokens field_set_tokens sign_tail_tokens tail_tokens x)) (suffix_level_step (map-Suffix Expr Suffix ExprArm FieldSet SignTail Tail ℕ Bool Bool Bool (Sign × ℕ) ℕ level_of is_suffix is_expr_arm is_field_set sign_tail_level tail_level x)) (suffix_span_step (map-Suffix Expr Suffix ExprArm FieldSet SignTail Tail Span Span Span Span Span Span expr_span suffix_span expr_arm_span field_set_span sign_tail_span tail_span x)) → SuffixClaim (roll-Suffix x)
 suffix-roll x own = roll-claim SuffixReads (roll-Suffix x) _ _ _ _ _ _
     (fold-roll-Suffix Tokens Tokens Tokens Tokens Tokens Tokens expr_step suffix_step expr_arm_step field_set_step sign_tail_step tail_step x)
     (fold-roll-Suffix ℕ Bool Bool Bool (Sign × ℕ) ℕ level_step suffix_level_step expr_arm_level_step field_set_level_step sign_tail_level_step tail_level_step x)
     (fold-roll-Suffix Span Span Span Span Span Span span_step suffix_span_step expr_arm_span_step field_set_span_step sign_tail_span_step tail_span_step x) own
 
-expr_arm-roll : (x : ExprArm-F Expr Suffix ExprArm FieldSet SignTail Tail) → ArmReads (roll-ExprArm x) (expr_arm_step (map-ExprArm Expr Suffix ExprArm FieldSet SignTail Tail Tokens Tokens Tokens Tokens Tokens Tokens expr_tokens suffix_tokens expr_arm_tokens field_set_tokens sign_tail_tokens tail_tokens x)) (expr_arm_level_step (map-ExprArm Expr Suffix ExprArm FieldSet SignTail Tail ℕ Bool Bool Bool (Sign × ℕ) ℕ level_of suffix_ok expr_arm_ok field_set_ok sign_tail_own tail_own x)) (expr_arm_span_step (map-ExprArm Expr Suffix ExprArm FieldSet SignTail Tail Span Span Span Span Span Span expr_span suffix_span expr_arm_span field_set_span sign_tail_span tail_span x)) → ArmClaim (roll-ExprArm x)
+expr_arm-roll : (x : ExprArm-F Expr Suffix ExprArm FieldSet SignTail Tail) → ArmReads (roll-ExprArm x) (expr_arm_step (map-ExprArm Expr Suffix ExprArm FieldSet SignTail Tail Tokens Tokens Tokens Tokens Tokens Tokens expr_tokens suffix_tokens expr_arm_tokens field_set_tokens sign_tail_tokens tail_tokens x)) (expr_arm_level_step (map-ExprArm Expr Suffix ExprArm FieldSet SignTail Tail ℕ Bool Bool Bool (Sign × ℕ) ℕ level_of is_suffix is_expr_arm is_field_set sign_tail_level tail_level x)) (expr_arm_span_step (map-ExprArm Expr Suffix ExprArm FieldSet SignTail Tail Span Span Span Span Span Span expr_span suffix_span expr_arm_span field_set_span sign_tail_span tail_span x)) → ArmClaim (roll-ExprArm x)
 expr_arm-roll x own = roll-claim ArmReads (roll-ExprArm x) _ _ _ _ _ _
     (fold-roll-ExprArm Tokens Tokens Tokens Tokens Tokens Tokens expr_step suffix_step expr_arm_step field_set_step sign_tail_step tail_step x)
     (fold-roll-ExprArm ℕ Bool Bool Bool (Sign × ℕ) ℕ level_step suffix_level_step expr_arm_level_step field_set_level_step sign_tail_level_step tail_level_step x)
     (fold-roll-ExprArm Span Span Span Span Span Span span_step suffix_span_step expr_arm_span_step field_set_span_step sign_tail_span_step tail_span_step x) own
 
-field_set-roll : (x : FieldSet-F Expr Suffix ExprArm FieldSet SignTail Tail) → FieldReads (roll-FieldSet x) (field_set_step (map-FieldSet Expr Suffix ExprArm FieldSet SignTail Tail Tokens Tokens Tokens Tokens Tokens Tokens expr_tokens suffix_tokens expr_arm_tokens field_set_tokens sign_tail_tokens tail_tokens x)) (field_set_level_step (map-FieldSet Expr Suffix ExprArm FieldSet SignTail Tail ℕ Bool Bool Bool (Sign × ℕ) ℕ level_of suffix_ok expr_arm_ok field_set_ok sign_tail_own tail_own x)) (field_set_span_step (map-FieldSet Expr Suffix ExprArm FieldSet SignTail Tail Span Span Span Span Span Span expr_span suffix_span expr_arm_span field_set_span sign_tail_span tail_span x)) → FieldClaim (roll-FieldSet x)
+field_set-roll : (x : FieldSet-F Expr Suffix ExprArm FieldSet SignTail Tail) → FieldReads (roll-FieldSet x) (field_set_step (map-FieldSet Expr Suffix ExprArm FieldSet SignTail Tail Tokens Tokens Tokens Tokens Tokens Tokens expr_tokens suffix_tokens expr_arm_tokens field_set_tokens sign_tail_tokens tail_tokens x)) (field_set_level_step (map-FieldSet Expr Suffix ExprArm FieldSet SignTail Tail ℕ Bool Bool Bool (Sign × ℕ) ℕ level_of is_suffix is_expr_arm is_field_set sign_tail_level tail_level x)) (field_set_span_step (map-FieldSet Expr Suffix ExprArm FieldSet SignTail Tail Span Span Span Span Span Span expr_span suffix_span expr_arm_span field_set_span sign_tail_span tail_span x)) → FieldClaim (roll-FieldSet x)
 field_set-roll x own = roll-claim FieldReads (roll-FieldSet x) _ _ _ _ _ _
     (fold-roll-FieldSet Tokens Tokens Tokens Tokens Tokens Tokens expr_step suffix_step expr_arm_step field_set_step sign_tail_step tail_step x)
     (fold-roll-FieldSet ℕ Bool Bool Bool (Sign × ℕ) ℕ level_step suffix_level_step expr_arm_level_step field_set_level_step sign_tail_level_step tail_level_step x)
     (fold-roll-FieldSet Span Span Span Span Span Span span_step suffix_span_step expr_arm_span_step field_set_span_step sign_tail_span_step tail_span_step x) own
 
-sign_tail-roll : (x : SignTail-F Expr Suffix ExprArm FieldSet SignTail Tail) → SignTailReads (roll-SignTail x) (sign_tail_step (map-SignTail Expr Suffix ExprArm FieldSet SignTail Tail Tokens Tokens Tokens Tokens Tokens Tokens expr_tokens suffix_tokens expr_arm_tokens field_set_tokens sign_tail_tokens tail_tokens x)) (sign_tail_level_step (map-SignTail Expr Suffix ExprArm FieldSet SignTail Tail ℕ Bool Bool Bool (Sign × ℕ) ℕ level_of suffix_ok expr_arm_ok field_set_ok sign_tail_own tail_own x)) (sign_tail_span_step (map-SignTail Expr Suffix ExprArm FieldSet SignTail Tail Span Span Span Span Span Span expr_span suffix_span expr_arm_span field_set_span sign_tail_span tail_span x)) → SignTailClaim (roll-SignTail x)
+sign_tail-roll : (x : SignTail-F Expr Suffix ExprArm FieldSet SignTail Tail) → SignTailReads (roll-SignTail x) (sign_tail_step (map-SignTail Expr Suffix ExprArm FieldSet SignTail Tail Tokens Tokens Tokens Tokens Tokens Tokens expr_tokens suffix_tokens expr_arm_tokens field_set_tokens sign_tail_tokens tail_tokens x)) (sign_tail_level_step (map-SignTail Expr Suffix ExprArm FieldSet SignTail Tail ℕ Bool Bool Bool (Sign × ℕ) ℕ level_of is_suffix is_expr_arm is_field_set sign_tail_level tail_level x)) (sign_tail_span_step (map-SignTail Expr Suffix ExprArm FieldSet SignTail Tail Span Span Span Span Span Span expr_span suffix_span expr_arm_span field_set_span sign_tail_span tail_span x)) → SignTailClaim (roll-SignTail x)
 sign_tail-roll x own = roll-claim SignTailReads (roll-SignTail x) _ _ _ _ _ _
     (fold-roll-SignTail Tokens Tokens Tokens Tokens Tokens Tokens expr_step suffix_step expr_arm_step field_set_step sign_tail_step tail_step x)
     (fold-roll-SignTail ℕ Bool Bool Bool (Sign × ℕ) ℕ level_step suffix_level_step expr_arm_level_step field_set_level_step sign_tail_level_step tail_level_step x)
     (fold-roll-SignTail Span Span Span Span Span Span span_step suffix_span_step expr_arm_span_step field_set_span_step sign_tail_span_step tail_span_step x) own
 
-tail-roll : (x : Tail-F Expr Suffix ExprArm FieldSet SignTail Tail) → TailReads (roll-Tail x) (tail_step (map-Tail Expr Suffix ExprArm FieldSet SignTail Tail Tokens Tokens Tokens Tokens Tokens Tokens expr_tokens suffix_tokens expr_arm_tokens field_set_tokens sign_tail_tokens tail_tokens x)) (tail_level_step (map-Tail Expr Suffix ExprArm FieldSet SignTail Tail ℕ Bool Bool Bool (Sign × ℕ) ℕ level_of suffix_ok expr_arm_ok field_set_ok sign_tail_own tail_own x)) (tail_span_step (map-Tail Expr Suffix ExprArm FieldSet SignTail Tail Span Span Span Span Span Span expr_span suffix_span expr_arm_span field_set_span sign_tail_span tail_span x)) → TailClaim (roll-Tail x)
+tail-roll : (x : Tail-F Expr Suffix ExprArm FieldSet SignTail Tail) → TailReads (roll-Tail x) (tail_step (map-Tail Expr Suffix ExprArm FieldSet SignTail Tail Tokens Tokens Tokens Tokens Tokens Tokens expr_tokens suffix_tokens expr_arm_tokens field_set_tokens sign_tail_tokens tail_tokens x)) (tail_level_step (map-Tail Expr Suffix ExprArm FieldSet SignTail Tail ℕ Bool Bool Bool (Sign × ℕ) ℕ level_of is_suffix is_expr_arm is_field_set sign_tail_level tail_level x)) (tail_span_step (map-Tail Expr Suffix ExprArm FieldSet SignTail Tail Span Span Span Span Span Span expr_span suffix_span expr_arm_span field_set_span sign_tail_span tail_span x)) → TailClaim (roll-Tail x)
 tail-roll x own = roll-claim TailReads (roll-Tail x) _ _ _ _ _ _
     (fold-roll-Tail Tokens Tokens Tokens Tokens Tokens Tokens expr_step suffix_step expr_arm_step field_set_step sign_tail_step tail_step x)
     (fold-roll-Tail ℕ Bool Bool Bool (Sign × ℕ) ℕ level_step suffix_level_step expr_arm_level_step field_set_level_step sign_tail_level_step tail_level_step x)

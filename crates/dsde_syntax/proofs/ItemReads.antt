@@ -20,12 +20,12 @@ use Rattle.dsde_syntax.specs.declared.item.ViaPart.{ViaPart}
 use Rattle.dsde_syntax.specs.declared.item.ViaKey.{ViaKey}
 use Rattle.dsde_syntax.specs.declared.item.Item.TheOpen.{Item-F, ItemArm-F}
 use Rattle.dsde_syntax.specs.declared.item.Item.TheViews.{roll-Item, roll-ItemArm}
-use Rattle.dsde_syntax.specs.declared.item.Item.TheFolds.{map-Item, map-ItemArm, fold-ItemArm, fold-roll-Item, fold-roll-ItemArm, ind-Item}
+use Rattle.dsde_syntax.specs.declared.item.Item.TheFolds.{map-Item, map-ItemArm, fold-roll-Item, fold-roll-ItemArm, ind-Item}
 use Rattle.dsde_syntax.specs.Grammar.{Tokens, word, mark, id_tokens, joined, commas, elses, optional, in_parens, in_brackets, expr_tokens, args_tokens, set_tokens, for_tokens, if_tokens, bracket_tokens, component_tokens, end_part_tokens, end_tokens, via_key_tokens, via_tokens, link_tokens, item_step, item_arm_step, item_tokens, item_arm_tokens}
 use Rattle.dsde_syntax.specs.Grammar.{block as block_tokens, else_block}
-use Rattle.dsde_syntax.specs.Places.{Span, ◌>>◌, token, token_at, begins_at, id_span, all_spans, spans_with, written_span, block_span, else_span, args_span, expr_span, set_span, for_span, bracket_span, component_span, end_part_span, end_span, via_key_span, via_span, item_span_step, item_arm_span_step, item_span}
+use Rattle.dsde_syntax.specs.Places.{Span, ◌>>◌, token, token_at, begins_at, id_span, all_spans, spans_with, written_span, block_span, else_span, args_span, expr_span, set_span, for_span, bracket_span, component_span, end_part_span, end_span, via_key_span, via_span, item_span_step, item_arm_span_step, item_span, item_arm_span}
 use Rattle.dsde_syntax.specs.Places.{bracketed as bracketed_span}
-use Rattle.dsde_syntax.specs.Levels.{stands_at, has_first, all_hold, if_written, is_expr, level_of, is_index, is_end, is_via, is_item_step, is_item_arm_step, is_item}
+use Rattle.dsde_syntax.specs.Levels.{stands_at, has_first, all_hold, if_written, is_expr, level_of, is_index, is_end, is_via, is_item_step, is_item_arm_step, is_item, is_item_arm}
 use Rattle.dsde_syntax.proofs.Reading.{Reader, Reads, AllRead, any, ending, pair, made, many, maybe, skip, place, here, ident, pair-Reads, made-Reads, fewer-Reads, maybe-none, maybe-some, many-Reads, skip-Reads, place-Reads, here-Reads, ident-Reads}
 use Rattle.dsde_syntax.proofs.ExprReaders.{stops, is_if, is_else_if, bracketed, separated, args, read_expr}
 use Rattle.dsde_syntax.proofs.TypeReads.{bracketed-Reads, stepped-Reads}
@@ -229,12 +229,6 @@ record ItemReads (v : Item) (t : Tokens) (ok : Bool) (s : Span) : Type 0 where
 record ArmReads (v : ItemArm) (t : Tokens) (ok : Bool) (s : Span) : Type 0 where
   begins : (rest : Tokens) → is_if (t ++ rest) ≡ true
   reads : ok ≡ true → Reads any (λ n. item_arm n (read_item n)) v t s
-
-abbrev is_item_arm : ItemArm → Bool
-is_item_arm = fold-ItemArm Bool Bool is_item_step is_item_arm_step
-
-abbrev item_arm_span : ItemArm → Span
-item_arm_span = fold-ItemArm Span Span item_span_step item_arm_span_step
 
 abbrev ItemClaim : Item → Type 0
 ItemClaim v = ItemReads v (item_tokens v) (is_item v) (item_span v)

@@ -3,7 +3,6 @@ pub mod ExprReaders
 pub mod TypeReads
 pub mod LevelReads
 pub mod ListReads
-pub mod ExprFolds
 pub mod OperatorReads
 pub mod PrimReads
 pub mod ExprCases

@@ -16,13 +16,12 @@ use Rattle.dsde_syntax.specs.declared.expr.Tail.{Tail}
 use Rattle.dsde_syntax.specs.declared.expr.Expr.TheOpen.{Expr-F, Suffix-F, SignTail-F, Tail-F}
 use Rattle.dsde_syntax.specs.declared.expr.Expr.TheViews.{roll-Expr, roll-Suffix, roll-SignTail, roll-Tail}
 use Rattle.dsde_syntax.specs.Grammar.{Tokens, joined, word, mark, suffix_tokens, sign_tail_tokens, tail_tokens}
-use Rattle.dsde_syntax.specs.Places.{Span, ◌>>◌, token_at, all_spans}
-use Rattle.dsde_syntax.specs.Levels.{level_if, stands_at, has_first, all_hold, may_follow, is_comparison, is_sum_sign, is_mul_sign}
+use Rattle.dsde_syntax.specs.Places.{Span, ◌>>◌, token_at, all_spans, sign_tail_span, suffix_span, tail_span}
+use Rattle.dsde_syntax.specs.Levels.{level_if, stands_at, has_first, all_hold, may_follow, is_comparison, is_sum_sign, is_mul_sign, is_suffix, sign_tail_level, tail_level}
 use Rattle.dsde_syntax.proofs.Reading.{Reader, Reads, AllRead, any, pair, pair-Reads, made-Reads, fewer-Reads, either-first, maybe-some, left-Reads, place-Reads, sign-Reads}
 use Rattle.dsde_syntax.proofs.ExprReaders.{continues, stops, goes_on, sign_continues, begin_of, level, suffix, sign_tail, tail, compared, or_else, read_expr, post_of, mul_of, sum_of, and_of, or_of}
 use Rattle.dsde_syntax.proofs.LevelReads.{ExprReads, if-ExprReads, StandsAt, stands, chain-some, goes_on-stops, stops-less}
 use Rattle.dsde_syntax.proofs.ListReads.{and-true, flat_map-joined}
-use Rattle.dsde_syntax.proofs.ExprFolds.{suffix_ok, suffix_span, sign_tail_own, sign_tail_span, tail_own, tail_span}
 
 -- a suffix is read, and begins with a sign that goes on with a chain of suffixes
 pub record SuffixReads (v : Suffix) (t : Tokens) (ok : Bool) (s : Span) : Type 0 where
@@ -145,26 +144,26 @@ false-no : false ≡ true → ⊥
 false-no h = cc
 
 abbrev pub SignTailClaim : SignTail → Type 0
-SignTailClaim v = SignTailReads v (sign_tail_tokens v) (sign_tail_own v) (sign_tail_span v)
+SignTailClaim v = SignTailReads v (sign_tail_tokens v) (sign_tail_level v) (sign_tail_span v)
 
 abbrev pub TailClaim : Tail → Type 0
-TailClaim v = TailReads v (tail_tokens v) (tail_own v) (tail_span v)
+TailClaim v = TailReads v (tail_tokens v) (tail_level v) (tail_span v)
 
 abbrev pub SuffixClaim : Suffix → Type 0
-SuffixClaim v = SuffixReads v (suffix_tokens v) (suffix_ok v) (suffix_span v)
+SuffixClaim v = SuffixReads v (suffix_tokens v) (is_suffix v) (suffix_span v)
 
-sum-rest : (rest : List ((v : SignTail) × SignTailClaim v)) → list_all (may_follow is_sum_sign 3) (map sign_tail_own (map (λ e. e.0) rest)) ≡ true → AllRead (goes_on 4) (stops 3) (λ n. sign_tail (level 3 n (read_expr n))) (map (λ e. e.0) rest) (map sign_tail_tokens (map (λ e. e.0) rest)) (map sign_tail_span (map (λ e. e.0) rest))
+sum-rest : (rest : List ((v : SignTail) × SignTailClaim v)) → list_all (may_follow is_sum_sign 3) (map sign_tail_level (map (λ e. e.0) rest)) ≡ true → AllRead (goes_on 4) (stops 3) (λ n. sign_tail (level 3 n (read_expr n))) (map (λ e. e.0) rest) (map sign_tail_tokens (map (λ e. e.0) rest)) (map sign_tail_span (map (λ e. e.0) rest))
 sum-rest [] h = tt
 sum-rest ((v, own) ∷ rest) h =
-    let both = and-true (may_follow is_sum_sign 3 (sign_tail_own v)) (list_all (may_follow is_sum_sign 3) (map sign_tail_own (map (λ e. e.0) rest))) h in
-    let here = and-true (is_sum_sign (sign_tail_own v).0) (stands_at 3 (sign_tail_own v).1) both.0 in
-    (own.reads 3 (omega arith) here.1, (λ more. is-goes_on 4 _ (own.begins more ∙ sum-continues (sign_tail_own v).0 here.0)), sum-rest rest both.1)
+    let both = and-true (may_follow is_sum_sign 3 (sign_tail_level v)) (list_all (may_follow is_sum_sign 3) (map sign_tail_level (map (λ e. e.0) rest))) h in
+    let here = and-true (is_sum_sign (sign_tail_level v).0) (stands_at 3 (sign_tail_level v).1) both.0 in
+    (own.reads 3 (omega arith) here.1, (λ more. is-goes_on 4 _ (own.begins more ∙ sum-continues (sign_tail_level v).0 here.0)), sum-rest rest both.1)
 
-pub sum-reads : {e : Expr} {t : Tokens} {own : ℕ} {s : Span} → ExprReads e t own s → (rest : List ((v : SignTail) × SignTailClaim v)) → ExprReads (roll-Expr (Expr-F.Sum e (map (λ e. e.0) rest))) (t ++ joined (map sign_tail_tokens (map (λ e. e.0) rest))) (level_if ((stands_at 3 own && has_first (map sign_tail_own (map (λ e. e.0) rest))) && list_all (may_follow is_sum_sign 3) (map sign_tail_own (map (λ e. e.0) rest))) 4) (s >> all_spans (map sign_tail_span (map (λ e. e.0) rest)))
+pub sum-reads : {e : Expr} {t : Tokens} {own : ℕ} {s : Span} → ExprReads e t own s → (rest : List ((v : SignTail) × SignTailClaim v)) → ExprReads (roll-Expr (Expr-F.Sum e (map (λ e. e.0) rest))) (t ++ joined (map sign_tail_tokens (map (λ e. e.0) rest))) (level_if ((stands_at 3 own && has_first (map sign_tail_level (map (λ e. e.0) rest))) && list_all (may_follow is_sum_sign 3) (map sign_tail_level (map (λ e. e.0) rest))) 4) (s >> all_spans (map sign_tail_span (map (λ e. e.0) rest)))
 sum-reads {e} {t} {own} {s} first [] = if-ExprReads _ 4 (λ h. let none = and-true (stands_at 3 own) false (and-true (stands_at 3 own && false) true h).0 in absurd (false-no none.1))
 sum-reads {e} {t} {own} {s} first (more ∷ rest) = if-ExprReads _ 4 (λ h.
     let all : List ((v : SignTail) × SignTailClaim v) = more ∷ rest in
-    let split = and-true (stands_at 3 own && true) (list_all (may_follow is_sum_sign 3) (map sign_tail_own (map (λ e. e.0) all))) h in
+    let split = and-true (stands_at 3 own && true) (list_all (may_follow is_sum_sign 3) (map sign_tail_level (map (λ e. e.0) all))) h in
     let there = stands 3 (omega arith) first (and-true (stands_at 3 own) true split.0).0 in
     record {
       begins = λ less. begins-first 3 4 (omega arith) there (joined (map sign_tail_tokens (map (λ e. e.0) all)));
@@ -172,18 +171,18 @@ sum-reads {e} {t} {own} {s} first (more ∷ rest) = if-ExprReads _ 4 (λ h.
           (λ n. sign_tail (level 3 n (read_expr n))) (λ n. level 3 n (read_expr n)) there.reads _ _ _ _ _ _ (sum-rest all split.1);
     })
 
-mul-rest : (rest : List ((v : SignTail) × SignTailClaim v)) → list_all (may_follow is_mul_sign 2) (map sign_tail_own (map (λ e. e.0) rest)) ≡ true → AllRead (goes_on 3) (stops 2) (λ n. sign_tail (level 2 n (read_expr n))) (map (λ e. e.0) rest) (map sign_tail_tokens (map (λ e. e.0) rest)) (map sign_tail_span (map (λ e. e.0) rest))
+mul-rest : (rest : List ((v : SignTail) × SignTailClaim v)) → list_all (may_follow is_mul_sign 2) (map sign_tail_level (map (λ e. e.0) rest)) ≡ true → AllRead (goes_on 3) (stops 2) (λ n. sign_tail (level 2 n (read_expr n))) (map (λ e. e.0) rest) (map sign_tail_tokens (map (λ e. e.0) rest)) (map sign_tail_span (map (λ e. e.0) rest))
 mul-rest [] h = tt
 mul-rest ((v, own) ∷ rest) h =
-    let both = and-true (may_follow is_mul_sign 2 (sign_tail_own v)) (list_all (may_follow is_mul_sign 2) (map sign_tail_own (map (λ e. e.0) rest))) h in
-    let here = and-true (is_mul_sign (sign_tail_own v).0) (stands_at 2 (sign_tail_own v).1) both.0 in
-    (own.reads 2 (omega arith) here.1, (λ more. is-goes_on 3 _ (own.begins more ∙ mul-continues (sign_tail_own v).0 here.0)), mul-rest rest both.1)
+    let both = and-true (may_follow is_mul_sign 2 (sign_tail_level v)) (list_all (may_follow is_mul_sign 2) (map sign_tail_level (map (λ e. e.0) rest))) h in
+    let here = and-true (is_mul_sign (sign_tail_level v).0) (stands_at 2 (sign_tail_level v).1) both.0 in
+    (own.reads 2 (omega arith) here.1, (λ more. is-goes_on 3 _ (own.begins more ∙ mul-continues (sign_tail_level v).0 here.0)), mul-rest rest both.1)
 
-pub mul-reads : {e : Expr} {t : Tokens} {own : ℕ} {s : Span} → ExprReads e t own s → (rest : List ((v : SignTail) × SignTailClaim v)) → ExprReads (roll-Expr (Expr-F.Mul e (map (λ e. e.0) rest))) (t ++ joined (map sign_tail_tokens (map (λ e. e.0) rest))) (level_if ((stands_at 2 own && has_first (map sign_tail_own (map (λ e. e.0) rest))) && list_all (may_follow is_mul_sign 2) (map sign_tail_own (map (λ e. e.0) rest))) 3) (s >> all_spans (map sign_tail_span (map (λ e. e.0) rest)))
+pub mul-reads : {e : Expr} {t : Tokens} {own : ℕ} {s : Span} → ExprReads e t own s → (rest : List ((v : SignTail) × SignTailClaim v)) → ExprReads (roll-Expr (Expr-F.Mul e (map (λ e. e.0) rest))) (t ++ joined (map sign_tail_tokens (map (λ e. e.0) rest))) (level_if ((stands_at 2 own && has_first (map sign_tail_level (map (λ e. e.0) rest))) && list_all (may_follow is_mul_sign 2) (map sign_tail_level (map (λ e. e.0) rest))) 3) (s >> all_spans (map sign_tail_span (map (λ e. e.0) rest)))
 mul-reads {e} {t} {own} {s} first [] = if-ExprReads _ 3 (λ h. let none = and-true (stands_at 2 own) false (and-true (stands_at 2 own && false) true h).0 in absurd (false-no none.1))
 mul-reads {e} {t} {own} {s} first (more ∷ rest) = if-ExprReads _ 3 (λ h.
     let all : List ((v : SignTail) × SignTailClaim v) = more ∷ rest in
-    let split = and-true (stands_at 2 own && true) (list_all (may_follow is_mul_sign 2) (map sign_tail_own (map (λ e. e.0) all))) h in
+    let split = and-true (stands_at 2 own && true) (list_all (may_follow is_mul_sign 2) (map sign_tail_level (map (λ e. e.0) all))) h in
     let there = stands 2 (omega arith) first (and-true (stands_at 2 own) true split.0).0 in
     record {
       begins = λ less. begins-first 2 3 (omega arith) there (joined (map sign_tail_tokens (map (λ e. e.0) all)));
@@ -191,18 +190,18 @@ mul-reads {e} {t} {own} {s} first (more ∷ rest) = if-ExprReads _ 3 (λ h.
           (λ n. sign_tail (level 2 n (read_expr n))) (λ n. level 2 n (read_expr n)) there.reads _ _ _ _ _ _ (mul-rest all split.1);
     })
 
-and-rest : (rest : List ((v : Tail) × TailClaim v)) → list_all (stands_at 6) (map tail_own (map (λ e. e.0) rest)) ≡ true → AllRead (goes_on 7) (stops 6) (λ n. tail (level 6 n (read_expr n))) (map (λ e. e.0) rest) (map (λ own. word key.And ++ own) (map tail_tokens (map (λ e. e.0) rest))) (map tail_span (map (λ e. e.0) rest))
+and-rest : (rest : List ((v : Tail) × TailClaim v)) → list_all (stands_at 6) (map tail_level (map (λ e. e.0) rest)) ≡ true → AllRead (goes_on 7) (stops 6) (λ n. tail (level 6 n (read_expr n))) (map (λ e. e.0) rest) (map (λ own. word key.And ++ own) (map tail_tokens (map (λ e. e.0) rest))) (map tail_span (map (λ e. e.0) rest))
 and-rest [] h = tt
 and-rest ((v, own) ∷ rest) h =
-    let both = and-true (stands_at 6 (tail_own v)) (list_all (stands_at 6) (map tail_own (map (λ e. e.0) rest))) h in
+    let both = and-true (stands_at 6 (tail_level v)) (list_all (stands_at 6) (map tail_level (map (λ e. e.0) rest))) h in
     (own.reads key.And 6 (omega arith) both.0, (λ more. refl), and-rest rest both.1)
 
-pub and-reads : {e : Expr} {t : Tokens} {own : ℕ} {s : Span} → ExprReads e t own s → (rest : List ((v : Tail) × TailClaim v)) → ExprReads (roll-Expr (Expr-F.And e (map (λ e. e.0) rest))) (t ++ flat_map (λ own. word key.And ++ own) (map tail_tokens (map (λ e. e.0) rest))) (level_if ((stands_at 6 own && has_first (map tail_own (map (λ e. e.0) rest))) && list_all (stands_at 6) (map tail_own (map (λ e. e.0) rest))) 7) (s >> all_spans (map tail_span (map (λ e. e.0) rest)))
+pub and-reads : {e : Expr} {t : Tokens} {own : ℕ} {s : Span} → ExprReads e t own s → (rest : List ((v : Tail) × TailClaim v)) → ExprReads (roll-Expr (Expr-F.And e (map (λ e. e.0) rest))) (t ++ flat_map (λ own. word key.And ++ own) (map tail_tokens (map (λ e. e.0) rest))) (level_if ((stands_at 6 own && has_first (map tail_level (map (λ e. e.0) rest))) && list_all (stands_at 6) (map tail_level (map (λ e. e.0) rest))) 7) (s >> all_spans (map tail_span (map (λ e. e.0) rest)))
 and-reads {e} {t} {own} {s} first [] = if-ExprReads _ 7 (λ h. let none = and-true (stands_at 6 own) false (and-true (stands_at 6 own && false) true h).0 in absurd (false-no none.1))
 and-reads {e} {t} {own} {s} first (more ∷ rest) = if-ExprReads _ 7 (λ h.
     let all : List ((v : Tail) × TailClaim v) = more ∷ rest in
     let toks = map tail_tokens (map (λ e. e.0) all) in
-    let split = and-true (stands_at 6 own && true) (list_all (stands_at 6) (map tail_own (map (λ e. e.0) all))) h in
+    let split = and-true (stands_at 6 own && true) (list_all (stands_at 6) (map tail_level (map (λ e. e.0) all))) h in
     let there = stands 6 (omega arith) first (and-true (stands_at 6 own) true split.0).0 in
     let P : Tokens → Type 0 = λ own. Reads (stops 7) (λ n. level 7 n (read_expr n)) (roll-Expr (Expr-F.And e (map (λ e. e.0) all))) (t ++ own) (s >> all_spans (map tail_span (map (λ e. e.0) all))) in
     record {
@@ -212,18 +211,18 @@ and-reads {e} {t} {own} {s} first (more ∷ rest) = if-ExprReads _ 7 (λ h.
           (λ n. tail (level 6 n (read_expr n))) (λ n. level 6 n (read_expr n)) there.reads _ _ _ _ _ _ (and-rest all split.1));
     })
 
-or-rest : (rest : List ((v : Tail) × TailClaim v)) → list_all (stands_at 7) (map tail_own (map (λ e. e.0) rest)) ≡ true → AllRead (goes_on 8) (stops 7) (λ n. tail (level 7 n (read_expr n))) (map (λ e. e.0) rest) (map (λ own. word key.Or ++ own) (map tail_tokens (map (λ e. e.0) rest))) (map tail_span (map (λ e. e.0) rest))
+or-rest : (rest : List ((v : Tail) × TailClaim v)) → list_all (stands_at 7) (map tail_level (map (λ e. e.0) rest)) ≡ true → AllRead (goes_on 8) (stops 7) (λ n. tail (level 7 n (read_expr n))) (map (λ e. e.0) rest) (map (λ own. word key.Or ++ own) (map tail_tokens (map (λ e. e.0) rest))) (map tail_span (map (λ e. e.0) rest))
 or-rest [] h = tt
 or-rest ((v, own) ∷ rest) h =
-    let both = and-true (stands_at 7 (tail_own v)) (list_all (stands_at 7) (map tail_own (map (λ e. e.0) rest))) h in
+    let both = and-true (stands_at 7 (tail_level v)) (list_all (stands_at 7) (map tail_level (map (λ e. e.0) rest))) h in
     (own.reads key.Or 7 (omega arith) both.0, (λ more. refl), or-rest rest both.1)
 
-pub or-reads : {e : Expr} {t : Tokens} {own : ℕ} {s : Span} → ExprReads e t own s → (rest : List ((v : Tail) × TailClaim v)) → ExprReads (roll-Expr (Expr-F.Or e (map (λ e. e.0) rest))) (t ++ flat_map (λ own. word key.Or ++ own) (map tail_tokens (map (λ e. e.0) rest))) (level_if ((stands_at 7 own && has_first (map tail_own (map (λ e. e.0) rest))) && list_all (stands_at 7) (map tail_own (map (λ e. e.0) rest))) 8) (s >> all_spans (map tail_span (map (λ e. e.0) rest)))
+pub or-reads : {e : Expr} {t : Tokens} {own : ℕ} {s : Span} → ExprReads e t own s → (rest : List ((v : Tail) × TailClaim v)) → ExprReads (roll-Expr (Expr-F.Or e (map (λ e. e.0) rest))) (t ++ flat_map (λ own. word key.Or ++ own) (map tail_tokens (map (λ e. e.0) rest))) (level_if ((stands_at 7 own && has_first (map tail_level (map (λ e. e.0) rest))) && list_all (stands_at 7) (map tail_level (map (λ e. e.0) rest))) 8) (s >> all_spans (map tail_span (map (λ e. e.0) rest)))
 or-reads {e} {t} {own} {s} first [] = if-ExprReads _ 8 (λ h. let none = and-true (stands_at 7 own) false (and-true (stands_at 7 own && false) true h).0 in absurd (false-no none.1))
 or-reads {e} {t} {own} {s} first (more ∷ rest) = if-ExprReads _ 8 (λ h.
     let all : List ((v : Tail) × TailClaim v) = more ∷ rest in
     let toks = map tail_tokens (map (λ e. e.0) all) in
-    let split = and-true (stands_at 7 own && true) (list_all (stands_at 7) (map tail_own (map (λ e. e.0) all))) h in
+    let split = and-true (stands_at 7 own && true) (list_all (stands_at 7) (map tail_level (map (λ e. e.0) all))) h in
     let there = stands 7 (omega arith) first (and-true (stands_at 7 own) true split.0).0 in
     let P : Tokens → Type 0 = λ own. Reads (stops 8) (λ n. level 8 n (read_expr n)) (roll-Expr (Expr-F.Or e (map (λ e. e.0) all))) (t ++ own) (s >> all_spans (map tail_span (map (λ e. e.0) all))) in
     record {
@@ -233,17 +232,17 @@ or-reads {e} {t} {own} {s} first (more ∷ rest) = if-ExprReads _ 8 (λ h.
           (λ n. tail (level 7 n (read_expr n))) (λ n. level 7 n (read_expr n)) there.reads _ _ _ _ _ _ (or-rest all split.1));
     })
 
-post-rest : (rest : List ((v : Suffix) × SuffixClaim v)) → all_hold (map suffix_ok (map (λ e. e.0) rest)) ≡ true → AllRead (goes_on 1) any (λ n. suffix (read_expr n)) (map (λ e. e.0) rest) (map suffix_tokens (map (λ e. e.0) rest)) (map suffix_span (map (λ e. e.0) rest))
+post-rest : (rest : List ((v : Suffix) × SuffixClaim v)) → all_hold (map is_suffix (map (λ e. e.0) rest)) ≡ true → AllRead (goes_on 1) any (λ n. suffix (read_expr n)) (map (λ e. e.0) rest) (map suffix_tokens (map (λ e. e.0) rest)) (map suffix_span (map (λ e. e.0) rest))
 post-rest [] h = tt
 post-rest ((v, own) ∷ rest) h =
-    let both = and-true (suffix_ok v) (all_hold (map suffix_ok (map (λ e. e.0) rest))) h in
+    let both = and-true (is_suffix v) (all_hold (map is_suffix (map (λ e. e.0) rest))) h in
     (own.reads both.0, (λ more. is-goes_on 1 _ (own.begins more)), post-rest rest both.1)
 
-pub post-reads : {e : Expr} {t : Tokens} {own : ℕ} {s : Span} → ExprReads e t own s → (rest : List ((v : Suffix) × SuffixClaim v)) → ExprReads (roll-Expr (Expr-F.Post e (map (λ e. e.0) rest))) (t ++ joined (map suffix_tokens (map (λ e. e.0) rest))) (level_if ((stands_at 0 own && has_first (map suffix_ok (map (λ e. e.0) rest))) && all_hold (map suffix_ok (map (λ e. e.0) rest))) 1) (s >> all_spans (map suffix_span (map (λ e. e.0) rest)))
+pub post-reads : {e : Expr} {t : Tokens} {own : ℕ} {s : Span} → ExprReads e t own s → (rest : List ((v : Suffix) × SuffixClaim v)) → ExprReads (roll-Expr (Expr-F.Post e (map (λ e. e.0) rest))) (t ++ joined (map suffix_tokens (map (λ e. e.0) rest))) (level_if ((stands_at 0 own && has_first (map is_suffix (map (λ e. e.0) rest))) && all_hold (map is_suffix (map (λ e. e.0) rest))) 1) (s >> all_spans (map suffix_span (map (λ e. e.0) rest)))
 post-reads {e} {t} {own} {s} first [] = if-ExprReads _ 1 (λ h. let none = and-true (stands_at 0 own) false (and-true (stands_at 0 own && false) true h).0 in absurd (false-no none.1))
 post-reads {e} {t} {own} {s} first (more ∷ rest) = if-ExprReads _ 1 (λ h.
     let all : List ((v : Suffix) × SuffixClaim v) = more ∷ rest in
-    let split = and-true (stands_at 0 own && true) (all_hold (map suffix_ok (map (λ e. e.0) all))) h in
+    let split = and-true (stands_at 0 own && true) (all_hold (map is_suffix (map (λ e. e.0) all))) h in
     let there = stands 0 (omega arith) first (and-true (stands_at 0 own) true split.0).0 in
     record {
       begins = λ less. begins-first 0 1 (omega arith) there (joined (map suffix_tokens (map (λ e. e.0) all)));

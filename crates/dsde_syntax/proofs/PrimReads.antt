@@ -20,15 +20,14 @@ use Rattle.dsde_syntax.specs.declared.expr.Expr.TheOpen.{Expr-F, Suffix-F, ExprA
 use Rattle.dsde_syntax.specs.declared.expr.Expr.TheViews.{roll-Expr, roll-Suffix, roll-ExprArm, roll-FieldSet}
 use Rattle.dsde_syntax.specs.Grammar.{Tokens, word, mark, id_tokens, commas, elses, optional, in_parens, in_brackets, in_braces, in_angles, truth_tokens, type_tokens, expr_tokens, expr_arm_tokens, field_set_tokens}
 use Rattle.dsde_syntax.specs.Places.{Span, ◌>>◌, token, token_at, begins_at, id_span, spans_with, written_span, type_span, expr_span}
-use Rattle.dsde_syntax.specs.Places.{bracketed as bracketed_span, args_span}
-use Rattle.dsde_syntax.specs.Levels.{level_if, stands_at, has_first, all_hold, if_written, is_builtin, level_of}
+use Rattle.dsde_syntax.specs.Places.{bracketed as bracketed_span, args_span, expr_arm_span, field_set_span}
+use Rattle.dsde_syntax.specs.Levels.{level_if, stands_at, has_first, all_hold, if_written, is_builtin, level_of, is_expr_arm, is_field_set}
 use Rattle.dsde_syntax.proofs.Reading.{Reader, Reads, AllRead, any, ending, ending-test, ending-fit, not-true, pair, made, maybe, skip, pair-Reads, made-Reads, fewer-Reads, either-first, either-second, maybe-none, maybe-some, skip-Reads, place-Reads, here-Reads, ident-Reads, number-Reads, key-Reads}
 use Rattle.dsde_syntax.proofs.ExprReaders.{continues, stops, begin_of, begins_expr, is_comma, is_if, is_else_if, closing, bracketed, separated, nothing, exprs, args, read_type, Form, a_number, a_name, a_call, a_variant, a_truth, the_elapsed, a_record, a_none, an_empty, a_choice, a_paren, a_row, an_each, a_builtin, name_form, form_of, is_true, field_set, expr_arm, prim_branch, prim, suffix, SuffixForm, suffix_form, suffix_branch, a_field, an_index, an_unwrap, read_expr}
 use Rattle.dsde_syntax.proofs.TypeReads.{bracketed-Reads, type-Reads}
 use Rattle.dsde_syntax.proofs.LevelReads.{ExprReads, if-ExprReads, WholeExpr, whole}
 use Rattle.dsde_syntax.proofs.ListReads.{and-true, true-and, separated-Reads, nothing-Reads}
 use Rattle.dsde_syntax.proofs.OperatorReads.{SuffixReads}
-use Rattle.dsde_syntax.proofs.ExprFolds.{expr_arm_ok, expr_arm_span, field_set_ok, field_set_span}
 
 abbrev pub ExprClaim : Expr → Type 0
 ExprClaim e = ExprReads e (expr_tokens e) (level_of e) (expr_span e)
@@ -43,10 +42,10 @@ pub record FieldReads (v : FieldSet) (t : Tokens) (ok : Bool) (s : Span) : Type 
   pub reads : ok ≡ true → Reads (stops 9) (λ n. field_set (read_expr n)) v t s
 
 abbrev pub ArmClaim : ExprArm → Type 0
-ArmClaim v = ArmReads v (expr_arm_tokens v) (expr_arm_ok v) (expr_arm_span v)
+ArmClaim v = ArmReads v (expr_arm_tokens v) (is_expr_arm v) (expr_arm_span v)
 
 abbrev pub FieldClaim : FieldSet → Type 0
-FieldClaim v = FieldReads v (field_set_tokens v) (field_set_ok v) (field_set_span v)
+FieldClaim v = FieldReads v (field_set_tokens v) (is_field_set v) (field_set_span v)
 
 -- an expression in brackets
 bracketed_expr : {e : Expr} {t : Tokens} {s : Span} (open_tok close_tok : Tok) → WholeExpr e t s → ((rest : Tokens) → stops 9 (close_tok ∷ rest) ≡ true) → Reads any (λ n. bracketed (read_expr n)) e (((open_tok ∷ []) ++ t) ++ (close_tok ∷ [])) (bracketed_span s)
@@ -224,13 +223,13 @@ row-reads at (first ∷ list) = if-ExprReads _ 0 (λ h.
     let more = flat_map (λ own. mark sign.Comma ++ own) (map expr_tokens (map (λ e. e.0) list)) in
     row-form _ (rw (append_assoc (expr_tokens first.0 ++ more) (mark sign.CloseBracket) rest) (first-begins first both.0 more (mark sign.CloseBracket ++ rest)))))
 
-fields-all : (list : List ((v : FieldSet) × FieldClaim v)) → all_hold (map field_set_ok (map (λ e. e.0) list)) ≡ true → AllRead any (stops 9) (λ n. field_set (read_expr n)) (map (λ e. e.0) list) (map field_set_tokens (map (λ e. e.0) list)) (map field_set_span (map (λ e. e.0) list))
+fields-all : (list : List ((v : FieldSet) × FieldClaim v)) → all_hold (map is_field_set (map (λ e. e.0) list)) ≡ true → AllRead any (stops 9) (λ n. field_set (read_expr n)) (map (λ e. e.0) list) (map field_set_tokens (map (λ e. e.0) list)) (map field_set_span (map (λ e. e.0) list))
 fields-all [] h = tt
 fields-all ((v, own) ∷ list) h =
-    let both = and-true (field_set_ok v) (all_hold (map field_set_ok (map (λ e. e.0) list))) h in
+    let both = and-true (is_field_set v) (all_hold (map is_field_set (map (λ e. e.0) list))) h in
     (own.reads both.0, (λ rest. refl), fields-all list both.1)
 
-pub new-reads : (at : ℕ) (owner : Id) (list : List ((v : FieldSet) × FieldClaim v)) → ExprReads (roll-Expr (Expr-F.New at owner (map (λ e. e.0) list))) ((word key.New ++ id_tokens owner) ++ in_braces (commas (map field_set_tokens (map (λ e. e.0) list)))) (level_if (has_first (map field_set_ok (map (λ e. e.0) list)) && all_hold (map field_set_ok (map (λ e. e.0) list))) 0) ((token_at at >> id_span owner) >> args_span (map field_set_span (map (λ e. e.0) list)))
+pub new-reads : (at : ℕ) (owner : Id) (list : List ((v : FieldSet) × FieldClaim v)) → ExprReads (roll-Expr (Expr-F.New at owner (map (λ e. e.0) list))) ((word key.New ++ id_tokens owner) ++ in_braces (commas (map field_set_tokens (map (λ e. e.0) list)))) (level_if (has_first (map is_field_set (map (λ e. e.0) list)) && all_hold (map is_field_set (map (λ e. e.0) list))) 0) ((token_at at >> id_span owner) >> args_span (map field_set_span (map (λ e. e.0) list)))
 new-reads at owner [] = if-ExprReads _ 0 (λ h. absurd (false-no (and-true false true h).0))
 new-reads at owner (first ∷ list) = if-ExprReads _ 0 (λ h.
     let fields = separated-Reads (tok.Sign sign.Comma) is_comma any (stops 9) (λ n. field_set (read_expr n)) (λ ts h. refl) comma-stops _ _ _ _ _ _ (fields-all (first ∷ list) h) in
@@ -238,10 +237,10 @@ new-reads at owner (first ∷ list) = if-ExprReads _ 0 (λ h.
     (made-Reads (λ v. roll-Expr (Expr-F.New v.0.0 v.0.1 v.1)) (pair-Reads (pair-Reads (place-Reads (tok.Key key.New) at) (ident-Reads owner) (λ rest h. refl)) (bracketed-Reads (tok.Sign sign.OpenBrace) (tok.Sign sign.CloseBrace) fields (λ rest. refl)) (λ rest h. refl)))
     (λ rest. refl))
 
-arms-all : (list : List ((v : ExprArm) × ArmClaim v)) → all_hold (map expr_arm_ok (map (λ e. e.0) list)) ≡ true → AllRead is_if any (λ n. expr_arm (read_expr n)) (map (λ e. e.0) list) (map expr_arm_tokens (map (λ e. e.0) list)) (map expr_arm_span (map (λ e. e.0) list))
+arms-all : (list : List ((v : ExprArm) × ArmClaim v)) → all_hold (map is_expr_arm (map (λ e. e.0) list)) ≡ true → AllRead is_if any (λ n. expr_arm (read_expr n)) (map (λ e. e.0) list) (map expr_arm_tokens (map (λ e. e.0) list)) (map expr_arm_span (map (λ e. e.0) list))
 arms-all [] h = tt
 arms-all ((v, own) ∷ list) h =
-    let both = and-true (expr_arm_ok v) (all_hold (map expr_arm_ok (map (λ e. e.0) list))) h in
+    let both = and-true (is_expr_arm v) (all_hold (map is_expr_arm (map (λ e. e.0) list))) h in
     (own.reads both.0, own.begins, arms-all list both.1)
 
 -- what begins with "if" is a choice
@@ -270,11 +269,11 @@ first-if : {v : ExprArm} {t : Tokens} {ok : Bool} {s : Span} → ArmReads v t ok
 first-if {v} {t} own m1 m2 m3 rest =
     rw (append_assoc ((t ++ m1) ++ m2) m3 rest, append_assoc (t ++ m1) m2 (m3 ++ rest), append_assoc t m1 (m2 ++ (m3 ++ rest))) (own.begins (m1 ++ (m2 ++ (m3 ++ rest))))
 
-pub choice-reads : {e : Expr} {t : Tokens} {own : ℕ} {s : Span} (at : ℕ) (list : List ((v : ExprArm) × ArmClaim v)) → ExprReads e t own s → ExprReads (roll-Expr (Expr-F.If at (map (λ e. e.0) list) e)) ((elses (map expr_arm_tokens (map (λ e. e.0) list)) ++ word key.Else) ++ in_braces t) (level_if ((has_first (map expr_arm_ok (map (λ e. e.0) list)) && all_hold (map expr_arm_ok (map (λ e. e.0) list))) && stands_at 9 own) 0) (((begins_at at >> spans_with token (map expr_arm_span (map (λ e. e.0) list))) >> token) >> bracketed_span s)
+pub choice-reads : {e : Expr} {t : Tokens} {own : ℕ} {s : Span} (at : ℕ) (list : List ((v : ExprArm) × ArmClaim v)) → ExprReads e t own s → ExprReads (roll-Expr (Expr-F.If at (map (λ e. e.0) list) e)) ((elses (map expr_arm_tokens (map (λ e. e.0) list)) ++ word key.Else) ++ in_braces t) (level_if ((has_first (map is_expr_arm (map (λ e. e.0) list)) && all_hold (map is_expr_arm (map (λ e. e.0) list))) && stands_at 9 own) 0) (((begins_at at >> spans_with token (map expr_arm_span (map (λ e. e.0) list))) >> token) >> bracketed_span s)
 choice-reads {e} {t} {own} {s} at [] other = if-ExprReads _ 0 (λ h. absurd (false-no (and-true false (stands_at 9 own) h).0))
 choice-reads {e} {t} {own} {s} at (first ∷ list) other = if-ExprReads _ 0 (λ h.
     let all : List ((v : ExprArm) × ArmClaim v) = first ∷ list in
-    let both = and-true (all_hold (map expr_arm_ok (map (λ e. e.0) all))) (stands_at 9 own) h in
+    let both = and-true (all_hold (map is_expr_arm (map (λ e. e.0) all))) (stands_at 9 own) h in
     let arms = arms-reads (λ n. expr_arm (read_expr n)) _ _ _ _ _ _ (arms-all all both.0) in
     let behind = fewer-Reads opens (λ rest h. refl) (skip-Reads (tok.Key key.Else)) in
     let more = flat_map (λ own. word key.Else ++ own) (map expr_arm_tokens (map (λ e. e.0) list)) in

@@ -14,12 +14,12 @@ use Rattle.dsde_syntax.specs.declared.stmt.Stmt.{Stmt}
 use Rattle.dsde_syntax.specs.declared.stmt.StmtArm.{StmtArm}
 use Rattle.dsde_syntax.specs.declared.stmt.Stmt.TheOpen.{Stmt-F, StmtArm-F}
 use Rattle.dsde_syntax.specs.declared.stmt.Stmt.TheViews.{roll-Stmt, roll-StmtArm}
-use Rattle.dsde_syntax.specs.declared.stmt.Stmt.TheFolds.{map-Stmt, map-StmtArm, fold-Stmt, fold-StmtArm, fold-roll-Stmt, fold-roll-StmtArm, ind-Stmt}
+use Rattle.dsde_syntax.specs.declared.stmt.Stmt.TheFolds.{map-Stmt, map-StmtArm, fold-Stmt, fold-roll-Stmt, fold-roll-StmtArm, ind-Stmt}
 use Rattle.dsde_syntax.specs.Grammar.{Tokens, word, mark, id_tokens, joined, elses, optional, in_parens, in_braces, expr_tokens, let_tokens, set_tokens, for_tokens, if_tokens, stmt_step, stmt_arm_step, stmt_tokens, stmt_arm_tokens}
 use Rattle.dsde_syntax.specs.Grammar.{block as block_tokens, else_block}
-use Rattle.dsde_syntax.specs.Places.{Span, ◌>>◌, token, id_span, all_spans, spans_with, written_span, block_span, else_span, expr_span, set_span, for_span, stmt_span_step, stmt_arm_span_step, stmt_span}
+use Rattle.dsde_syntax.specs.Places.{Span, ◌>>◌, token, id_span, all_spans, spans_with, written_span, block_span, else_span, expr_span, set_span, for_span, stmt_span_step, stmt_arm_span_step, stmt_span, stmt_arm_span}
 use Rattle.dsde_syntax.specs.Places.{bracketed as bracketed_span}
-use Rattle.dsde_syntax.specs.Levels.{has_first, all_hold, if_written, is_expr, is_stmt_step, is_stmt_arm_step, is_stmt}
+use Rattle.dsde_syntax.specs.Levels.{has_first, all_hold, if_written, is_expr, is_stmt_step, is_stmt_arm_step, is_stmt, is_stmt_arm}
 use Rattle.dsde_syntax.proofs.Reading.{Reader, Reads, AllRead, any, ending, ending-fit, not-true, pair, made, many, maybe, skip, ident, a_word, pair-Reads, made-Reads, fewer-Reads, maybe-none, maybe-some, many-Reads, skip-Reads, ident-Reads, word-Reads}
 use Rattle.dsde_syntax.proofs.ExprReaders.{stops, is_if, is_else_if, bracketed, separated, read_expr}
 use Rattle.dsde_syntax.proofs.TypeReads.{bracketed-Reads, stepped-Reads}
@@ -151,12 +151,6 @@ record StmtReads (v : Stmt) (t : Tokens) (ok : Bool) (s : Span) : Type 0 where
 record ArmReads (v : StmtArm) (t : Tokens) (ok : Bool) (s : Span) : Type 0 where
   begins : (rest : Tokens) → is_if (t ++ rest) ≡ true
   reads : ok ≡ true → Reads any (λ n. stmt_arm n (read_stmt n)) v t s
-
-abbrev is_stmt_arm : StmtArm → Bool
-is_stmt_arm = fold-StmtArm Bool Bool is_stmt_step is_stmt_arm_step
-
-abbrev stmt_arm_span : StmtArm → Span
-stmt_arm_span = fold-StmtArm Span Span stmt_span_step stmt_arm_span_step
 
 abbrev StmtClaim : Stmt → Type 0
 StmtClaim v = StmtReads v (stmt_tokens v) (is_stmt v) (stmt_span v)

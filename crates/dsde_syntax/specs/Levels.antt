@@ -8,14 +8,21 @@ use Rattle.dsde_syntax.specs.declared.token.Key.TheVariants as key
 use Rattle.dsde_syntax.specs.declared.token.Sign.{Sign}
 use Rattle.dsde_syntax.specs.declared.token.Sign.TheVariants as sign
 use Rattle.dsde_syntax.specs.declared.expr.Expr.{Expr}
+use Rattle.dsde_syntax.specs.declared.expr.Suffix.{Suffix}
+use Rattle.dsde_syntax.specs.declared.expr.ExprArm.{ExprArm}
+use Rattle.dsde_syntax.specs.declared.expr.FieldSet.{FieldSet}
+use Rattle.dsde_syntax.specs.declared.expr.SignTail.{SignTail}
+use Rattle.dsde_syntax.specs.declared.expr.Tail.{Tail}
 use Rattle.dsde_syntax.specs.declared.expr.Expr.TheOpen.{Expr-F, Suffix-F, ExprArm-F, FieldSet-F, SignTail-F, Tail-F}
-use Rattle.dsde_syntax.specs.declared.expr.Expr.TheFolds.{fold-Expr}
+use Rattle.dsde_syntax.specs.declared.expr.Expr.TheFolds.{fold-Expr, fold-Suffix, fold-ExprArm, fold-FieldSet, fold-SignTail, fold-Tail}
 use Rattle.dsde_syntax.specs.declared.stmt.Stmt.{Stmt}
+use Rattle.dsde_syntax.specs.declared.stmt.StmtArm.{StmtArm}
 use Rattle.dsde_syntax.specs.declared.stmt.Stmt.TheOpen.{Stmt-F, StmtArm-F}
-use Rattle.dsde_syntax.specs.declared.stmt.Stmt.TheFolds.{fold-Stmt}
+use Rattle.dsde_syntax.specs.declared.stmt.Stmt.TheFolds.{fold-Stmt, fold-StmtArm}
 use Rattle.dsde_syntax.specs.declared.item.Item.{Item}
+use Rattle.dsde_syntax.specs.declared.item.ItemArm.{ItemArm}
 use Rattle.dsde_syntax.specs.declared.item.Item.TheOpen.{Item-F, ItemArm-F}
-use Rattle.dsde_syntax.specs.declared.item.Item.TheFolds.{fold-Item}
+use Rattle.dsde_syntax.specs.declared.item.Item.TheFolds.{fold-Item, fold-ItemArm}
 use Rattle.dsde_syntax.specs.declared.item.Bracket.{Bracket}
 use Rattle.dsde_syntax.specs.declared.item.End.{End}
 use Rattle.dsde_syntax.specs.declared.item.EndPart.TheVariants as end_part
@@ -197,6 +204,28 @@ level_of =
 abbrev pub is_expr : Expr → Bool
 is_expr expr = stands_at expr_level (level_of expr)
 
+-- whether what a suffix, an arm or a field holds are expressions
+abbrev pub is_suffix : Suffix → Bool
+is_suffix =
+    fold-Suffix ℕ Bool Bool Bool (Sign × ℕ) ℕ level_step suffix_level_step expr_arm_level_step field_set_level_step sign_tail_level_step tail_level_step
+
+abbrev pub is_expr_arm : ExprArm → Bool
+is_expr_arm =
+    fold-ExprArm ℕ Bool Bool Bool (Sign × ℕ) ℕ level_step suffix_level_step expr_arm_level_step field_set_level_step sign_tail_level_step tail_level_step
+
+abbrev pub is_field_set : FieldSet → Bool
+is_field_set =
+    fold-FieldSet ℕ Bool Bool Bool (Sign × ℕ) ℕ level_step suffix_level_step expr_arm_level_step field_set_level_step sign_tail_level_step tail_level_step
+
+-- the sign and the level of what follows in a chain, or its level alone
+abbrev pub sign_tail_level : SignTail → Sign × ℕ
+sign_tail_level =
+    fold-SignTail ℕ Bool Bool Bool (Sign × ℕ) ℕ level_step suffix_level_step expr_arm_level_step field_set_level_step sign_tail_level_step tail_level_step
+
+abbrev pub tail_level : Tail → ℕ
+tail_level =
+    fold-Tail ℕ Bool Bool Bool (Sign × ℕ) ℕ level_step suffix_level_step expr_arm_level_step field_set_level_step sign_tail_level_step tail_level_step
+
 -- whether a statement's parts are of the grammar
 abbrev pub is_stmt_step : Stmt-F Bool Bool → Bool
 is_stmt_step (Stmt-F.Let mutable name value) = is_expr value
@@ -210,6 +239,9 @@ is_stmt_arm_step arm = is_expr arm.cond && all_hold arm.body
 
 abbrev pub is_stmt : Stmt → Bool
 is_stmt = fold-Stmt Bool Bool is_stmt_step is_stmt_arm_step
+
+abbrev pub is_stmt_arm : StmtArm → Bool
+is_stmt_arm = fold-StmtArm Bool Bool is_stmt_step is_stmt_arm_step
 
 abbrev pub is_index : Option Bracket → Bool
 is_index = if_written (λ (bracket : Bracket). is_expr bracket.value)
@@ -233,6 +265,9 @@ is_item_arm_step arm = is_expr arm.cond && all_hold arm.body
 
 abbrev pub is_item : Item → Bool
 is_item = fold-Item Bool Bool is_item_step is_item_arm_step
+
+abbrev pub is_item_arm : ItemArm → Bool
+is_item_arm = fold-ItemArm Bool Bool is_item_step is_item_arm_step
 
 abbrev pub is_phase : Option Phase → Bool
 is_phase = if_written (λ (phase : Phase). list_all is_stmt phase.stmts)

@@ -6,14 +6,21 @@ use Rattle.dsde_syntax.specs.declared.type_name.TypeName.{TypeName}
 use Rattle.dsde_syntax.specs.declared.type_name.TypeName.TheOpen.{TypeName-F}
 use Rattle.dsde_syntax.specs.declared.type_name.TypeName.TheFolds.{fold-TypeName}
 use Rattle.dsde_syntax.specs.declared.expr.Expr.{Expr}
+use Rattle.dsde_syntax.specs.declared.expr.Suffix.{Suffix}
+use Rattle.dsde_syntax.specs.declared.expr.ExprArm.{ExprArm}
+use Rattle.dsde_syntax.specs.declared.expr.FieldSet.{FieldSet}
+use Rattle.dsde_syntax.specs.declared.expr.SignTail.{SignTail}
+use Rattle.dsde_syntax.specs.declared.expr.Tail.{Tail}
 use Rattle.dsde_syntax.specs.declared.expr.Expr.TheOpen.{Expr-F, Suffix-F, ExprArm-F, FieldSet-F, SignTail-F, Tail-F}
-use Rattle.dsde_syntax.specs.declared.expr.Expr.TheFolds.{fold-Expr}
+use Rattle.dsde_syntax.specs.declared.expr.Expr.TheFolds.{fold-Expr, fold-Suffix, fold-ExprArm, fold-FieldSet, fold-SignTail, fold-Tail}
 use Rattle.dsde_syntax.specs.declared.stmt.Stmt.{Stmt}
+use Rattle.dsde_syntax.specs.declared.stmt.StmtArm.{StmtArm}
 use Rattle.dsde_syntax.specs.declared.stmt.Stmt.TheOpen.{Stmt-F, StmtArm-F}
-use Rattle.dsde_syntax.specs.declared.stmt.Stmt.TheFolds.{fold-Stmt}
+use Rattle.dsde_syntax.specs.declared.stmt.Stmt.TheFolds.{fold-Stmt, fold-StmtArm}
 use Rattle.dsde_syntax.specs.declared.item.Item.{Item}
+use Rattle.dsde_syntax.specs.declared.item.ItemArm.{ItemArm}
 use Rattle.dsde_syntax.specs.declared.item.Item.TheOpen.{Item-F, ItemArm-F}
-use Rattle.dsde_syntax.specs.declared.item.Item.TheFolds.{fold-Item}
+use Rattle.dsde_syntax.specs.declared.item.Item.TheFolds.{fold-Item, fold-ItemArm}
 use Rattle.dsde_syntax.specs.declared.item.Bracket.{Bracket}
 use Rattle.dsde_syntax.specs.declared.item.End.{End}
 use Rattle.dsde_syntax.specs.declared.item.EndPart.{EndPart}
@@ -143,6 +150,27 @@ abbrev pub expr_span : Expr → Span
 expr_span =
     fold-Expr Span Span Span Span Span Span span_step suffix_span_step expr_arm_span_step field_set_span_step sign_tail_span_step tail_span_step
 
+-- the spans of an expression's parts
+abbrev pub suffix_span : Suffix → Span
+suffix_span =
+    fold-Suffix Span Span Span Span Span Span span_step suffix_span_step expr_arm_span_step field_set_span_step sign_tail_span_step tail_span_step
+
+abbrev pub expr_arm_span : ExprArm → Span
+expr_arm_span =
+    fold-ExprArm Span Span Span Span Span Span span_step suffix_span_step expr_arm_span_step field_set_span_step sign_tail_span_step tail_span_step
+
+abbrev pub field_set_span : FieldSet → Span
+field_set_span =
+    fold-FieldSet Span Span Span Span Span Span span_step suffix_span_step expr_arm_span_step field_set_span_step sign_tail_span_step tail_span_step
+
+abbrev pub sign_tail_span : SignTail → Span
+sign_tail_span =
+    fold-SignTail Span Span Span Span Span Span span_step suffix_span_step expr_arm_span_step field_set_span_step sign_tail_span_step tail_span_step
+
+abbrev pub tail_span : Tail → Span
+tail_span =
+    fold-Tail Span Span Span Span Span Span span_step suffix_span_step expr_arm_span_step field_set_span_step sign_tail_span_step tail_span_step
+
 -- id "=" expr ";"
 abbrev pub set_span : Id → Expr → Span
 set_span name value = id_span name >> token >> expr_span value >> token
@@ -163,6 +191,9 @@ stmt_arm_span_step arm = token >> expr_span arm.cond >> block_span arm.body
 
 abbrev pub stmt_span : Stmt → Span
 stmt_span = fold-Stmt Span Span stmt_span_step stmt_arm_span_step
+
+abbrev pub stmt_arm_span : StmtArm → Span
+stmt_arm_span = fold-StmtArm Span Span stmt_span_step stmt_arm_span_step
 
 abbrev pub bracket_span : Bracket → Span
 bracket_span bracket = begins_at bracket.at >> bracketed (expr_span bracket.value)
@@ -198,6 +229,9 @@ item_arm_span_step arm = token >> expr_span arm.cond >> block_span arm.body
 
 abbrev pub item_span : Item → Span
 item_span = fold-Item Span Span item_span_step item_arm_span_step
+
+abbrev pub item_arm_span : ItemArm → Span
+item_arm_span = fold-ItemArm Span Span item_span_step item_arm_span_step
 
 abbrev pub typed_span : Typed → Span
 typed_span typed = id_span typed.name >> token >> type_span typed.ty

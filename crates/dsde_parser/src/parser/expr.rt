@@ -1,14 +1,14 @@
 ghost use Rattle.std.specs.Prelude.{◌≡◌, ◌<◌, ◌∷◌, ◌++◌, [], true, false, map, OnOk};
 ghost use Rattle.dsde_syntax.specs.Grammar.{commas, in_parens, in_braces, expr_tokens, suffix_tokens, expr_arm_tokens, field_set_tokens, sign_tail_tokens};
-ghost use Rattle.dsde_syntax.specs.Places.{bracketed, args_span, expr_span};
-ghost use Rattle.dsde_syntax.specs.Levels.{if_written, is_expr, stands_at, may_follow, is_sum_sign, is_mul_sign};
+ghost use Rattle.dsde_syntax.specs.Places.{bracketed, args_span, expr_span, expr_arm_span, field_set_span, sign_tail_span, suffix_span, tail_span};
+ghost use Rattle.dsde_syntax.specs.Levels.{if_written, is_expr, stands_at, may_follow, is_sum_sign, is_mul_sign, is_expr_arm, is_field_set, is_suffix, sign_tail_level, tail_level};
 ghost use Rattle.dsde_syntax.specs.declared.token.Key.TheVariants as key;
 ghost use Rattle.dsde_syntax.specs.declared.token.Sign.TheVariants as sign;
 ghost use Rattle.dsde_grammar.specs.Want as want;
 ghost use Rattle.dsde_grammar.specs.Steps.{is_sign, angles, args, exprs, field_set, braced_expr, choice_rest, post_wants, neg_wants, mul_wants, sum_wants, cmp_wants, not_wants, and_wants, or_wants};
 ghost use Rattle.dsde_parser.specs.Follows.{Leads, Meets, next_is, begins_form, is_builtin_key, begins_suffix, is_else_if};
 ghost use Rattle.dsde_parser.specs.Took.{Reads, ReadsAll};
-ghost use Rattle.dsde_parser.specs.Parts.{IsWithin, AllOk, SomeOk, IsOk, joined_by, all_by, commas_by, spans_by, elses_by, test_tokens, test_span, or_tail_tokens, and_tail_tokens, suffix_ok, suffix_span, expr_arm_ok, expr_arm_span, field_set_ok, field_set_span, sign_tail_own, sign_tail_span, tail_own, tail_span};
+ghost use Rattle.dsde_parser.specs.Parts.{IsWithin, AllOk, SomeOk, IsOk, joined_by, all_by, commas_by, spans_by, elses_by, test_tokens, test_span, or_tail_tokens, and_tail_tokens};
 
 use super::{ParseError, Parser};
 use dsde_syntax::{Boxed, Expr, ExprArm, FieldSet, Items, Key, Sign, SignTail, Suffix, Tail};
@@ -46,7 +46,7 @@ impl<'a> Parser<'a> {
     /// {"or" and}
     #[cycle(read_expr)]
     fn or_tails(&mut self) -> Result<Items<Tail>, ParseError>
-        ensures took { ReadsAll (joined_by or_tail_tokens) (all_by tail_span) (AllOk (λ tail. stands_at 7 (tail_own tail))) self.old result self.new }
+        ensures took { ReadsAll (joined_by or_tail_tokens) (all_by tail_span) (AllOk (λ tail. stands_at 7 (tail_level tail))) self.old result self.new }
         ensures same { Meets (want.disjuncts ∷ []) self.old result self.new }
     {
         let mut tails = Items::new(self.alloc);
@@ -55,8 +55,11 @@ impl<'a> Parser<'a> {
             if !self.takes_key(Key::Or) {
                 return Ok(tails);
             }
-            let value = self.and()?.into_inner();
-            tails.push(Tail { at, value })?;
+            let value = self.and()?;
+            tails.push(Tail {
+                at,
+                value: value.into_inner(),
+            })?;
         }
     }
 
@@ -77,7 +80,7 @@ impl<'a> Parser<'a> {
     /// {"and" not}
     #[cycle(read_expr)]
     fn and_tails(&mut self) -> Result<Items<Tail>, ParseError>
-        ensures took { ReadsAll (joined_by and_tail_tokens) (all_by tail_span) (AllOk (λ tail. stands_at 6 (tail_own tail))) self.old result self.new }
+        ensures took { ReadsAll (joined_by and_tail_tokens) (all_by tail_span) (AllOk (λ tail. stands_at 6 (tail_level tail))) self.old result self.new }
         ensures same { Meets (want.conjuncts ∷ []) self.old result self.new }
     {
         let mut tails = Items::new(self.alloc);
@@ -86,8 +89,11 @@ impl<'a> Parser<'a> {
             if !self.takes_key(Key::And) {
                 return Ok(tails);
             }
-            let value = self.not()?.into_inner();
-            tails.push(Tail { at, value })?;
+            let value = self.not()?;
+            tails.push(Tail {
+                at,
+                value: value.into_inner(),
+            })?;
         }
     }
 
@@ -142,7 +148,7 @@ impl<'a> Parser<'a> {
     /// {("+" | "-" | "+|" | "-|" | "++") mul}
     #[cycle(read_expr)]
     fn sum_tails(&mut self) -> Result<Items<SignTail>, ParseError>
-        ensures took { ReadsAll (joined_by sign_tail_tokens) (all_by sign_tail_span) (AllOk (λ tail. may_follow is_sum_sign 3 (sign_tail_own tail))) self.old result self.new }
+        ensures took { ReadsAll (joined_by sign_tail_tokens) (all_by sign_tail_span) (AllOk (λ tail. may_follow is_sum_sign 3 (sign_tail_level tail))) self.old result self.new }
         ensures same { Meets (want.terms ∷ []) self.old result self.new }
     {
         let mut tails = Items::new(self.alloc);
@@ -151,8 +157,12 @@ impl<'a> Parser<'a> {
             let Some(sign) = self.takes_sum_sign() else {
                 return Ok(tails);
             };
-            let value = self.mul()?.into_inner();
-            tails.push(SignTail { sign, at, value })?;
+            let value = self.mul()?;
+            tails.push(SignTail {
+                sign,
+                at,
+                value: value.into_inner(),
+            })?;
         }
     }
 
@@ -173,7 +183,7 @@ impl<'a> Parser<'a> {
     /// {("*" | "/" | "%" | "*|") neg}
     #[cycle(read_expr)]
     fn mul_tails(&mut self) -> Result<Items<SignTail>, ParseError>
-        ensures took { ReadsAll (joined_by sign_tail_tokens) (all_by sign_tail_span) (AllOk (λ tail. may_follow is_mul_sign 2 (sign_tail_own tail))) self.old result self.new }
+        ensures took { ReadsAll (joined_by sign_tail_tokens) (all_by sign_tail_span) (AllOk (λ tail. may_follow is_mul_sign 2 (sign_tail_level tail))) self.old result self.new }
         ensures same { Meets (want.factors ∷ []) self.old result self.new }
     {
         let mut tails = Items::new(self.alloc);
@@ -182,8 +192,12 @@ impl<'a> Parser<'a> {
             let Some(sign) = self.takes_mul_sign() else {
                 return Ok(tails);
             };
-            let value = self.neg()?.into_inner();
-            tails.push(SignTail { sign, at, value })?;
+            let value = self.neg()?;
+            tails.push(SignTail {
+                sign,
+                at,
+                value: value.into_inner(),
+            })?;
         }
     }
 
@@ -218,7 +232,7 @@ impl<'a> Parser<'a> {
     /// {"." id | "[" expr "]" | "!"}
     #[cycle(read_expr)]
     fn suffixes(&mut self) -> Result<Items<Suffix>, ParseError>
-        ensures took { ReadsAll (joined_by suffix_tokens) (all_by suffix_span) (AllOk suffix_ok) self.old result self.new }
+        ensures took { ReadsAll (joined_by suffix_tokens) (all_by suffix_span) (AllOk is_suffix) self.old result self.new }
         ensures same { Meets (want.suffixes ∷ []) self.old result self.new }
     {
         let mut suffixes = Items::new(self.alloc);
@@ -240,7 +254,7 @@ impl<'a> Parser<'a> {
     /// "." id | "[" expr "]" | "!"
     #[cycle(read_expr)]
     fn suffix(&mut self) -> Result<Suffix, ParseError>
-        ensures took { Reads suffix_tokens suffix_span (IsOk suffix_ok) self.old result self.new }
+        ensures took { Reads suffix_tokens suffix_span (IsOk is_suffix) self.old result self.new }
         ensures same { Meets (want.suffix ∷ []) self.old result self.new }
     {
         if self.next_is_sign(Sign::Dot) {
@@ -254,7 +268,7 @@ impl<'a> Parser<'a> {
 
     /// "." id
     fn field(&mut self) -> Result<Suffix, ParseError>
-        ensures took { Reads suffix_tokens suffix_span (IsOk suffix_ok) self.old result self.new }
+        ensures took { Reads suffix_tokens suffix_span (IsOk is_suffix) self.old result self.new }
         ensures same { Meets (want.mark sign.Dot ∷ want.name ∷ []) self.old result self.new }
     {
         let at = self.sign(Sign::Dot)?;
@@ -265,7 +279,7 @@ impl<'a> Parser<'a> {
     /// "[" expr "]"
     #[cycle(read_expr)]
     fn index(&mut self) -> Result<Suffix, ParseError>
-        ensures took { Reads suffix_tokens suffix_span (IsOk suffix_ok) self.old result self.new }
+        ensures took { Reads suffix_tokens suffix_span (IsOk is_suffix) self.old result self.new }
         ensures same { Meets (want.mark sign.OpenBracket ∷ want.expr ∷ want.mark sign.CloseBracket ∷ []) self.old result self.new }
     {
         let at = self.sign(Sign::OpenBracket)?;
@@ -279,7 +293,7 @@ impl<'a> Parser<'a> {
 
     /// "!"
     fn unwrap(&mut self) -> Result<Suffix, ParseError>
-        ensures took { Reads suffix_tokens suffix_span (IsOk suffix_ok) self.old result self.new }
+        ensures took { Reads suffix_tokens suffix_span (IsOk is_suffix) self.old result self.new }
         ensures same { Meets (want.mark sign.Bang ∷ []) self.old result self.new }
     {
         let at = self.sign(Sign::Bang)?;
@@ -449,7 +463,7 @@ impl<'a> Parser<'a> {
     /// "{" id ":" expr {"," id ":" expr} "}"
     #[cycle(read_expr)]
     fn field_sets(&mut self) -> Result<Items<FieldSet>, ParseError>
-        ensures took { Reads (λ fields. in_braces (commas (map field_set_tokens fields))) (λ fields. args_span (map field_set_span fields)) (SomeOk field_set_ok) self.old result self.new }
+        ensures took { Reads (λ fields. in_braces (commas (map field_set_tokens fields))) (λ fields. args_span (map field_set_span fields)) (SomeOk is_field_set) self.old result self.new }
         ensures same { Meets (want.mark sign.OpenBrace ∷ (field_set ++ want.more_fields ∷ want.mark sign.CloseBrace ∷ [])) self.old result self.new }
     {
         self.sign(Sign::OpenBrace)?;
@@ -461,7 +475,7 @@ impl<'a> Parser<'a> {
     /// id ":" expr {"," id ":" expr}
     #[cycle(read_expr)]
     fn some_field_sets(&mut self) -> Result<Items<FieldSet>, ParseError>
-        ensures took { Reads (commas_by field_set_tokens) (spans_by field_set_span) (SomeOk field_set_ok) self.old result self.new }
+        ensures took { Reads (commas_by field_set_tokens) (spans_by field_set_span) (SomeOk is_field_set) self.old result self.new }
         ensures same { Meets (field_set ++ want.more_fields ∷ []) self.old result self.new }
     {
         let mut fields = Items::new(self.alloc);
@@ -475,7 +489,7 @@ impl<'a> Parser<'a> {
     /// id ":" expr
     #[cycle(read_expr)]
     fn field_set(&mut self) -> Result<FieldSet, ParseError>
-        ensures took { Reads field_set_tokens field_set_span (IsOk field_set_ok) self.old result self.new }
+        ensures took { Reads field_set_tokens field_set_span (IsOk is_field_set) self.old result self.new }
         ensures same { Meets field_set self.old result self.new }
     {
         let name = self.name()?;
@@ -560,7 +574,7 @@ impl<'a> Parser<'a> {
     /// "if" expr "{" expr "}" {"else" "if" expr "{" expr "}"}
     #[cycle(read_expr)]
     fn arms(&mut self) -> Result<Items<ExprArm>, ParseError>
-        ensures took { Reads (elses_by expr_arm_tokens) (spans_by expr_arm_span) (SomeOk expr_arm_ok) self.old result self.new }
+        ensures took { Reads (elses_by expr_arm_tokens) (spans_by expr_arm_span) (SomeOk is_expr_arm) self.old result self.new }
         ensures same { Leads (want.word key.If ∷ choice_rest) (want.word key.Else ∷ want.else_rest ∷ []) self.old result self.new }
         ensures ended { OnOk result (is_else_if self.new.1 ≡ false) }
     {
@@ -576,7 +590,7 @@ impl<'a> Parser<'a> {
     /// "if" expr "{" expr "}"
     #[cycle(read_expr)]
     fn arm(&mut self) -> Result<ExprArm, ParseError>
-        ensures took { Reads expr_arm_tokens expr_arm_span (IsOk expr_arm_ok) self.old result self.new }
+        ensures took { Reads expr_arm_tokens expr_arm_span (IsOk is_expr_arm) self.old result self.new }
         ensures same { Meets (want.word key.If ∷ want.expr ∷ braced_expr) self.old result self.new }
     {
         self.key(Key::If)?;

@@ -1,14 +1,14 @@
 ghost use Rattle.std.specs.Prelude.{◌≡◌, ◌<◌, ◌∷◌, ◌++◌, [], true, false, map, OnOk};
 ghost use Rattle.dsde_syntax.specs.Grammar.{block, optional, component_tokens, end_tokens, end_part_tokens, via_tokens, via_key_tokens, item_tokens, item_arm_tokens};
-ghost use Rattle.dsde_syntax.specs.Places.{block_span, written_span, component_span, end_span, end_part_span, via_span, via_key_span, item_span};
-ghost use Rattle.dsde_syntax.specs.Levels.{if_written, is_expr, is_index, is_end, is_via, is_item};
+ghost use Rattle.dsde_syntax.specs.Places.{block_span, written_span, component_span, end_span, end_part_span, via_span, via_key_span, item_span, item_arm_span};
+ghost use Rattle.dsde_syntax.specs.Levels.{if_written, is_expr, is_index, is_end, is_via, is_item, is_item_arm};
 ghost use Rattle.dsde_syntax.specs.declared.token.Key.TheVariants as key;
 ghost use Rattle.dsde_syntax.specs.declared.token.Sign.TheVariants as sign;
 ghost use Rattle.dsde_grammar.specs.Want as want;
 ghost use Rattle.dsde_grammar.specs.Steps.{set, args, block as block_wants, loop_rest, arm_rest};
 ghost use Rattle.dsde_parser.specs.Follows.{Leads, Meets, next_is, begins_item, is_else_if};
 ghost use Rattle.dsde_parser.specs.Took.{Reads, ReadsAll};
-ghost use Rattle.dsde_parser.specs.Parts.{AllOk, SomeOk, IsOk, joined_by, all_by, elses_by, spans_by, is_end_part, is_via_key, made_tokens, made_span, via_names_tokens, via_names_span, via_body_tokens, via_body_span, ends_tokens, ends_span, EndsOk, target_tokens, target_span, last_via_tokens, last_via_span, item_arm_ok, item_arm_span, last_items_tokens, last_items_span, last_items_ok};
+ghost use Rattle.dsde_parser.specs.Parts.{AllOk, SomeOk, IsOk, joined_by, all_by, elses_by, spans_by, is_end_part, is_via_key, made_tokens, made_span, via_names_tokens, via_names_span, via_body_tokens, via_body_span, ends_tokens, ends_span, EndsOk, target_tokens, target_span, last_via_tokens, last_via_span, last_items_tokens, last_items_span, last_items_ok};
 
 use super::{ParseError, Parser};
 use dsde_syntax::{
@@ -267,7 +267,7 @@ impl<'a> Parser<'a> {
     /// "if" expr items {"else" "if" expr items}
     #[cycle(read_item)]
     fn item_arms(&mut self) -> Result<Items<ItemArm>, ParseError>
-        ensures took { Reads (elses_by item_arm_tokens) (spans_by item_arm_span) (SomeOk item_arm_ok) self.old result self.new }
+        ensures took { Reads (elses_by item_arm_tokens) (spans_by item_arm_span) (SomeOk is_item_arm) self.old result self.new }
         ensures same { Leads (want.word key.If ∷ arm_rest want.items want.other_items) (want.other_items ∷ []) self.old result self.new }
         ensures ended { OnOk result (is_else_if self.new.1 ≡ false) }
     {
@@ -283,7 +283,7 @@ impl<'a> Parser<'a> {
     /// "if" expr items
     #[cycle(read_item)]
     fn item_arm(&mut self) -> Result<ItemArm, ParseError>
-        ensures took { Reads item_arm_tokens item_arm_span (IsOk item_arm_ok) self.old result self.new }
+        ensures took { Reads item_arm_tokens item_arm_span (IsOk is_item_arm) self.old result self.new }
         ensures same { Meets (want.word key.If ∷ want.expr ∷ block_wants want.items) self.old result self.new }
     {
         let cond = self.if_cond()?;

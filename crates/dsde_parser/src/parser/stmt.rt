@@ -1,14 +1,14 @@
 ghost use Rattle.std.specs.Prelude.{◌≡◌, ◌<◌, ◌∷◌, [], true, false, map, OnOk};
 ghost use Rattle.dsde_syntax.specs.Grammar.{block, set_tokens, for_tokens, if_tokens, stmt_tokens, stmt_arm_tokens};
-ghost use Rattle.dsde_syntax.specs.Places.{block_span, set_span, for_span, stmt_span};
-ghost use Rattle.dsde_syntax.specs.Levels.{is_expr, is_stmt};
+ghost use Rattle.dsde_syntax.specs.Places.{block_span, set_span, for_span, stmt_span, stmt_arm_span};
+ghost use Rattle.dsde_syntax.specs.Levels.{is_expr, is_stmt, is_stmt_arm};
 ghost use Rattle.dsde_syntax.specs.declared.token.Key.TheVariants as key;
 ghost use Rattle.dsde_syntax.specs.declared.token.Sign.TheVariants as sign;
 ghost use Rattle.dsde_grammar.specs.Want as want;
 ghost use Rattle.dsde_grammar.specs.Steps.{set, block as block_wants, loop_rest, arm_rest};
 ghost use Rattle.dsde_parser.specs.Follows.{Leads, Meets, next_is, begins_stmt, is_else_if};
 ghost use Rattle.dsde_parser.specs.Took.{Reads, ReadsAll};
-ghost use Rattle.dsde_parser.specs.Parts.{AllOk, SomeOk, IsOk, joined_by, all_by, elses_by, spans_by, if_span, stmt_arm_ok, stmt_arm_span, last_stmts_tokens, last_stmts_span, last_stmts_ok};
+ghost use Rattle.dsde_parser.specs.Parts.{AllOk, SomeOk, IsOk, joined_by, all_by, elses_by, spans_by, if_span, last_stmts_tokens, last_stmts_span, last_stmts_ok};
 
 use super::{ParseError, Parser};
 use dsde_syntax::{Expr, Id, Items, Key, Sign, Stmt, StmtArm};
@@ -187,7 +187,7 @@ impl<'a> Parser<'a> {
     /// "if" expr block {"else" "if" expr block}
     #[cycle(read_stmt)]
     fn stmt_arms(&mut self) -> Result<Items<StmtArm>, ParseError>
-        ensures took { Reads (elses_by stmt_arm_tokens) (spans_by stmt_arm_span) (SomeOk stmt_arm_ok) self.old result self.new }
+        ensures took { Reads (elses_by stmt_arm_tokens) (spans_by stmt_arm_span) (SomeOk is_stmt_arm) self.old result self.new }
         ensures same { Leads (want.word key.If ∷ arm_rest want.stmts want.other_stmts) (want.other_stmts ∷ []) self.old result self.new }
         ensures ended { OnOk result (is_else_if self.new.1 ≡ false) }
     {
@@ -203,7 +203,7 @@ impl<'a> Parser<'a> {
     /// "if" expr block
     #[cycle(read_stmt)]
     fn stmt_arm(&mut self) -> Result<StmtArm, ParseError>
-        ensures took { Reads stmt_arm_tokens stmt_arm_span (IsOk stmt_arm_ok) self.old result self.new }
+        ensures took { Reads stmt_arm_tokens stmt_arm_span (IsOk is_stmt_arm) self.old result self.new }
         ensures same { Meets (want.word key.If ∷ want.expr ∷ block_wants want.stmts) self.old result self.new }
     {
         let cond = self.if_cond()?;

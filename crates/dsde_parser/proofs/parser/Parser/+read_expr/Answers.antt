@@ -32,7 +32,7 @@ or_tails-tails-preserved t c =
     let one = taken _ _ _ _ c.takes_key.ensures.took c.if-not-takes_key.false in
     let place = ap (λ (spot : Spot). spot.0) c.self-in-tails.view_is in
     record {
-      took = rw c.in_ok-push.ensures.ok (Took-push _ c.tails.invariant.took (or_tail-Took _ _ one place (rw (← c.into_inner-value.ensures) at c.in_ok-and.ensures.took)));
+      took = rw c.in_ok-push.ensures.ok (Took-push _ c.tails.invariant.took (or_tail-Took _ _ one place (rw (← c.into_inner.ensures) at c.in_ok-value.ensures.took)));
       same = search rules;
     }
 
@@ -41,7 +41,7 @@ and_tails-tails-preserved t c =
     let one = taken _ _ _ _ c.takes_key.ensures.took c.if-not-takes_key.false in
     let place = ap (λ (spot : Spot). spot.0) c.self-in-tails.view_is in
     record {
-      took = rw c.in_ok-push.ensures.ok (Took-push _ c.tails.invariant.took (and_tail-Took _ _ one place (rw (← c.into_inner-value.ensures) at c.in_ok-not.ensures.took)));
+      took = rw c.in_ok-push.ensures.ok (Took-push _ c.tails.invariant.took (and_tail-Took _ _ one place (rw (← c.into_inner.ensures) at c.in_ok-value.ensures.took)));
       same = search rules;
     }
 
@@ -49,7 +49,7 @@ pub sum_tails-tails-preserved : goal.sum_tails-tails-preserved
 sum_tails-tails-preserved t c =
     let place = ap (λ (spot : Spot). spot.0) c.self-in-tails.view_is in
     record {
-      took = rw c.in_ok-push.ensures.ok (Took-push _ c.tails.invariant.took (sum_tail-Took _ _ _ c.in-Some.ensures.took.0 c.in-Some.ensures.took.1 place (rw (← c.into_inner-value.ensures) at c.in_ok-mul.ensures.took)));
+      took = rw c.in_ok-push.ensures.ok (Took-push _ c.tails.invariant.took (sum_tail-Took _ _ _ c.in-Some.ensures.took.0 c.in-Some.ensures.took.1 place (rw (← c.into_inner.ensures) at c.in_ok-value.ensures.took)));
       same = search rules;
     }
 
@@ -57,7 +57,7 @@ pub mul_tails-tails-preserved : goal.mul_tails-tails-preserved
 mul_tails-tails-preserved t c =
     let place = ap (λ (spot : Spot). spot.0) c.self-in-tails.view_is in
     record {
-      took = rw c.in_ok-push.ensures.ok (Took-push _ c.tails.invariant.took (mul_tail-Took _ _ _ c.in-Some.ensures.took.0 c.in-Some.ensures.took.1 place (rw (← c.into_inner-value.ensures) at c.in_ok-neg.ensures.took)));
+      took = rw c.in_ok-push.ensures.ok (Took-push _ c.tails.invariant.took (mul_tail-Took _ _ _ c.in-Some.ensures.took.0 c.in-Some.ensures.took.1 place (rw (← c.into_inner.ensures) at c.in_ok-value.ensures.took)));
       same = search rules;
     }
 

@@ -1,10 +1,10 @@
 -- What is read so far, from the start of the loop on, and a measure that goes down.
 use Rattle.std.proofs.Common.{◌+◌, ◌*◌, length, [], ◌∷◌, ◌++◌}
 use Rattle.dsde_syntax.specs.Grammar.{expr_tokens, expr_arm_tokens, suffix_tokens, field_set_tokens, sign_tail_tokens}
-use Rattle.dsde_syntax.specs.Places.{expr_span}
-use Rattle.dsde_syntax.specs.Levels.{is_expr, stands_at, may_follow, is_sum_sign, is_mul_sign}
+use Rattle.dsde_syntax.specs.Places.{expr_span, expr_arm_span, field_set_span, sign_tail_span, suffix_span, tail_span}
+use Rattle.dsde_syntax.specs.Levels.{is_expr, stands_at, may_follow, is_sum_sign, is_mul_sign, is_expr_arm, is_field_set, is_suffix, sign_tail_level, tail_level}
 use Rattle.dsde_parser.specs.Took.{Took, TookAll}
-use Rattle.dsde_parser.specs.Parts.{AllOk, SomeOk, joined_by, all_by, commas_by, spans_by, elses_by, or_tail_tokens, and_tail_tokens, suffix_ok, suffix_span, expr_arm_ok, expr_arm_span, field_set_ok, field_set_span, sign_tail_own, sign_tail_span, tail_own, tail_span}
+use Rattle.dsde_parser.specs.Parts.{AllOk, SomeOk, joined_by, all_by, commas_by, spans_by, elses_by, or_tail_tokens, and_tail_tokens}
 use Rattle.dsde_syntax.specs.declared.token.Key.TheVariants as key
 use Rattle.dsde_grammar.specs.Want as want
 use Rattle.dsde_grammar.specs.Steps.{exprs, field_set, choice_rest}
@@ -13,31 +13,31 @@ use Rattle.dsde_parser.proofs.parser.Parser.+read_expr.Given as goal
 
 abbrev pub invariant-or_tails-tails : goal.invariant-or_tails-tails
 invariant-or_tails-tails l = record {
-  took : TookAll (joined_by or_tail_tokens) (all_by tail_span) (AllOk (λ tail. stands_at 7 (tail_own tail))) l.fn.self l.self l.tails;
+  took : TookAll (joined_by or_tail_tokens) (all_by tail_span) (AllOk (λ tail. stands_at 7 (tail_level tail))) l.fn.self l.self l.tails;
   same : Led (want.disjuncts ∷ []) (want.disjuncts ∷ []) l.fn.self l.self;
 }
 
 abbrev pub invariant-and_tails-tails : goal.invariant-and_tails-tails
 invariant-and_tails-tails l = record {
-  took : TookAll (joined_by and_tail_tokens) (all_by tail_span) (AllOk (λ tail. stands_at 6 (tail_own tail))) l.fn.self l.self l.tails;
+  took : TookAll (joined_by and_tail_tokens) (all_by tail_span) (AllOk (λ tail. stands_at 6 (tail_level tail))) l.fn.self l.self l.tails;
   same : Led (want.conjuncts ∷ []) (want.conjuncts ∷ []) l.fn.self l.self;
 }
 
 abbrev pub invariant-sum_tails-tails : goal.invariant-sum_tails-tails
 invariant-sum_tails-tails l = record {
-  took : TookAll (joined_by sign_tail_tokens) (all_by sign_tail_span) (AllOk (λ tail. may_follow is_sum_sign 3 (sign_tail_own tail))) l.fn.self l.self l.tails;
+  took : TookAll (joined_by sign_tail_tokens) (all_by sign_tail_span) (AllOk (λ tail. may_follow is_sum_sign 3 (sign_tail_level tail))) l.fn.self l.self l.tails;
   same : Led (want.terms ∷ []) (want.terms ∷ []) l.fn.self l.self;
 }
 
 abbrev pub invariant-mul_tails-tails : goal.invariant-mul_tails-tails
 invariant-mul_tails-tails l = record {
-  took : TookAll (joined_by sign_tail_tokens) (all_by sign_tail_span) (AllOk (λ tail. may_follow is_mul_sign 2 (sign_tail_own tail))) l.fn.self l.self l.tails;
+  took : TookAll (joined_by sign_tail_tokens) (all_by sign_tail_span) (AllOk (λ tail. may_follow is_mul_sign 2 (sign_tail_level tail))) l.fn.self l.self l.tails;
   same : Led (want.factors ∷ []) (want.factors ∷ []) l.fn.self l.self;
 }
 
 abbrev pub invariant-suffixes-suffixes : goal.invariant-suffixes-suffixes
 invariant-suffixes-suffixes l = record {
-  took : TookAll (joined_by suffix_tokens) (all_by suffix_span) (AllOk suffix_ok) l.fn.self l.self l.suffixes;
+  took : TookAll (joined_by suffix_tokens) (all_by suffix_span) (AllOk is_suffix) l.fn.self l.self l.suffixes;
   same : Led (want.suffixes ∷ []) (want.suffixes ∷ []) l.fn.self l.self;
 }
 
@@ -49,13 +49,13 @@ invariant-exprs-exprs l = record {
 
 abbrev pub invariant-some_field_sets-fields : goal.invariant-some_field_sets-fields
 invariant-some_field_sets-fields l = record {
-  took : Took (commas_by field_set_tokens) (spans_by field_set_span) (SomeOk field_set_ok) l.fn.self l.self l.fields;
+  took : Took (commas_by field_set_tokens) (spans_by field_set_span) (SomeOk is_field_set) l.fn.self l.self l.fields;
   same : Led (field_set ++ want.more_fields ∷ []) (want.more_fields ∷ []) l.fn.self l.self;
 }
 
 abbrev pub invariant-arms-arms : goal.invariant-arms-arms
 invariant-arms-arms l = record {
-  took : Took (elses_by expr_arm_tokens) (spans_by expr_arm_span) (SomeOk expr_arm_ok) l.fn.self l.self l.arms;
+  took : Took (elses_by expr_arm_tokens) (spans_by expr_arm_span) (SomeOk is_expr_arm) l.fn.self l.self l.arms;
   same : Led (want.word key.If ∷ choice_rest) (want.word key.Else ∷ want.else_rest ∷ []) l.fn.self l.self;
 }
 

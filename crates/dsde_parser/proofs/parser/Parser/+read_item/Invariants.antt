@@ -1,10 +1,10 @@
 -- What is read so far, from the start of the loop on, and a measure that goes down.
 use Rattle.std.proofs.Common.{◌+◌, ◌*◌, length, [], ◌∷◌}
 use Rattle.dsde_syntax.specs.Grammar.{item_tokens, item_arm_tokens}
-use Rattle.dsde_syntax.specs.Places.{item_span}
-use Rattle.dsde_syntax.specs.Levels.{is_item}
+use Rattle.dsde_syntax.specs.Places.{item_span, item_arm_span}
+use Rattle.dsde_syntax.specs.Levels.{is_item, is_item_arm}
 use Rattle.dsde_parser.specs.Took.{Took, TookAll}
-use Rattle.dsde_parser.specs.Parts.{AllOk, SomeOk, joined_by, all_by, elses_by, spans_by, item_arm_ok, item_arm_span}
+use Rattle.dsde_parser.specs.Parts.{AllOk, SomeOk, joined_by, all_by, elses_by, spans_by}
 use Rattle.dsde_syntax.specs.declared.token.Key.TheVariants as key
 use Rattle.dsde_grammar.specs.Want as want
 use Rattle.dsde_grammar.specs.Steps.{arm_rest}
@@ -22,7 +22,7 @@ decreases-items-items l = length l.self.1
 
 abbrev pub invariant-item_arms-arms : goal.invariant-item_arms-arms
 invariant-item_arms-arms l = record {
-  took : Took (elses_by item_arm_tokens) (spans_by item_arm_span) (SomeOk item_arm_ok) l.fn.self l.self l.arms;
+  took : Took (elses_by item_arm_tokens) (spans_by item_arm_span) (SomeOk is_item_arm) l.fn.self l.self l.arms;
   same : Led (want.word key.If ∷ arm_rest want.items want.other_items) (want.other_items ∷ []) l.fn.self l.self;
 }
 

@@ -1,10 +1,10 @@
 -- What is read so far, from the start of the loop on, and a measure that goes down.
 use Rattle.std.proofs.Common.{◌+◌, ◌*◌, length, [], ◌∷◌}
 use Rattle.dsde_syntax.specs.Grammar.{stmt_tokens, stmt_arm_tokens}
-use Rattle.dsde_syntax.specs.Places.{stmt_span}
-use Rattle.dsde_syntax.specs.Levels.{is_stmt}
+use Rattle.dsde_syntax.specs.Places.{stmt_span, stmt_arm_span}
+use Rattle.dsde_syntax.specs.Levels.{is_stmt, is_stmt_arm}
 use Rattle.dsde_parser.specs.Took.{Took, TookAll}
-use Rattle.dsde_parser.specs.Parts.{AllOk, SomeOk, joined_by, all_by, elses_by, spans_by, stmt_arm_ok, stmt_arm_span}
+use Rattle.dsde_parser.specs.Parts.{AllOk, SomeOk, joined_by, all_by, elses_by, spans_by}
 use Rattle.dsde_syntax.specs.declared.token.Key.TheVariants as key
 use Rattle.dsde_grammar.specs.Want as want
 use Rattle.dsde_grammar.specs.Steps.{arm_rest}
@@ -22,7 +22,7 @@ decreases-stmts-stmts l = length l.self.1
 
 abbrev pub invariant-stmt_arms-arms : goal.invariant-stmt_arms-arms
 invariant-stmt_arms-arms l = record {
-  took : Took (elses_by stmt_arm_tokens) (spans_by stmt_arm_span) (SomeOk stmt_arm_ok) l.fn.self l.self l.arms;
+  took : Took (elses_by stmt_arm_tokens) (spans_by stmt_arm_span) (SomeOk is_stmt_arm) l.fn.self l.self l.arms;
   same : Led (want.word key.If ∷ arm_rest want.stmts want.other_stmts) (want.other_stmts ∷ []) l.fn.self l.self;
 }
 
