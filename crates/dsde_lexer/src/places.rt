@@ -97,38 +97,3 @@ impl Spot {
         }
     }
 }
-
-#[cfg(test)]
-mod tests {
-    use super::*;
-    use crate::lex;
-    use std::test::Fail;
-
-    /// The line and the column of each place of a text.
-    fn shown(alloc: Global, text: &str) -> Result<String, Fail> {
-        let tokens = lex(alloc, text.as_bytes())?;
-        let places = Places::new(alloc, text.as_bytes(), tokens.as_slice())?;
-        let mut shown = String::new(alloc);
-        for at in 0..tokens.len() + 1 {
-            let (line, column) = places.line_column(u32::try_from(at)?);
-            write!(shown, "{line}:{column} ")?;
-        }
-        Ok(shown)
-    }
-
-    #[test]
-    fn finds_lines_and_columns(rt: HostRuntime) -> Result<(), Fail> {
-        for (text, want) in [
-            ("", "1:1 "),
-            ("\n", "2:1 "),
-            ("top", "1:1 1:4 "),
-            ("top A\n", "1:1 1:5 2:1 "),
-            ("a\r\n\n\tb\n", "1:1 3:2 4:1 "),
-            ("# \u{e9}\na # b", "2:1 2:6 "),
-            ("#\u{e9}\n a+|b", "2:2 2:3 2:5 2:6 "),
-        ] {
-            assert_eq!(rt; shown(rt.alloc(), text)?.as_str(), want, "{text}");
-        }
-        Ok(())
-    }
-}

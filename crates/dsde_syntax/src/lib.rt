@@ -23,6 +23,3 @@ pub use token::{GREATEST_NUMBER, Key, Sign, Tok, Token};
 pub use type_name::TypeName;
 pub use unique::one_model;
 pub use writer::tokens_of;
-
-#[cfg(test)]
-mod tests;

@@ -1,4 +1,4 @@
-//! Tests of whole texts, from their bytes to the tree and back.
+//! Tests of the lexer, the parser and the printer, on texts and on trees.
 #![tactic(auto)]
 
 #[cfg(test)]

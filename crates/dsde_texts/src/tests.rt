@@ -1,7 +1,9 @@
 mod declarations;
 mod expressions;
+mod lexing;
 mod models;
 mod nesting;
+mod printing;
 mod statements;
 mod texts;
 mod tokens;
@@ -27,32 +29,32 @@ enum Refusal {
 }
 
 /// Why a text is no model, or `None` where it is one.
-fn refusal_of(rt: &impl Abort, alloc: Global, text: &[u8]) -> Result<Option<Refusal>, Fail> {
+fn refusal_of(alloc: Global, text: &[u8]) -> Result<Option<Refusal>, Fail> {
     let tokens = match lex(alloc, text) {
         Ok(tokens) => tokens,
         Err(LexError::BadByte(at)) => return Ok(Some(Refusal::BadByte(at))),
         Err(LexError::BadNumber(at)) => return Ok(Some(Refusal::BadNumber(at))),
         Err(error) => return Err(error)?,
     };
-    let (at, is_nested) = match parse(alloc, tokens.as_slice()) {
-        Ok(_) => return Ok(None),
-        Err(ParseError::Syntax(at)) => (at, false),
-        Err(ParseError::Nested(at)) => (at, true),
-        Err(error) => return Err(error)?,
-    };
-    assert!(rt; at as usize <= tokens.len());
-    let (line, column) = Places::new(alloc, text, tokens.as_slice())?.line_column(at);
-    Ok(Some(if is_nested {
-        Refusal::Nested(line, column)
-    } else {
-        Refusal::Syntax(line, column)
-    }))
+    let places = Places::new(alloc, text, tokens.as_slice())?;
+    match parse(alloc, tokens.as_slice()) {
+        Ok(_) => Ok(None),
+        Err(ParseError::Syntax(at)) => {
+            let (line, column) = places.line_column(at);
+            Ok(Some(Refusal::Syntax(line, column)))
+        }
+        Err(ParseError::Nested(at)) => {
+            let (line, column) = places.line_column(at);
+            Ok(Some(Refusal::Nested(line, column)))
+        }
+        Err(error) => Err(error)?,
+    }
 }
 
 /// Compares where each text is refused, as a line and a column, since no model goes on like this.
 fn refuses(rt: &impl Abort, alloc: Global, cases: &[(&str, u32, u32)]) -> Result<(), Fail> {
     for &(text, line, column) in cases {
-        let got = refusal_of(rt, alloc, text.as_bytes())?;
+        let got = refusal_of(alloc, text.as_bytes())?;
         assert_eq!(rt; got, Some(Refusal::Syntax(line, column)), "{text}");
     }
     Ok(())

@@ -64,7 +64,7 @@ fn prints_short_texts(rt: HostRuntime) -> Result<(), Fail> {
 
 #[test]
 fn refuses_a_colon_for_is(rt: HostRuntime) -> Result<(), Fail> {
-    let got = refusal_of(&rt, rt.alloc(), SOFT_ENTRY)?;
+    let got = refusal_of(rt.alloc(), SOFT_ENTRY)?;
     assert_eq!(rt; got, Some(Refusal::Syntax(13, 27)));
     Ok(())
 }

@@ -361,7 +361,7 @@ fn refuses_one_bracket_more(rt: HostRuntime) -> Result<(), Fail> {
     for (nest, most, column) in NESTS {
         assert!(rt; most < 300);
         let text = nest.text(rt.alloc(), most + 1)?;
-        let got = refusal_of(&rt, rt.alloc(), text.as_bytes())?;
+        let got = refusal_of(rt.alloc(), text.as_bytes())?;
         assert_eq!(rt; got, Some(Refusal::Nested(1, column)), "{}", nest.open);
     }
     Ok(())
@@ -400,7 +400,7 @@ fn refuses_the_first_offence(rt: HostRuntime) -> Result<(), Fail> {
             behind: "",
         };
         let text = nest.text(rt.alloc(), times)?;
-        let got = refusal_of(&rt, rt.alloc(), text.as_bytes())?;
+        let got = refusal_of(rt.alloc(), text.as_bytes())?;
         assert_eq!(rt; got, Some(want), "{front} {open} {behind}");
     }
     Ok(())

@@ -22,7 +22,7 @@ fn refuses_bytes_and_numbers(rt: HostRuntime) -> Result<(), Fail> {
         ("} ; top $ 12x", Refusal::BadByte(8)),
         ("} ; top 12x $", Refusal::BadNumber(8)),
     ] {
-        let got = refusal_of(&rt, rt.alloc(), text.as_bytes())?;
+        let got = refusal_of(rt.alloc(), text.as_bytes())?;
         assert_eq!(rt; got, Some(want), "{text}");
     }
     Ok(())
@@ -39,7 +39,7 @@ fn counts_lines_and_bytes(rt: HostRuntime) -> Result<(), Fail> {
         ("# \u{e9}\n\t}", 2, 2),
         ("\n\n  top A(\n  1,\n  );", 5, 3),
     ] {
-        let got = refusal_of(&rt, rt.alloc(), text.as_bytes())?;
+        let got = refusal_of(rt.alloc(), text.as_bytes())?;
         assert_eq!(rt; got, Some(Refusal::Syntax(line, column)), "{text}");
     }
     Ok(())

@@ -1,4 +1,9 @@
-use crate::*;
+//! Trees that are built by hand, and the text that is printed of each.
+
+use dsde_syntax::{
+    Body, Boxed, Decl, Expr, ExprArm, GREATEST_NUMBER, Id, Items, Key, Model, TypeName, Word,
+    print_model, tokens_of,
+};
 use std::alloc::Global;
 use std::process::Abort;
 use std::test::Fail;
