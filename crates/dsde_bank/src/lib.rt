@@ -8,6 +8,3 @@ mod handle;
 pub use bank::Bank;
 pub use batch::Batch;
 pub use handle::Handle;
-
-#[cfg(test)]
-mod tests;

@@ -5,7 +5,5 @@ mod grove;
 mod growth;
 mod part;
 mod subtree;
-#[cfg(test)]
-mod tests;
 
 pub use grove::{Grove, GrowEnd};

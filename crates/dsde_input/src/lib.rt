@@ -8,6 +8,3 @@ mod reader;
 
 pub use end::InputEnd;
 pub use reader::InputReader;
-
-#[cfg(test)]
-mod tests;

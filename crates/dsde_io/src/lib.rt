@@ -26,6 +26,3 @@ pub use sink::{Sink, SinkEnd, write_all};
 pub use source::{Failed, Source};
 pub use stored::Stored;
 pub use stream::{StreamSink, StreamSource};
-
-#[cfg(test)]
-mod tests;

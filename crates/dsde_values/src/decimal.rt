@@ -33,26 +33,3 @@ pub fn signed_decimal_of(text: &[u8]) -> Option<i64>
     let is_spelled = Buffer::new().format(number).as_bytes() == text;
     is_spelled.then_some(number)
 }
-
-#[cfg(test)]
-mod tests {
-    use super::*;
-
-    #[test]
-    fn reads_decimals(rt: HostRuntime) {
-        for (text, want) in [
-            ("0", Some(0)),
-            ("907", Some(907)),
-            ("18446744073709551615", Some(u64::MAX)),
-            ("18446744073709551616", None),
-            ("07", None),
-            ("-0", None),
-            ("+7", None),
-            ("7 ", None),
-            ("", None),
-            ("\u{e9}", None),
-        ] {
-            assert_eq!(rt; decimal_of(text.as_bytes()), want, "{text}");
-        }
-    }
-}

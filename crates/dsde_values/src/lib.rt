@@ -10,8 +10,6 @@ mod name;
 mod path;
 mod reading;
 mod spelling;
-#[cfg(test)]
-mod tests;
 mod types;
 mod typing;
 mod value;

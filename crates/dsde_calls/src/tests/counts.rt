@@ -1,29 +1,22 @@
+//! Counts of steps.
+
 ghost use Rattle.std.specs.Prelude.{◌≡◌, ◌<◌};
 
-use crate::Steps;
+use dsde_base::Steps;
 use std::marker::Brand;
 use std::mem::size_of;
 use std::sync::ledger::{Blank, Ledger};
 
-fn three_steps<L: Ledger>(blank: Blank) -> Steps<L>
-    requires name { blank.name ≡ L.name }
-    requires parts { blank.parts ≡ L.parts }
-    requires backed { 0 < blank.parts }
-    ensures { result ≡ 3 }
-{
-    let mut steps = Steps::new(blank);
-    steps.tick();
-    steps.tick();
-    steps.tick();
-    steps
-}
-
+/// How many bytes a count takes after three steps.
 fn size_after_steps<L: Ledger>(blank: Blank) -> usize
     requires name { blank.name ≡ L.name }
     requires parts { blank.parts ≡ L.parts }
     requires backed { 0 < blank.parts }
 {
-    let _steps = three_steps::<L>(blank);
+    let mut steps = Steps::<L>::new(blank);
+    for _ in 0..3 {
+        steps.tick();
+    }
     size_of::<Steps<L>>()
 }
 
