@@ -9,8 +9,8 @@ use Rattle.dsde_syntax.specs.declared.expr.Expr.{Expr}
 use Rattle.dsde_syntax.specs.Grammar.{Tokens, word, mark, joined, elses, else_block, set_tokens, for_tokens, if_tokens}
 use Rattle.dsde_syntax.specs.Grammar.{block as block_tokens}
 use Rattle.dsde_syntax.specs.Levels.{is_expr}
-use Rattle.dsde_syntax.proofs.ExprReaders.{is_if}
-use Rattle.dsde_syntax.proofs.StmtReads.{no_else, first-arm}
+use Rattle.dsde_grammar.proofs.ExprReaders.{is_if}
+use Rattle.dsde_grammar.proofs.StmtReads.{no_else, first-arm}
 use Rattle.dsde_grammar.specs.Want.{Want}
 use Rattle.dsde_grammar.specs.Want as want
 use Rattle.dsde_grammar.specs.Steps.{Wants, stop, set, block}

@@ -22,8 +22,8 @@ use Rattle.dsde_syntax.specs.declared.decl.Body.{Body}
 use Rattle.dsde_syntax.specs.declared.decl.Phase.{Phase}
 use Rattle.dsde_syntax.specs.Grammar.{Tokens, word, mark, id_tokens, joined, commas, in_braces, type_tokens, stmt_tokens, typed_tokens, params_tokens, port_tokens, state_tokens, phase_tokens, phases_tokens, body_tokens, result_tokens, exec_tokens, decl_tokens, tokens_of}
 use Rattle.dsde_syntax.specs.Levels.{is_expr, is_stmt, is_item, is_phase, is_state, is_body, is_decl, has_levels}
-use Rattle.dsde_syntax.proofs.ListReads.{and-true}
-use Rattle.dsde_syntax.proofs.StmtReads.{no_else, false-true}
+use Rattle.dsde_grammar.proofs.ListReads.{and-true}
+use Rattle.dsde_grammar.proofs.StmtReads.{no_else, false-true}
 use Rattle.dsde_grammar.specs.Want.{Want}
 use Rattle.dsde_grammar.specs.Want as want
 use Rattle.dsde_grammar.specs.Steps.{Wants, stop, start, typed, params, block, body, executive, network_body, function_body}

@@ -22,9 +22,9 @@ use Rattle.dsde_syntax.specs.declared.item.Item.TheFolds.{map-Item, map-ItemArm,
 use Rattle.dsde_syntax.specs.Grammar.{Tokens, word, mark, id_tokens, elses, optional, expr_tokens, args_tokens, set_tokens, for_tokens, if_tokens, else_block, bracket_tokens, component_tokens, end_part_tokens, end_tokens, via_key_tokens, via_tokens, link_tokens, item_step, item_arm_step, item_tokens, item_arm_tokens}
 use Rattle.dsde_syntax.specs.Grammar.{block as block_tokens}
 use Rattle.dsde_syntax.specs.Levels.{has_first, all_hold, if_written, is_expr, is_index, is_end, is_via, is_item_step, is_item_arm_step, is_item, is_item_arm}
-use Rattle.dsde_syntax.proofs.ExprReaders.{stops, is_if}
-use Rattle.dsde_syntax.proofs.ListReads.{and-true}
-use Rattle.dsde_syntax.proofs.StmtReads.{no_else, first-arm, false-true}
+use Rattle.dsde_grammar.proofs.ExprReaders.{stops, is_if}
+use Rattle.dsde_grammar.proofs.ListReads.{and-true}
+use Rattle.dsde_grammar.proofs.StmtReads.{no_else, first-arm, false-true}
 use Rattle.dsde_grammar.specs.Want as want
 use Rattle.dsde_grammar.specs.Steps.{Wants, stop, args}
 use Rattle.dsde_grammar.proofs.Leading.{any, Leads, AllLead, AllFrom, take, takes, last, lasts, closed, pair, beside, fewer, left, passed}

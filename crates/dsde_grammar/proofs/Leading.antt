@@ -4,7 +4,7 @@ use Rattle.std.proofs.Common.{◌≡◌, ℕ, ◌+◌, Bool, true, false, List, 
 use Rattle.std.specs.Prelude.{flat_map}
 use Rattle.dsde_syntax.specs.declared.token.Tok.{Tok}
 use Rattle.dsde_syntax.specs.Grammar.{Tokens, joined}
-use Rattle.dsde_syntax.proofs.ListReads.{flat_map-joined}
+use Rattle.dsde_grammar.proofs.ListReads.{flat_map-joined}
 use Rattle.dsde_grammar.specs.Want.{Want}
 use Rattle.dsde_grammar.specs.Steps.{Wants, Step, go, pass, halt, step, may_end, onward, behind, stop}
 

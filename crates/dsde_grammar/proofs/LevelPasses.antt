@@ -9,8 +9,8 @@ use Rattle.dsde_syntax.specs.declared.token.Sign.{Sign}
 use Rattle.dsde_syntax.specs.declared.token.Sign.TheVariants as sign
 use Rattle.dsde_syntax.specs.Grammar.{Tokens, joined}
 use Rattle.dsde_syntax.specs.Levels.{level_if, stands_at}
-use Rattle.dsde_syntax.proofs.ExprReaders.{continues, stops, goes_on, begin_of}
-use Rattle.dsde_syntax.proofs.LevelReads.{goes_on-stops}
+use Rattle.dsde_grammar.proofs.ExprReaders.{continues, stops, goes_on, begin_of}
+use Rattle.dsde_grammar.proofs.LevelReads.{goes_on-stops}
 use Rattle.dsde_grammar.specs.Want.{Want}
 use Rattle.dsde_grammar.specs.Want as want
 use Rattle.dsde_grammar.specs.Steps.{Wants, post_wants, neg_wants, mul_wants, sum_wants, cmp_wants, not_wants, and_wants, or_wants, expr_wants, stop}

@@ -1,3 +1,14 @@
+pub mod Reading
+pub mod ExprReaders
+pub mod TypeReads
+pub mod LevelReads
+pub mod ListReads
+pub mod OperatorReads
+pub mod PrimReads
+pub mod ExprCases
+pub mod StmtReads
+pub mod ItemReads
+pub mod DeclReads
 pub mod Leading
 pub mod LevelPasses
 pub mod OperatorPasses

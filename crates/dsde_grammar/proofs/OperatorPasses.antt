@@ -14,9 +14,9 @@ use Rattle.dsde_syntax.specs.declared.expr.SignTail.{SignTail}
 use Rattle.dsde_syntax.specs.declared.expr.Tail.{Tail}
 use Rattle.dsde_syntax.specs.Grammar.{Tokens, joined, word, mark, suffix_tokens, sign_tail_tokens, tail_tokens}
 use Rattle.dsde_syntax.specs.Levels.{level_if, stands_at, has_first, all_hold, may_follow, is_comparison, is_sum_sign, is_mul_sign, is_suffix, sign_tail_level, tail_level}
-use Rattle.dsde_syntax.proofs.ExprReaders.{continues, stops, sign_continues, begin_of}
-use Rattle.dsde_syntax.proofs.LevelReads.{goes_on-stops, stops-less}
-use Rattle.dsde_syntax.proofs.ListReads.{and-true, flat_map-joined}
+use Rattle.dsde_grammar.proofs.ExprReaders.{continues, stops, sign_continues, begin_of}
+use Rattle.dsde_grammar.proofs.LevelReads.{goes_on-stops, stops-less}
+use Rattle.dsde_grammar.proofs.ListReads.{and-true, flat_map-joined}
 use Rattle.dsde_grammar.specs.Want.{Want}
 use Rattle.dsde_grammar.specs.Want as want
 use Rattle.dsde_grammar.specs.Steps.{Wants, Step, go, go_if, optional, repeated, onward, behind, step, stop, mul_wants, neg_wants, sum_wants}

@@ -16,8 +16,8 @@ use Rattle.dsde_syntax.specs.declared.expr.FieldSet.{FieldSet}
 use Rattle.dsde_syntax.specs.Grammar.{Tokens, word, mark, id_tokens, commas, elses, in_parens, in_brackets, in_braces, in_angles, truth_tokens, type_tokens, expr_tokens, expr_arm_tokens, field_set_tokens}
 use Rattle.dsde_syntax.specs.Grammar.{optional as optional_tokens}
 use Rattle.dsde_syntax.specs.Levels.{level_if, stands_at, has_first, all_hold, if_written, is_builtin, level_of, is_expr_arm, is_field_set}
-use Rattle.dsde_syntax.proofs.ExprReaders.{stops, begin_of, begins_expr, is_if}
-use Rattle.dsde_syntax.proofs.ListReads.{and-true}
+use Rattle.dsde_grammar.proofs.ExprReaders.{stops, begin_of, begins_expr, is_if}
+use Rattle.dsde_grammar.proofs.ListReads.{and-true}
 use Rattle.dsde_grammar.specs.Want.{Want}
 use Rattle.dsde_grammar.specs.Want as want
 use Rattle.dsde_grammar.specs.Steps.{Wants, stop, args, field_set}

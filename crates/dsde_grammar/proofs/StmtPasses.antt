@@ -15,9 +15,9 @@ use Rattle.dsde_syntax.specs.declared.stmt.Stmt.TheFolds.{map-Stmt, map-StmtArm,
 use Rattle.dsde_syntax.specs.Grammar.{Tokens, word, mark, id_tokens, elses, optional, in_parens, expr_tokens, let_tokens, set_tokens, for_tokens, if_tokens, else_block, stmt_step, stmt_arm_step, stmt_tokens, stmt_arm_tokens}
 use Rattle.dsde_syntax.specs.Grammar.{block as block_tokens}
 use Rattle.dsde_syntax.specs.Levels.{has_first, all_hold, if_written, is_expr, is_stmt_step, is_stmt_arm_step, is_stmt, is_stmt_arm}
-use Rattle.dsde_syntax.proofs.ExprReaders.{is_if}
-use Rattle.dsde_syntax.proofs.ListReads.{and-true}
-use Rattle.dsde_syntax.proofs.StmtReads.{no_else, first-arm, false-true}
+use Rattle.dsde_grammar.proofs.ExprReaders.{is_if}
+use Rattle.dsde_grammar.proofs.ListReads.{and-true}
+use Rattle.dsde_grammar.proofs.StmtReads.{no_else, first-arm, false-true}
 use Rattle.dsde_grammar.specs.Want as want
 use Rattle.dsde_grammar.specs.Steps.{Wants, stop}
 use Rattle.dsde_grammar.proofs.Leading.{any, Leads, AllLead, AllFrom, take, takes, closed, beside, fewer, passed}

@@ -1,13 +1,13 @@
 use crate::{Expr, Id, Item, Items, Stmt, TypeName};
 
 /// A file of the language.
-#[derive(Debug, Drop)]
+#[derive(Drop)]
 pub struct Model {
     pub decls: Items<Decl>,
 }
 
 /// A declaration of a file.
-#[derive(Debug, Drop)]
+#[derive(Drop)]
 pub enum Decl {
     /// `enum name { variants }`
     Enum {
@@ -54,14 +54,14 @@ pub enum Decl {
 }
 
 /// `name: ty`
-#[derive(Debug, Drop)]
+#[derive(Drop)]
 pub struct Typed {
     pub name: Id,
     pub ty: TypeName,
 }
 
 /// `in name: ty;`, or `out name: ty;`
-#[derive(Debug, Drop)]
+#[derive(Drop)]
 pub struct PortDecl {
     pub out: bool,
     pub name: Id,
@@ -69,7 +69,7 @@ pub struct PortDecl {
 }
 
 /// `state name: ty = value;`
-#[derive(Debug, Drop)]
+#[derive(Drop)]
 pub struct StateDecl {
     pub name: Id,
     pub ty: TypeName,
@@ -77,7 +77,7 @@ pub struct StateDecl {
 }
 
 /// What stands in the braces of an atomic model or of an executive.
-#[derive(Debug, Drop)]
+#[derive(Drop)]
 pub struct Body {
     pub ports: Items<PortDecl>,
     pub states: Items<StateDecl>,
@@ -91,7 +91,7 @@ pub struct Body {
 }
 
 /// The block of one of the phases, with the place of the phase's word.
-#[derive(Debug, Drop)]
+#[derive(Drop)]
 pub struct Phase {
     pub at: u32,
     pub stmts: Items<Stmt>,

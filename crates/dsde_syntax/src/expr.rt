@@ -2,7 +2,7 @@ use crate::{Boxed, Id, Items, Key, Sign, TypeName};
 
 /// An expression. A chain of operators of one level groups to the left.
 #[cycle(expr)]
-#[derive(Debug, Drop)]
+#[derive(Drop)]
 pub enum Expr {
     /// `left ?? right`, with the place of `??`.
     OrElse {
@@ -127,7 +127,7 @@ pub enum Expr {
 
 /// `or value` or `and value`, with the place of the word.
 #[cycle(expr)]
-#[derive(Debug, Drop)]
+#[derive(Drop)]
 pub struct Tail {
     pub at: u32,
     pub value: Expr,
@@ -135,7 +135,7 @@ pub struct Tail {
 
 /// A sign and what stands behind it, with the place of the sign.
 #[cycle(expr)]
-#[derive(Debug, Drop)]
+#[derive(Drop)]
 pub struct SignTail {
     pub sign: Sign,
     pub at: u32,
@@ -144,7 +144,7 @@ pub struct SignTail {
 
 /// What stands behind a primary expression, with the place of its sign.
 #[cycle(expr)]
-#[derive(Debug, Drop)]
+#[derive(Drop)]
 pub enum Suffix {
     /// `.name`
     Field { at: u32, name: Id },
@@ -156,7 +156,7 @@ pub enum Suffix {
 
 /// `name: value` in a new record.
 #[cycle(expr)]
-#[derive(Debug, Drop)]
+#[derive(Drop)]
 pub struct FieldSet {
     pub name: Id,
     pub value: Expr,
@@ -164,7 +164,7 @@ pub struct FieldSet {
 
 /// `if cond { value }`
 #[cycle(expr)]
-#[derive(Debug, Drop)]
+#[derive(Drop)]
 pub struct ExprArm {
     pub cond: Expr,
     pub value: Expr,

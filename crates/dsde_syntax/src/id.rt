@@ -1,7 +1,7 @@
 use crate::Word;
 
 /// An identifier where it stands.
-#[derive(Debug, Drop)]
+#[derive(Drop)]
 pub struct Id {
     pub name: Word,
     /// The place of its token.

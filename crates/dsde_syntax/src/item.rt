@@ -2,7 +2,7 @@ use crate::{Expr, Id, Items};
 
 /// An item of a network's structure.
 #[cycle(item)]
-#[derive(Debug, Drop)]
+#[derive(Drop)]
 pub enum Item {
     /// `comp name[index] is model(args);`, with the place of `comp`.
     Comp {
@@ -39,28 +39,28 @@ pub enum Item {
 
 /// `if cond { body }`
 #[cycle(item)]
-#[derive(Debug, Drop)]
+#[derive(Drop)]
 pub struct ItemArm {
     pub cond: Expr,
     pub body: Items<Item>,
 }
 
 /// `[value]`, with the place of `[`.
-#[derive(Debug, Drop)]
+#[derive(Drop)]
 pub struct Bracket {
     pub at: u32,
     pub value: Expr,
 }
 
 /// `part.port`, an end of a link.
-#[derive(Debug, Drop)]
+#[derive(Drop)]
 pub struct End {
     pub part: EndPart,
     pub port: Id,
 }
 
 /// Whose port an end of a link is.
-#[derive(Debug, Drop)]
+#[derive(Drop)]
 pub enum EndPart {
     /// The network's own.
     Net,
@@ -71,7 +71,7 @@ pub enum EndPart {
 }
 
 /// `via (value, key) => body`, the translation of a link's values.
-#[derive(Debug, Drop)]
+#[derive(Drop)]
 pub struct ViaPart {
     pub value: Id,
     pub key: Option<ViaKey>,
@@ -79,7 +79,7 @@ pub struct ViaPart {
 }
 
 /// `name = value`, a name that a translation sees beside the value it translates.
-#[derive(Debug, Drop)]
+#[derive(Drop)]
 pub struct ViaKey {
     pub name: Id,
     pub value: Expr,

@@ -9,7 +9,6 @@ mod print;
 mod stmt;
 mod token;
 mod type_name;
-mod unique;
 mod writer;
 
 pub use decl::{Body, Decl, Model, Phase, PortDecl, StateDecl, Typed};
@@ -21,5 +20,4 @@ pub use print::print_model;
 pub use stmt::{Stmt, StmtArm};
 pub use token::{GREATEST_NUMBER, Key, Sign, Tok, Token};
 pub use type_name::TypeName;
-pub use unique::one_model;
 pub use writer::tokens_of;

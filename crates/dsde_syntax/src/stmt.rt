@@ -2,7 +2,7 @@ use crate::{Expr, Id, Items};
 
 /// A statement of a block.
 #[cycle(stmt)]
-#[derive(Debug, Drop)]
+#[derive(Drop)]
 pub enum Stmt {
     /// `let name = value;`, or `var name = value;` where it may be assigned to.
     Let {
@@ -35,7 +35,7 @@ pub enum Stmt {
 
 /// `if cond { body }`
 #[cycle(stmt)]
-#[derive(Debug, Drop)]
+#[derive(Drop)]
 pub struct StmtArm {
     pub cond: Expr,
     pub body: Items<Stmt>,

@@ -7,7 +7,7 @@ use dsde_lists::Text as Word;
 pub const GREATEST_NUMBER: u64 = 9_223_372_036_854_775_807;
 
 /// A token of a text, and where it stands.
-#[derive(Debug, Drop)]
+#[derive(Drop)]
 pub struct Token {
     pub tok: Tok,
     /// The offset of its first byte.
@@ -17,7 +17,7 @@ pub struct Token {
 }
 
 /// The smallest parts of a text that mean something.
-#[derive(Debug, Drop)]
+#[derive(Drop)]
 pub enum Tok {
     Key(Key),
     Sign(Sign),

@@ -1,7 +1,7 @@
 use crate::{Boxed, Id};
 
 /// A type as it is written. The number is the place of its first token.
-#[derive(Debug, Drop)]
+#[derive(Drop)]
 pub enum TypeName {
     Int(u32),
     Bool(u32),

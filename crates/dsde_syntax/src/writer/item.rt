@@ -1,8 +1,10 @@
 ghost use Rattle.std.specs.Prelude.{◌≡◌, ◌++◌, map, OnOk};
-ghost use Rattle.dsde_syntax.specs.Grammar.{elses, block, else_block, optional, in_parens, id_tokens, component_tokens, end_part_tokens, end_tokens, link_tokens, via_key_tokens, via_tokens, item_tokens, item_arm_tokens};
+ghost use Rattle.dsde_syntax.specs.Grammar.{word, mark, elses, block, else_block, optional, in_parens, id_tokens, args_tokens, set_tokens, component_tokens, end_part_tokens, end_tokens, link_tokens, via_key_tokens, via_tokens, item_tokens, item_arm_tokens};
+ghost use Rattle.dsde_syntax.specs.declared.token.Key.TheVariants as key;
+ghost use Rattle.dsde_syntax.specs.declared.token.Sign.TheVariants as sign;
 
 use super::Writer;
-use crate::{Bracket, End, EndPart, Id, Item, ItemArm, Key, Memory, Sign, ViaKey, ViaPart};
+use crate::{Bracket, End, EndPart, Expr, Id, Item, ItemArm, Key, Memory, Sign, ViaKey, ViaPart};
 
 impl Writer {
     /// `name[index]`, or `name` alone.
@@ -82,6 +84,31 @@ impl Writer {
         self.sign(Sign::Semicolon)
     }
 
+    /// `comp name[index] is model(args);`
+    fn comp(
+        &mut self,
+        name: &Id,
+        index: &Option<Bracket>,
+        model: &Id,
+        args: &[Expr],
+    ) -> Result<(), Memory>
+        ensures { OnOk result (self.new ≡ self.old ++ (word key.Comp ++ component_tokens name.now index.now ++ word key.Is ++ id_tokens model.now ++ args_tokens args.now ++ mark sign.Semicolon)) }
+    {
+        self.word(Key::Comp)?;
+        self.component(name, index)?;
+        self.word(Key::Is)?;
+        self.call(model, args)?;
+        self.sign(Sign::Semicolon)
+    }
+
+    /// `let name = value;`
+    fn let_item(&mut self, name: &Id, value: &Expr) -> Result<(), Memory>
+        ensures { OnOk result (self.new ≡ self.old ++ (word key.Let ++ set_tokens name.now value.now)) }
+    {
+        self.word(Key::Let)?;
+        self.set(name, value)
+    }
+
     #[cycle(write_item)]
     fn item(&mut self, item: &Item) -> Result<(), Memory>
         ensures { OnOk result (self.new ≡ self.old ++ item_tokens item.now) }
@@ -93,18 +120,9 @@ impl Writer {
                 model,
                 args,
                 ..
-            } => {
-                self.word(Key::Comp)?;
-                self.component(name, index)?;
-                self.word(Key::Is)?;
-                self.call(model, args.as_slice())?;
-                self.sign(Sign::Semicolon)
-            }
+            } => self.comp(name, index, model, args.as_slice()),
             Item::Link { from, to, via, .. } => self.link(from, to, via),
-            Item::Let { name, value } => {
-                self.word(Key::Let)?;
-                self.set(name, value)
-            }
+            Item::Let { name, value } => self.let_item(name, value),
             Item::If { arms, other } => {
                 self.item_arms(arms.as_slice())?;
                 match other {

@@ -1,5 +1,7 @@
 ghost use Rattle.std.specs.Prelude.{◌≡◌, ◌++◌, map, OnOk};
-ghost use Rattle.dsde_syntax.specs.Grammar.{joined, elses, block, else_block, let_tokens, set_tokens, if_tokens, stmt_tokens, stmt_arm_tokens};
+ghost use Rattle.dsde_syntax.specs.Grammar.{word, mark, id_tokens, joined, elses, in_parens, block, else_block, expr_tokens, let_tokens, set_tokens, if_tokens, stmt_tokens, stmt_arm_tokens};
+ghost use Rattle.dsde_syntax.specs.declared.token.Key.TheVariants as key;
+ghost use Rattle.dsde_syntax.specs.declared.token.Sign.TheVariants as sign;
 
 use super::Writer;
 use crate::{Expr, Id, Key, Memory, Sign, Stmt, StmtArm};
@@ -30,6 +32,24 @@ impl Writer {
         self.expr(cond)
     }
 
+    /// `let name = value;`, or `var name = value;`
+    fn let_stmt(&mut self, mutable: bool, name: &Id, value: &Expr) -> Result<(), Memory>
+        ensures { OnOk result (self.new ≡ self.old ++ (let_tokens mutable ++ set_tokens name.now value.now)) }
+    {
+        self.let_word(mutable)?;
+        self.set(name, value)
+    }
+
+    /// `send port(value);`
+    fn send(&mut self, port: &Id, value: &Expr) -> Result<(), Memory>
+        ensures { OnOk result (self.new ≡ self.old ++ (word key.Send ++ id_tokens port.now ++ in_parens (expr_tokens value.now) ++ mark sign.Semicolon)) }
+    {
+        self.word(Key::Send)?;
+        self.id(port)?;
+        self.expr_in_parens(value)?;
+        self.sign(Sign::Semicolon)
+    }
+
     #[cycle(write_stmt)]
     fn stmt(&mut self, stmt: &Stmt) -> Result<(), Memory>
         ensures { OnOk result (self.new ≡ self.old ++ stmt_tokens stmt.now) }
@@ -39,17 +59,9 @@ impl Writer {
                 mutable,
                 name,
                 value,
-            } => {
-                self.let_word(*mutable)?;
-                self.set(name, value)
-            }
+            } => self.let_stmt(*mutable, name, value),
             Stmt::Set { name, value } => self.set(name, value),
-            Stmt::Send { port, value } => {
-                self.word(Key::Send)?;
-                self.id(port)?;
-                self.expr_in_parens(value)?;
-                self.sign(Sign::Semicolon)
-            }
+            Stmt::Send { port, value } => self.send(port, value),
             Stmt::If { arms, other } => {
                 self.stmt_arms(arms.as_slice())?;
                 match other {

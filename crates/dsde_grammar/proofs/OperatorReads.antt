@@ -1,9 +1,8 @@
 -- Expressions of operators are read.
-use Rattle.std.proofs.Common.{◌≡◌, ℕ, zero, suc, ◌+◌, ◌≤◌, Bool, true, false, not, ◌&&◌, List, [], ◌∷◌, ◌++◌, map, Option, Some, None, refl, sym, ap, subst, ◌∙◌, arith, append_assoc}
+use Rattle.std.proofs.Common.{◌≡◌, ℕ, ◌≤◌, Bool, true, false, ◌&&◌, List, [], ◌∷◌, ◌++◌, map, refl, subst, ◌∙◌, arith, append_assoc}
 use Rattle.std.specs.Prelude.{flat_map, ◌==◌}
 use Rattle.std.specs.List.{list_all}
 use Rattle.std.proofs.lemmas.Bool.Decides.{Decides-eqb}
-use Rattle.dsde_syntax.specs.declared.token.Tok.{Tok}
 use Rattle.dsde_syntax.specs.declared.token.Tok.TheVariants as tok
 use Rattle.dsde_syntax.specs.declared.token.Key.{Key}
 use Rattle.dsde_syntax.specs.declared.token.Key.TheVariants as key
@@ -13,15 +12,15 @@ use Rattle.dsde_syntax.specs.declared.expr.Expr.{Expr}
 use Rattle.dsde_syntax.specs.declared.expr.Suffix.{Suffix}
 use Rattle.dsde_syntax.specs.declared.expr.SignTail.{SignTail}
 use Rattle.dsde_syntax.specs.declared.expr.Tail.{Tail}
-use Rattle.dsde_syntax.specs.declared.expr.Expr.TheOpen.{Expr-F, Suffix-F, SignTail-F, Tail-F}
-use Rattle.dsde_syntax.specs.declared.expr.Expr.TheViews.{roll-Expr, roll-Suffix, roll-SignTail, roll-Tail}
+use Rattle.dsde_syntax.specs.declared.expr.Expr.TheOpen.{Expr-F}
+use Rattle.dsde_syntax.specs.declared.expr.Expr.TheViews.{roll-Expr, roll-SignTail, roll-Tail}
 use Rattle.dsde_syntax.specs.Grammar.{Tokens, joined, word, mark, suffix_tokens, sign_tail_tokens, tail_tokens}
 use Rattle.dsde_syntax.specs.Places.{Span, ◌>>◌, token_at, all_spans, sign_tail_span, suffix_span, tail_span}
 use Rattle.dsde_syntax.specs.Levels.{level_if, stands_at, has_first, all_hold, may_follow, is_comparison, is_sum_sign, is_mul_sign, is_suffix, sign_tail_level, tail_level}
-use Rattle.dsde_syntax.proofs.Reading.{Reader, Reads, AllRead, any, pair, pair-Reads, made-Reads, fewer-Reads, either-first, maybe-some, left-Reads, place-Reads, sign-Reads}
-use Rattle.dsde_syntax.proofs.ExprReaders.{continues, stops, goes_on, sign_continues, begin_of, level, suffix, sign_tail, tail, compared, or_else, read_expr, post_of, mul_of, sum_of, and_of, or_of}
-use Rattle.dsde_syntax.proofs.LevelReads.{ExprReads, if-ExprReads, StandsAt, stands, chain-some, goes_on-stops, stops-less}
-use Rattle.dsde_syntax.proofs.ListReads.{and-true, flat_map-joined}
+use Rattle.dsde_grammar.proofs.Reading.{Reads, AllRead, any, pair-Reads, made-Reads, fewer-Reads, either-first, maybe-some, left-Reads, place-Reads, sign-Reads}
+use Rattle.dsde_grammar.proofs.ExprReaders.{continues, stops, goes_on, sign_continues, begin_of, level, suffix, sign_tail, tail, compared, or_else, read_expr, post_of, mul_of, sum_of, and_of, or_of}
+use Rattle.dsde_grammar.proofs.LevelReads.{ExprReads, if-ExprReads, StandsAt, stands, chain-some, goes_on-stops, stops-less}
+use Rattle.dsde_grammar.proofs.ListReads.{and-true, flat_map-joined}
 
 -- a suffix is read, and begins with a sign that goes on with a chain of suffixes
 pub record SuffixReads (v : Suffix) (t : Tokens) (ok : Bool) (s : Span) : Type 0 where

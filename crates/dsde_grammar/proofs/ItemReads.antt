@@ -1,11 +1,8 @@
 -- Items of structures are read.
-use Rattle.std.proofs.Common.{◌≡◌, ℕ, zero, suc, ◌+◌, ◌≤◌, Bool, true, false, not, ◌&&◌, List, [], ◌∷◌, ◌++◌, map, Option, Some, None, refl, sym, ap, subst, ◌∙◌, arith, append_assoc}
-use Rattle.std.specs.Prelude.{flat_map, if◌then◌else◌}
+use Rattle.std.proofs.Common.{◌≡◌, ℕ, zero, suc, Bool, true, false, not, ◌&&◌, List, [], ◌∷◌, ◌++◌, map, Option, Some, None, refl, ap, subst, ◌∙◌}
 use Rattle.std.specs.List.{list_all}
 use Rattle.std.specs.Option.{option_map}
-use Rattle.dsde_syntax.specs.declared.token.Tok.{Tok}
 use Rattle.dsde_syntax.specs.declared.token.Tok.TheVariants as tok
-use Rattle.dsde_syntax.specs.declared.token.Key.{Key}
 use Rattle.dsde_syntax.specs.declared.token.Key.TheVariants as key
 use Rattle.dsde_syntax.specs.declared.token.Sign.TheVariants as sign
 use Rattle.dsde_syntax.specs.declared.id.Id.{Id}
@@ -21,18 +18,17 @@ use Rattle.dsde_syntax.specs.declared.item.ViaKey.{ViaKey}
 use Rattle.dsde_syntax.specs.declared.item.Item.TheOpen.{Item-F, ItemArm-F}
 use Rattle.dsde_syntax.specs.declared.item.Item.TheViews.{roll-Item, roll-ItemArm}
 use Rattle.dsde_syntax.specs.declared.item.Item.TheFolds.{map-Item, map-ItemArm, fold-roll-Item, fold-roll-ItemArm, ind-Item}
-use Rattle.dsde_syntax.specs.Grammar.{Tokens, word, mark, id_tokens, joined, commas, elses, optional, in_parens, in_brackets, expr_tokens, args_tokens, set_tokens, for_tokens, if_tokens, bracket_tokens, component_tokens, end_part_tokens, end_tokens, via_key_tokens, via_tokens, link_tokens, item_step, item_arm_step, item_tokens, item_arm_tokens}
+use Rattle.dsde_syntax.specs.Grammar.{Tokens, word, mark, id_tokens, commas, elses, optional, in_parens, expr_tokens, args_tokens, set_tokens, for_tokens, if_tokens, bracket_tokens, component_tokens, end_part_tokens, end_tokens, via_key_tokens, via_tokens, link_tokens, item_step, item_arm_step, item_tokens, item_arm_tokens}
 use Rattle.dsde_syntax.specs.Grammar.{block as block_tokens, else_block}
-use Rattle.dsde_syntax.specs.Places.{Span, ◌>>◌, token, token_at, begins_at, id_span, all_spans, spans_with, written_span, block_span, else_span, args_span, expr_span, set_span, for_span, bracket_span, component_span, end_part_span, end_span, via_key_span, via_span, item_span_step, item_arm_span_step, item_span, item_arm_span}
-use Rattle.dsde_syntax.specs.Places.{bracketed as bracketed_span}
+use Rattle.dsde_syntax.specs.Places.{Span, ◌>>◌, token, token_at, id_span, spans_with, written_span, block_span, else_span, args_span, expr_span, set_span, for_span, bracket_span, component_span, end_part_span, end_span, via_key_span, via_span, item_span_step, item_arm_span_step, item_span, item_arm_span}
 use Rattle.dsde_syntax.specs.Levels.{stands_at, has_first, all_hold, if_written, is_expr, level_of, is_index, is_end, is_via, is_item_step, is_item_arm_step, is_item, is_item_arm}
-use Rattle.dsde_syntax.proofs.Reading.{Reader, Reads, AllRead, any, ending, pair, made, many, maybe, skip, place, here, ident, pair-Reads, made-Reads, fewer-Reads, maybe-none, maybe-some, many-Reads, skip-Reads, place-Reads, here-Reads, ident-Reads}
-use Rattle.dsde_syntax.proofs.ExprReaders.{stops, is_if, is_else_if, bracketed, separated, args, read_expr}
-use Rattle.dsde_syntax.proofs.TypeReads.{bracketed-Reads, stepped-Reads}
-use Rattle.dsde_syntax.proofs.ListReads.{and-true}
-use Rattle.dsde_syntax.proofs.PrimReads.{ExprClaim, args-reads}
-use Rattle.dsde_syntax.proofs.ExprCases.{expr-reads, roll-claim}
-use Rattle.dsde_syntax.proofs.StmtReads.{whole_expr, is_else, no_else, set_reader, for_reader, if_reader, block_reader, else_reader, set-Reads, for-Reads, if-Reads, block-Reads, no_other-Reads, other-Reads, first-arm, false-true}
+use Rattle.dsde_grammar.proofs.Reading.{Reader, Reads, AllRead, any, pair, made, maybe, skip, place, here, ident, pair-Reads, made-Reads, fewer-Reads, maybe-none, maybe-some, skip-Reads, place-Reads, here-Reads, ident-Reads}
+use Rattle.dsde_grammar.proofs.ExprReaders.{stops, is_if, is_else_if, bracketed, separated, args, read_expr}
+use Rattle.dsde_grammar.proofs.TypeReads.{bracketed-Reads, stepped-Reads}
+use Rattle.dsde_grammar.proofs.ListReads.{and-true}
+use Rattle.dsde_grammar.proofs.PrimReads.{ExprClaim, args-reads}
+use Rattle.dsde_grammar.proofs.ExprCases.{expr-reads, roll-claim}
+use Rattle.dsde_grammar.proofs.StmtReads.{whole_expr, is_else, no_else, set_reader, for_reader, if_reader, block_reader, else_reader, set-Reads, for-Reads, if-Reads, block-Reads, no_other-Reads, other-Reads, first-arm, false-true}
 
 -- arguments of the grammar are read
 

@@ -1,12 +1,11 @@
 -- The readers of lists of parts.
-use Rattle.std.proofs.Common.{◌≡◌, ℕ, zero, suc, ◌+◌, ◌≤◌, Bool, true, false, not, ◌&&◌, List, [], ◌∷◌, ◌++◌, map, Option, Some, None, refl, sym, ap, subst, ◌∙◌, arith, append_assoc}
-use Rattle.std.specs.Prelude.{flat_map, nat_le}
-use Rattle.std.proofs.lemmas.Bool.Decides.{nat_tests}
+use Rattle.std.proofs.Common.{◌≡◌, ℕ, Bool, true, false, ◌&&◌, List, [], ◌∷◌, ◌++◌, map, Some, refl, ap, subst}
+use Rattle.std.specs.Prelude.{flat_map}
 use Rattle.dsde_syntax.specs.declared.token.Tok.{Tok}
 use Rattle.dsde_syntax.specs.Grammar.{Tokens, joined}
 use Rattle.dsde_syntax.specs.Places.{Span, ◌>>◌, token, all_spans}
-use Rattle.dsde_syntax.proofs.Reading.{Reader, Reads, AllRead, any, ending, skip, pair, made, many, many-Reads, pair-Reads, made-Reads, skip-Reads, fit_behind, some_one}
-use Rattle.dsde_syntax.proofs.ExprReaders.{separated, nothing}
+use Rattle.dsde_grammar.proofs.Reading.{Reader, Reads, AllRead, any, ending, skip, pair, many-Reads, pair-Reads, made-Reads, skip-Reads, fit_behind, some_one}
+use Rattle.dsde_grammar.proofs.ExprReaders.{separated, nothing}
 
 pub and-true : (a b : Bool) → (a && b) ≡ true → (a ≡ true) × (b ≡ true)
 and-true true b h = (refl, h)

@@ -1,17 +1,13 @@
 -- A reader of a level reads each expression of a lower one.
-use Rattle.std.proofs.Common.{◌≡◌, ℕ, zero, suc, ◌+◌, ◌-◌, ◌<◌, ◌≤◌, Bool, true, false, cond, not, ◌&&◌, List, [], ◌∷◌, ◌++◌, map, Option, Some, None, refl, sym, ap, subst, ◌∙◌, arith, append_assoc}
-use Rattle.std.specs.Prelude.{◌==◌, nat_lt, nat_le, if◌then◌else◌}
+use Rattle.std.proofs.Common.{◌≡◌, ℕ, zero, suc, ◌+◌, ◌-◌, ◌<◌, ◌≤◌, Bool, true, false, not, ◌&&◌, List, ◌∷◌, ◌++◌, Some, refl, subst, arith, append_assoc}
+use Rattle.std.specs.Prelude.{◌==◌, nat_lt}
 use Rattle.std.proofs.lemmas.Bool.Decides.{nat_tests}
-use Rattle.dsde_syntax.specs.declared.token.Tok.{Tok}
-use Rattle.dsde_syntax.specs.declared.token.Sign.{Sign}
 use Rattle.dsde_syntax.specs.declared.expr.Expr.{Expr}
-use Rattle.dsde_syntax.specs.declared.expr.Expr.TheOpen.{Expr-F}
-use Rattle.dsde_syntax.specs.declared.expr.Expr.TheViews.{roll-Expr}
 use Rattle.dsde_syntax.specs.Grammar.{Tokens, joined}
 use Rattle.dsde_syntax.specs.Places.{Span, ◌>>◌, all_spans}
 use Rattle.dsde_syntax.specs.Levels.{level_if, stands_at}
-use Rattle.dsde_syntax.proofs.Reading.{Reader, Reads, AllRead, any, ending, pair, made, maybe, many, many-none, many-Reads, pair-Reads, made-Reads, fewer-Reads, either-second, a_sign, place}
-use Rattle.dsde_syntax.proofs.ExprReaders.{continues, stops, goes_on, begin_of, level, layer, chain, chained, compared, or_else, read_expr, post_of, mul_of, sum_of, and_of, or_of}
+use Rattle.dsde_grammar.proofs.Reading.{Reader, Reads, AllRead, pair, made, maybe, many-none, many-Reads, pair-Reads, made-Reads, fewer-Reads, either-second, a_sign, place}
+use Rattle.dsde_grammar.proofs.ExprReaders.{continues, stops, goes_on, begin_of, level, chain, chained, compared, or_else, read_expr, post_of, mul_of, sum_of, and_of, or_of}
 
 -- an expression is read at its level, and begins with a token of that level
 pub record ExprReads (e : Expr) (t : Tokens) (own : ℕ) (s : Span) : Type 0 where

@@ -1,16 +1,16 @@
 -- Readers of the parts of a model, and what it is that one reads a part: a device for the proof
 -- that a list of tokens is spelled by one shaped model at most. A reader looks only at what decides
 -- between the forms of the grammar.
-use Rattle.std.proofs.Common.{◌≡◌, ℕ, zero, suc, ◌+◌, ◌≤◌, Bool, true, false, cond, not, ◌&&◌, List, [], ◌∷◌, ◌++◌, map, Option, Some, None, refl, sym, ap, subst, ◌∙◌, arith, append_assoc, max}
+use Rattle.std.proofs.Common.{◌≡◌, ℕ, zero, suc, ◌+◌, ◌≤◌, Bool, true, false, not, ◌&&◌, List, [], ◌∷◌, ◌++◌, Option, Some, None, refl, sym, ap, ◌∙◌, arith, append_assoc, max}
 use Rattle.std.proofs.lemmas.Bool.Decides.{Decides-eqb}
-use Rattle.std.specs.Prelude.{option_and_then, flat_map, if◌then◌else◌, ◌==◌}
+use Rattle.std.specs.Prelude.{option_and_then, if◌then◌else◌, ◌==◌}
 use Rattle.dsde_syntax.specs.declared.token.Tok.{Tok}
 use Rattle.dsde_syntax.specs.declared.token.Tok.TheVariants as tok
 use Rattle.dsde_syntax.specs.declared.token.Key.{Key}
 use Rattle.dsde_syntax.specs.declared.token.Sign.{Sign}
 use Rattle.dsde_syntax.specs.declared.id.Id.{Id}
-use Rattle.dsde_syntax.specs.Grammar.{Tokens, id_tokens, joined, optional}
-use Rattle.dsde_syntax.specs.Places.{Span, ◌>>◌, token, token_at, begins_at, id_span, all_spans, written_span}
+use Rattle.dsde_syntax.specs.Grammar.{Tokens, id_tokens, joined}
+use Rattle.dsde_syntax.specs.Places.{Span, ◌>>◌, token, token_at, begins_at, id_span, all_spans}
 
 -- from the index of the first token and the tokens: what is read, the index of the next token, and
 -- the tokens from there on

@@ -1,5 +1,5 @@
 -- Each expression is read.
-use Rattle.std.proofs.Common.{◌≡◌, ℕ, Bool, List, [], ◌∷◌, ◌++◌, map, Option, Some, None, refl, sym, subst}
+use Rattle.std.proofs.Common.{◌≡◌, ℕ, Bool, map, Some, None, sym, subst}
 use Rattle.dsde_syntax.specs.declared.token.Sign.{Sign}
 use Rattle.dsde_syntax.specs.declared.expr.Expr.{Expr}
 use Rattle.dsde_syntax.specs.declared.expr.Suffix.{Suffix}
@@ -13,9 +13,9 @@ use Rattle.dsde_syntax.specs.declared.expr.Expr.TheFolds.{map-Expr, map-Suffix, 
 use Rattle.dsde_syntax.specs.Grammar.{Tokens, expr_step, suffix_step, expr_arm_step, field_set_step, sign_tail_step, tail_step, expr_tokens, suffix_tokens, expr_arm_tokens, field_set_tokens, sign_tail_tokens, tail_tokens}
 use Rattle.dsde_syntax.specs.Levels.{level_step, suffix_level_step, expr_arm_level_step, field_set_level_step, sign_tail_level_step, tail_level_step, level_of, is_expr_arm, is_field_set, is_suffix, sign_tail_level, tail_level}
 use Rattle.dsde_syntax.specs.Places.{Span, span_step, suffix_span_step, expr_arm_span_step, field_set_span_step, sign_tail_span_step, tail_span_step, expr_span, expr_arm_span, field_set_span, sign_tail_span, suffix_span, tail_span}
-use Rattle.dsde_syntax.proofs.LevelReads.{ExprReads}
-use Rattle.dsde_syntax.proofs.OperatorReads.{SuffixReads, SignTailReads, TailReads, SuffixClaim, SignTailClaim, TailClaim, or_else-reads, or-reads, and-reads, not-reads, compare-reads, sum-reads, mul-reads, neg-reads, post-reads, sign_tail-reads, tail-reads}
-use Rattle.dsde_syntax.proofs.PrimReads.{ArmReads, FieldReads, ExprClaim, ArmClaim, FieldClaim, field_suffix, index_suffix, unwrap_suffix, field_set-reads, expr_arm-reads, number-reads, truth-reads, elapsed-reads, name-reads, call-reads, variant-reads, new-reads, none-reads, empty-reads, builtin-reads, paren-reads, row-reads, each-reads, choice-reads}
+use Rattle.dsde_grammar.proofs.LevelReads.{ExprReads}
+use Rattle.dsde_grammar.proofs.OperatorReads.{SuffixReads, SignTailReads, TailReads, SuffixClaim, SignTailClaim, TailClaim, or_else-reads, or-reads, and-reads, not-reads, compare-reads, sum-reads, mul-reads, neg-reads, post-reads, sign_tail-reads, tail-reads}
+use Rattle.dsde_grammar.proofs.PrimReads.{ArmReads, FieldReads, ExprClaim, ArmClaim, FieldClaim, field_suffix, index_suffix, unwrap_suffix, field_set-reads, expr_arm-reads, number-reads, truth-reads, elapsed-reads, name-reads, call-reads, variant-reads, new-reads, none-reads, empty-reads, builtin-reads, paren-reads, row-reads, each-reads, choice-reads}
 
 -- a claim of a value made of its layer, by what the steps give there
 pub roll-claim : {X A B C : Type 0} (P : X → A → B → C → Type 0) (x : X) (a a' : A) (b b' : B) (c c' : C) → a ≡ a' → b ≡ b' → c ≡ c' → P x a' b' c' → P x a b c

@@ -1,6 +1,6 @@
 -- Primary expressions are read.
-use Rattle.std.proofs.Common.{◌≡◌, ℕ, zero, suc, ◌+◌, ◌≤◌, Bool, true, false, not, ◌&&◌, List, [], ◌∷◌, ◌++◌, map, Option, Some, None, refl, sym, ap, subst, ◌∙◌, arith, append_assoc}
-use Rattle.std.specs.Prelude.{flat_map, nat_le, ◌==◌, if◌then◌else◌}
+use Rattle.std.proofs.Common.{◌≡◌, ℕ, ◌≤◌, Bool, true, false, not, ◌&&◌, List, [], ◌∷◌, ◌++◌, map, Option, Some, None, refl, ap, ◌∙◌, arith, append_assoc}
+use Rattle.std.specs.Prelude.{flat_map, nat_le, if◌then◌else◌}
 use Rattle.std.specs.List.{list_all}
 use Rattle.std.specs.Option.{option_map}
 use Rattle.std.proofs.lemmas.Bool.Decides.{nat_tests}
@@ -8,7 +8,6 @@ use Rattle.dsde_syntax.specs.declared.token.Tok.{Tok}
 use Rattle.dsde_syntax.specs.declared.token.Tok.TheVariants as tok
 use Rattle.dsde_syntax.specs.declared.token.Key.{Key}
 use Rattle.dsde_syntax.specs.declared.token.Key.TheVariants as key
-use Rattle.dsde_syntax.specs.declared.token.Sign.{Sign}
 use Rattle.dsde_syntax.specs.declared.token.Sign.TheVariants as sign
 use Rattle.dsde_syntax.specs.declared.id.Id.{Id}
 use Rattle.dsde_syntax.specs.declared.type_name.TypeName.{TypeName}
@@ -16,18 +15,18 @@ use Rattle.dsde_syntax.specs.declared.expr.Expr.{Expr}
 use Rattle.dsde_syntax.specs.declared.expr.Suffix.{Suffix}
 use Rattle.dsde_syntax.specs.declared.expr.ExprArm.{ExprArm}
 use Rattle.dsde_syntax.specs.declared.expr.FieldSet.{FieldSet}
-use Rattle.dsde_syntax.specs.declared.expr.Expr.TheOpen.{Expr-F, Suffix-F, ExprArm-F, FieldSet-F}
+use Rattle.dsde_syntax.specs.declared.expr.Expr.TheOpen.{Expr-F, Suffix-F}
 use Rattle.dsde_syntax.specs.declared.expr.Expr.TheViews.{roll-Expr, roll-Suffix, roll-ExprArm, roll-FieldSet}
 use Rattle.dsde_syntax.specs.Grammar.{Tokens, word, mark, id_tokens, commas, elses, optional, in_parens, in_brackets, in_braces, in_angles, truth_tokens, type_tokens, expr_tokens, expr_arm_tokens, field_set_tokens}
 use Rattle.dsde_syntax.specs.Places.{Span, ◌>>◌, token, token_at, begins_at, id_span, spans_with, written_span, type_span, expr_span}
 use Rattle.dsde_syntax.specs.Places.{bracketed as bracketed_span, args_span, expr_arm_span, field_set_span}
 use Rattle.dsde_syntax.specs.Levels.{level_if, stands_at, has_first, all_hold, if_written, is_builtin, level_of, is_expr_arm, is_field_set}
-use Rattle.dsde_syntax.proofs.Reading.{Reader, Reads, AllRead, any, ending, ending-test, ending-fit, not-true, pair, made, maybe, skip, pair-Reads, made-Reads, fewer-Reads, either-first, either-second, maybe-none, maybe-some, skip-Reads, place-Reads, here-Reads, ident-Reads, number-Reads, key-Reads}
-use Rattle.dsde_syntax.proofs.ExprReaders.{continues, stops, begin_of, begins_expr, is_comma, is_if, is_else_if, closing, bracketed, separated, nothing, exprs, args, read_type, Form, a_number, a_name, a_call, a_variant, a_truth, the_elapsed, a_record, a_none, an_empty, a_choice, a_paren, a_row, an_each, a_builtin, name_form, form_of, is_true, field_set, expr_arm, prim_branch, prim, suffix, SuffixForm, suffix_form, suffix_branch, a_field, an_index, an_unwrap, read_expr}
-use Rattle.dsde_syntax.proofs.TypeReads.{bracketed-Reads, type-Reads}
-use Rattle.dsde_syntax.proofs.LevelReads.{ExprReads, if-ExprReads, WholeExpr, whole}
-use Rattle.dsde_syntax.proofs.ListReads.{and-true, true-and, separated-Reads, nothing-Reads}
-use Rattle.dsde_syntax.proofs.OperatorReads.{SuffixReads}
+use Rattle.dsde_grammar.proofs.Reading.{Reader, Reads, AllRead, any, ending, ending-test, ending-fit, pair, made, maybe, skip, pair-Reads, made-Reads, fewer-Reads, either-first, either-second, maybe-none, maybe-some, skip-Reads, place-Reads, here-Reads, ident-Reads, number-Reads, key-Reads}
+use Rattle.dsde_grammar.proofs.ExprReaders.{stops, begin_of, begins_expr, is_comma, is_if, is_else_if, closing, bracketed, separated, nothing, exprs, args, Form, a_number, a_name, a_call, a_variant, a_truth, the_elapsed, a_record, a_none, an_empty, a_choice, a_paren, a_row, an_each, a_builtin, name_form, form_of, is_true, field_set, expr_arm, prim_branch, prim, suffix, SuffixForm, suffix_form, suffix_branch, a_field, an_index, an_unwrap, read_expr}
+use Rattle.dsde_grammar.proofs.TypeReads.{bracketed-Reads, type-Reads}
+use Rattle.dsde_grammar.proofs.LevelReads.{ExprReads, if-ExprReads, WholeExpr, whole}
+use Rattle.dsde_grammar.proofs.ListReads.{and-true, separated-Reads, nothing-Reads}
+use Rattle.dsde_grammar.proofs.OperatorReads.{SuffixReads}
 
 abbrev pub ExprClaim : Expr → Type 0
 ExprClaim e = ExprReads e (expr_tokens e) (level_of e) (expr_span e)

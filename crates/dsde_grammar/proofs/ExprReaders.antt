@@ -1,13 +1,11 @@
 -- The readers of types and expressions, level by level.
-use Rattle.std.proofs.Common.{◌≡◌, ℕ, zero, suc, ◌+◌, ◌≤◌, Bool, true, false, cond, not, ◌&&◌, List, [], ◌∷◌, ◌++◌, map, Option, Some, None}
+use Rattle.std.proofs.Common.{ℕ, zero, suc, Bool, true, false, List, [], ◌∷◌, map, Option, Some, None}
 use Rattle.std.specs.Prelude.{if◌then◌else◌, ◌==◌, nat_le, nat_lt}
-use Rattle.dsde_syntax.specs.declared.token.Tok.{Tok}
 use Rattle.dsde_syntax.specs.declared.token.Tok.TheVariants as tok
 use Rattle.dsde_syntax.specs.declared.token.Key.{Key}
 use Rattle.dsde_syntax.specs.declared.token.Key.TheVariants as key
 use Rattle.dsde_syntax.specs.declared.token.Sign.{Sign}
 use Rattle.dsde_syntax.specs.declared.token.Sign.TheVariants as sign
-use Rattle.dsde_syntax.specs.declared.id.Id.{Id}
 use Rattle.dsde_syntax.specs.declared.type_name.TypeName.{TypeName}
 use Rattle.dsde_syntax.specs.declared.type_name.TypeName.TheOpen.{TypeName-F}
 use Rattle.dsde_syntax.specs.declared.type_name.TypeName.TheViews.{roll-TypeName}
@@ -17,11 +15,11 @@ use Rattle.dsde_syntax.specs.declared.expr.ExprArm.{ExprArm}
 use Rattle.dsde_syntax.specs.declared.expr.FieldSet.{FieldSet}
 use Rattle.dsde_syntax.specs.declared.expr.SignTail.{SignTail}
 use Rattle.dsde_syntax.specs.declared.expr.Tail.{Tail}
-use Rattle.dsde_syntax.specs.declared.expr.Expr.TheOpen.{Expr-F, Suffix-F, ExprArm-F, FieldSet-F, SignTail-F, Tail-F}
+use Rattle.dsde_syntax.specs.declared.expr.Expr.TheOpen.{Expr-F, Suffix-F}
 use Rattle.dsde_syntax.specs.declared.expr.Expr.TheViews.{roll-Expr, roll-Suffix, roll-ExprArm, roll-FieldSet, roll-SignTail, roll-Tail}
 use Rattle.dsde_syntax.specs.Grammar.{Tokens}
 use Rattle.dsde_syntax.specs.Levels.{is_builtin, is_comparison, is_sum_sign, is_mul_sign}
-use Rattle.dsde_syntax.proofs.Reading.{Reader, bind, skip, place, here, ident, number, a_sign, a_key, pair, made, either, many, maybe, ending, any}
+use Rattle.dsde_grammar.proofs.Reading.{Reader, skip, place, here, ident, number, a_sign, a_key, pair, made, either, many, maybe, ending}
 
 -- the level at which a sign goes on with a chain; 0 for what goes on with a name, 10 for none
 abbrev pub other_sign : Sign → ℕ

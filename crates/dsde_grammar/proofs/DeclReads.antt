@@ -1,9 +1,8 @@
 -- Declarations are read, and so are whole models.
-use Rattle.std.proofs.Common.{◌≡◌, ℕ, zero, suc, ◌+◌, ◌<◌, ◌≤◌, Bool, true, false, not, ◌&&◌, List, [], ◌∷◌, ◌++◌, map, Option, Some, None, refl, sym, ap, subst, ◌∙◌, arith, append_assoc, append-nil, max}
-use Rattle.std.specs.Prelude.{flat_map, if◌then◌else◌, ◌==◌, nat_lt, IsTrue}
+use Rattle.std.proofs.Common.{◌≡◌, ℕ, ◌+◌, Bool, true, false, not, ◌&&◌, List, [], ◌∷◌, ◌++◌, map, Option, Some, None, refl, sym, ap, ◌∙◌, arith, max}
+use Rattle.std.specs.Prelude.{◌==◌, nat_lt}
 use Rattle.std.specs.List.{list_all}
 use Rattle.std.proofs.lemmas.Bool.Decides.{nat_tests}
-use Rattle.dsde_syntax.specs.declared.token.Tok.{Tok}
 use Rattle.dsde_syntax.specs.declared.token.Tok.TheVariants as tok
 use Rattle.dsde_syntax.specs.declared.token.Key.{Key}
 use Rattle.dsde_syntax.specs.declared.token.Key.TheVariants as key
@@ -21,17 +20,17 @@ use Rattle.dsde_syntax.specs.declared.decl.PortDecl.{PortDecl}
 use Rattle.dsde_syntax.specs.declared.decl.StateDecl.{StateDecl}
 use Rattle.dsde_syntax.specs.declared.decl.Body.{Body}
 use Rattle.dsde_syntax.specs.declared.decl.Phase.{Phase}
-use Rattle.dsde_syntax.specs.Grammar.{Tokens, word, mark, id_tokens, joined, commas, in_parens, in_braces, type_tokens, expr_tokens, args_tokens, stmt_tokens, item_tokens, typed_tokens, params_tokens, port_tokens, state_tokens, phase_tokens, phases_tokens, body_tokens, result_tokens, exec_tokens, decl_tokens, tokens_of}
-use Rattle.dsde_syntax.specs.Places.{Span, ◌>>◌, token, token_at, id_span, all_spans, spans_with, args_span, type_span, expr_span, stmt_span, item_span, typed_span, port_span, state_span, phase_span, phases_span, body_span, result_span, exec_span, decl_span, span_of}
+use Rattle.dsde_syntax.specs.Grammar.{Tokens, word, mark, id_tokens, joined, commas, in_braces, type_tokens, typed_tokens, params_tokens, port_tokens, state_tokens, phase_tokens, phases_tokens, body_tokens, result_tokens, exec_tokens, decl_tokens, tokens_of}
+use Rattle.dsde_syntax.specs.Places.{Span, ◌>>◌, token, token_at, id_span, all_spans, spans_with, args_span, type_span, typed_span, port_span, state_span, phase_span, phases_span, body_span, result_span, exec_span, decl_span}
 use Rattle.dsde_syntax.specs.Places.{bracketed as bracketed_span}
-use Rattle.dsde_syntax.specs.Levels.{has_first, is_expr, is_stmt, is_item, is_phase, is_state, is_body, is_decl, has_levels}
+use Rattle.dsde_syntax.specs.Levels.{has_first, is_expr, is_stmt, is_item, is_phase, is_state, is_body, is_decl}
 use Rattle.dsde_syntax.specs.Shape.{IsShaped}
-use Rattle.dsde_syntax.proofs.Reading.{Reader, Reads, AllRead, any, ending, pair, made, either, many, maybe, skip, place, ident, a_word, pair-Reads, made-Reads, fewer-Reads, either-first, either-second, maybe-none, maybe-some, many-Reads, skip-Reads, place-Reads, ident-Reads, word-Reads, some_one}
-use Rattle.dsde_syntax.proofs.ExprReaders.{stops, is_comma, bracketed, separated, nothing, args, read_type, read_expr}
-use Rattle.dsde_syntax.proofs.TypeReads.{bracketed-Reads, type-Reads}
-use Rattle.dsde_syntax.proofs.ListReads.{and-true, separated-Reads, nothing-Reads}
-use Rattle.dsde_syntax.proofs.StmtReads.{whole_expr, no_else, begins_stmt, block_reader, read_stmt, stmts-block-read, stmts-Reads, false-true}
-use Rattle.dsde_syntax.proofs.ItemReads.{begins_item, read_item, args_read, items-block-read}
+use Rattle.dsde_grammar.proofs.Reading.{Reader, Reads, AllRead, any, ending, pair, made, either, many, maybe, skip, place, ident, a_word, pair-Reads, made-Reads, fewer-Reads, either-first, either-second, maybe-none, maybe-some, many-Reads, skip-Reads, place-Reads, ident-Reads, word-Reads, some_one}
+use Rattle.dsde_grammar.proofs.ExprReaders.{is_comma, bracketed, separated, nothing, args, read_type, read_expr}
+use Rattle.dsde_grammar.proofs.TypeReads.{bracketed-Reads, type-Reads}
+use Rattle.dsde_grammar.proofs.ListReads.{and-true, separated-Reads, nothing-Reads}
+use Rattle.dsde_grammar.proofs.StmtReads.{whole_expr, begins_stmt, block_reader, read_stmt, stmts-block-read, stmts-Reads, false-true}
+use Rattle.dsde_grammar.proofs.ItemReads.{begins_item, read_item, args_read, items-block-read}
 
 -- names with their types, and parameters
 

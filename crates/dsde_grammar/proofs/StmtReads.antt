@@ -1,9 +1,7 @@
 -- Statements are read.
-use Rattle.std.proofs.Common.{◌≡◌, ℕ, zero, suc, ◌+◌, ◌≤◌, Bool, true, false, not, ◌&&◌, List, [], ◌∷◌, ◌++◌, map, Option, Some, None, refl, sym, ap, subst, ◌∙◌, arith, append_assoc}
-use Rattle.std.specs.Prelude.{flat_map, if◌then◌else◌}
+use Rattle.std.proofs.Common.{◌≡◌, ℕ, zero, suc, Bool, true, false, not, ◌&&◌, List, [], ◌∷◌, ◌++◌, map, Option, Some, None, refl, subst, append_assoc}
 use Rattle.std.specs.List.{list_all}
 use Rattle.std.specs.Option.{option_map}
-use Rattle.dsde_syntax.specs.declared.token.Tok.{Tok}
 use Rattle.dsde_syntax.specs.declared.token.Tok.TheVariants as tok
 use Rattle.dsde_syntax.specs.declared.token.Key.{Key}
 use Rattle.dsde_syntax.specs.declared.token.Key.TheVariants as key
@@ -14,19 +12,19 @@ use Rattle.dsde_syntax.specs.declared.stmt.Stmt.{Stmt}
 use Rattle.dsde_syntax.specs.declared.stmt.StmtArm.{StmtArm}
 use Rattle.dsde_syntax.specs.declared.stmt.Stmt.TheOpen.{Stmt-F, StmtArm-F}
 use Rattle.dsde_syntax.specs.declared.stmt.Stmt.TheViews.{roll-Stmt, roll-StmtArm}
-use Rattle.dsde_syntax.specs.declared.stmt.Stmt.TheFolds.{map-Stmt, map-StmtArm, fold-Stmt, fold-roll-Stmt, fold-roll-StmtArm, ind-Stmt}
-use Rattle.dsde_syntax.specs.Grammar.{Tokens, word, mark, id_tokens, joined, elses, optional, in_parens, in_braces, expr_tokens, let_tokens, set_tokens, for_tokens, if_tokens, stmt_step, stmt_arm_step, stmt_tokens, stmt_arm_tokens}
+use Rattle.dsde_syntax.specs.declared.stmt.Stmt.TheFolds.{map-Stmt, map-StmtArm, fold-roll-Stmt, fold-roll-StmtArm, ind-Stmt}
+use Rattle.dsde_syntax.specs.Grammar.{Tokens, word, mark, id_tokens, joined, elses, optional, in_parens, expr_tokens, let_tokens, set_tokens, for_tokens, if_tokens, stmt_step, stmt_arm_step, stmt_tokens, stmt_arm_tokens}
 use Rattle.dsde_syntax.specs.Grammar.{block as block_tokens, else_block}
 use Rattle.dsde_syntax.specs.Places.{Span, ◌>>◌, token, id_span, all_spans, spans_with, written_span, block_span, else_span, expr_span, set_span, for_span, stmt_span_step, stmt_arm_span_step, stmt_span, stmt_arm_span}
 use Rattle.dsde_syntax.specs.Places.{bracketed as bracketed_span}
 use Rattle.dsde_syntax.specs.Levels.{has_first, all_hold, if_written, is_expr, is_stmt_step, is_stmt_arm_step, is_stmt, is_stmt_arm}
-use Rattle.dsde_syntax.proofs.Reading.{Reader, Reads, AllRead, any, ending, ending-fit, not-true, pair, made, many, maybe, skip, ident, a_word, pair-Reads, made-Reads, fewer-Reads, maybe-none, maybe-some, many-Reads, skip-Reads, ident-Reads, word-Reads}
-use Rattle.dsde_syntax.proofs.ExprReaders.{stops, is_if, is_else_if, bracketed, separated, read_expr}
-use Rattle.dsde_syntax.proofs.TypeReads.{bracketed-Reads, stepped-Reads}
-use Rattle.dsde_syntax.proofs.LevelReads.{WholeExpr, whole}
-use Rattle.dsde_syntax.proofs.ListReads.{and-true}
-use Rattle.dsde_syntax.proofs.PrimReads.{arms-reads}
-use Rattle.dsde_syntax.proofs.ExprCases.{expr-reads, roll-claim}
+use Rattle.dsde_grammar.proofs.Reading.{Reader, Reads, AllRead, any, ending, pair, made, many, maybe, skip, ident, a_word, pair-Reads, made-Reads, fewer-Reads, maybe-none, maybe-some, many-Reads, skip-Reads, ident-Reads, word-Reads}
+use Rattle.dsde_grammar.proofs.ExprReaders.{stops, is_if, is_else_if, bracketed, separated, read_expr}
+use Rattle.dsde_grammar.proofs.TypeReads.{bracketed-Reads, stepped-Reads}
+use Rattle.dsde_grammar.proofs.LevelReads.{WholeExpr, whole}
+use Rattle.dsde_grammar.proofs.ListReads.{and-true}
+use Rattle.dsde_grammar.proofs.PrimReads.{arms-reads}
+use Rattle.dsde_grammar.proofs.ExprCases.{expr-reads, roll-claim}
 
 -- an expression of the grammar is read
 pub whole_expr : (e : Expr) → is_expr e ≡ true → WholeExpr e (expr_tokens e) (expr_span e)

@@ -1,5 +1,5 @@
 -- The reader of types reads each type.
-use Rattle.std.proofs.Common.{◌≡◌, ℕ, zero, suc, ◌+◌, ◌≤◌, Bool, true, false, List, [], ◌∷◌, ◌++◌, Option, Some, None, refl, sym, ap, subst, ◌∙◌, arith}
+use Rattle.std.proofs.Common.{◌≡◌, ℕ, zero, suc, ◌≤◌, Bool, true, [], ◌∷◌, ◌++◌, Some, refl, sym, ap, subst, ◌∙◌, arith}
 use Rattle.dsde_syntax.specs.declared.token.Tok.{Tok}
 use Rattle.dsde_syntax.specs.declared.token.Tok.TheVariants as tok
 use Rattle.dsde_syntax.specs.declared.token.Key.TheVariants as key
@@ -10,8 +10,8 @@ use Rattle.dsde_syntax.specs.declared.type_name.TypeName.TheViews.{roll-TypeName
 use Rattle.dsde_syntax.specs.declared.type_name.TypeName.TheFolds.{map-TypeName, fold-roll-TypeName, ind-TypeName}
 use Rattle.dsde_syntax.specs.Grammar.{Tokens, type_step, type_tokens}
 use Rattle.dsde_syntax.specs.Places.{Span, ◌>>◌, token, type_span_step, type_span}
-use Rattle.dsde_syntax.proofs.Reading.{Reader, Reads, any, pair-Reads, made-Reads, skip-Reads, place-Reads, ident-Reads}
-use Rattle.dsde_syntax.proofs.ExprReaders.{TypeForm, type_form, type_branch, read_type, bracketed, an_int, a_bool, a_list, an_opt, named}
+use Rattle.dsde_grammar.proofs.Reading.{Reader, Reads, any, pair-Reads, made-Reads, skip-Reads, place-Reads, ident-Reads}
+use Rattle.dsde_grammar.proofs.ExprReaders.{TypeForm, type_form, type_branch, read_type, bracketed, an_int, a_bool, a_list, an_opt, named}
 
 -- a part in brackets
 pub bracketed-Reads : {A : Type 0} {fit : Tokens → Bool} {p : ℕ → Reader A} {v : A} {t : Tokens} {s : Span} (open_tok close_tok : Tok) → Reads fit p v t s → ((rest : Tokens) → fit (close_tok ∷ rest) ≡ true) → Reads any (λ fuel. bracketed (p fuel)) v (((open_tok ∷ []) ++ t) ++ (close_tok ∷ [])) ((token >> s) >> token)
