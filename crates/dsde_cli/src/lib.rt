@@ -8,6 +8,3 @@ mod status;
 
 pub use call::{dsde, report};
 pub use status::{Refusal, SaveFault, Status, What, Why};
-
-#[cfg(test)]
-mod tests;

@@ -8,6 +8,3 @@ mod rules;
 pub use dsde_syntax::{Items, Word};
 pub use first::{FirstModel, FirstPart, FirstSet, FirstState, FirstSum};
 pub use reader::{ReadFirst, read_first};
-
-#[cfg(test)]
-mod tests;
