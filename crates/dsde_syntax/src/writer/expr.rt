@@ -59,34 +59,14 @@ impl Writer {
             Expr::Truth { value, .. } => self.truth(*value),
             Expr::Elapsed(_) => self.word(Key::Elapsed),
             Expr::Name(id) => self.id(id),
-            Expr::Call { name, args } => {
-                self.id(name)?;
-                self.args(args.as_slice())
-            }
+            Expr::Call { name, args } => self.call(name, args.as_slice()),
             Expr::Variant { of, variant } => self.variant(of, variant),
-            Expr::New { of, fields, .. } => {
-                self.word(Key::New)?;
-                self.id(of)?;
-                self.sign(Sign::OpenBrace)?;
-                self.field_sets(fields.as_slice())?;
-                self.sign(Sign::CloseBrace)
-            }
+            Expr::New { of, fields, .. } => self.new_record(of, fields.as_slice()),
             Expr::NoneOf { ty, .. } => self.word_of_type(Key::NoneOf, ty),
             Expr::EmptyOf { ty, .. } => self.word_of_type(Key::EmptyOf, ty),
-            Expr::Builtin { which, args, .. } => {
-                self.word(*which)?;
-                self.args(args.as_slice())
-            }
-            Expr::Paren { inner, .. } => {
-                self.sign(Sign::OpenParen)?;
-                self.expr(inner.get())?;
-                self.sign(Sign::CloseParen)
-            }
-            Expr::List { items, .. } => {
-                self.sign(Sign::OpenBracket)?;
-                self.exprs(items.as_slice())?;
-                self.sign(Sign::CloseBracket)
-            }
+            Expr::Builtin { which, args, .. } => self.builtin(*which, args.as_slice()),
+            Expr::Paren { inner, .. } => self.expr_in_parens(inner.get()),
+            Expr::List { items, .. } => self.list(items.as_slice()),
             Expr::Each {
                 name,
                 list,
@@ -139,6 +119,22 @@ impl Writer {
         self.expr(list)
     }
 
+    #[cycle(write_expr)]
+    pub(super) fn call(&mut self, name: &Id, args: &[Expr]) -> Result<(), Memory>
+        ensures { OnOk result (self.new ≡ self.old ++ (id_tokens name.now ++ args_tokens args.now)) }
+    {
+        self.id(name)?;
+        self.args(args)
+    }
+
+    #[cycle(write_expr)]
+    pub(super) fn builtin(&mut self, which: Key, args: &[Expr]) -> Result<(), Memory>
+        ensures { OnOk result (self.new ≡ self.old ++ (word which ++ args_tokens args.now)) }
+    {
+        self.word(which)?;
+        self.args(args)
+    }
+
     /// `(args)`
     #[cycle(write_expr)]
     pub(super) fn args(&mut self, args: &[Expr]) -> Result<(), Memory>
@@ -147,6 +143,16 @@ impl Writer {
         self.sign(Sign::OpenParen)?;
         self.exprs(args)?;
         self.sign(Sign::CloseParen)
+    }
+
+    /// `[items]`
+    #[cycle(write_expr)]
+    pub(super) fn list(&mut self, items: &[Expr]) -> Result<(), Memory>
+        ensures { OnOk result (self.new ≡ self.old ++ in_brackets (commas (map expr_tokens items.now))) }
+    {
+        self.sign(Sign::OpenBracket)?;
+        self.exprs(items)?;
+        self.sign(Sign::CloseBracket)
     }
 
     /// Expressions with commas between them.
@@ -163,6 +169,18 @@ impl Writer {
             self.expr(expr)?;
         }
         Ok(())
+    }
+
+    /// `new owner { fields }`
+    #[cycle(write_expr)]
+    pub(super) fn new_record(&mut self, owner: &Id, fields: &[FieldSet]) -> Result<(), Memory>
+        ensures { OnOk result (self.new ≡ self.old ++ (word key.New ++ id_tokens owner.now ++ in_braces (commas (map field_set_tokens fields.now)))) }
+    {
+        self.word(Key::New)?;
+        self.id(owner)?;
+        self.sign(Sign::OpenBrace)?;
+        self.field_sets(fields)?;
+        self.sign(Sign::CloseBrace)
     }
 
     /// The fields of a new record with commas between them.
@@ -188,6 +206,16 @@ impl Writer {
         self.id(&field.name)?;
         self.sign(Sign::Colon)?;
         self.expr(&field.value)
+    }
+
+    /// `(inner)`
+    #[cycle(write_expr)]
+    pub(super) fn expr_in_parens(&mut self, inner: &Expr) -> Result<(), Memory>
+        ensures { OnOk result (self.new ≡ self.old ++ in_parens (expr_tokens inner.now)) }
+    {
+        self.sign(Sign::OpenParen)?;
+        self.expr(inner)?;
+        self.sign(Sign::CloseParen)
     }
 
     /// `{ inner }`
@@ -268,36 +296,13 @@ impl Writer {
                 self.sign(Sign::Dot)?;
                 self.id(name)
             }
-            Suffix::Index { value, .. } => {
-                self.sign(Sign::OpenBracket)?;
-                self.expr(value)?;
-                self.sign(Sign::CloseBracket)
-            }
+            Suffix::Index { value, .. } => self.index(value),
             Suffix::Unwrap { .. } => self.sign(Sign::Bang),
         }
     }
-}
-
-// Parts that statements and items write. The forms of expressions write them in place, so that
-// these stand outside their cycle.
-impl Writer {
-    pub(super) fn call(&mut self, name: &Id, args: &[Expr]) -> Result<(), Memory>
-        ensures { OnOk result (self.new ≡ self.old ++ (id_tokens name.now ++ args_tokens args.now)) }
-    {
-        self.id(name)?;
-        self.args(args)
-    }
-
-    /// `(inner)`
-    pub(super) fn expr_in_parens(&mut self, inner: &Expr) -> Result<(), Memory>
-        ensures { OnOk result (self.new ≡ self.old ++ in_parens (expr_tokens inner.now)) }
-    {
-        self.sign(Sign::OpenParen)?;
-        self.expr(inner)?;
-        self.sign(Sign::CloseParen)
-    }
 
     /// `[value]`
+    #[cycle(write_expr)]
     pub(super) fn index(&mut self, value: &Expr) -> Result<(), Memory>
         ensures { OnOk result (self.new ≡ self.old ++ in_brackets (expr_tokens value.now)) }
     {
