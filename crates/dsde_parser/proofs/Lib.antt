@@ -1,11 +1,4 @@
-pub mod ChainLemmas
-pub mod DepthLemmas
-pub mod LedLemmas
-pub mod NodeLemmas
-pub mod RefusalLemmas
-pub mod StepLemmas
-pub mod StmtLemmas
-pub mod TestLemmas
-pub mod TookLemmas
-pub mod WholeLemmas
-pub mod WrongLemmas
+mod DepthLemmas
+mod RefusalLemmas
+mod WholeLemmas
+mod WrongLemmas

@@ -2,8 +2,8 @@
 use Rattle.std.specs.Prelude.{◌≤◌, ℕ, take, ⊤}
 use Rattle.dsde_syntax.specs.Grammar.{Tokens}
 use Rattle.dsde_grammar.specs.Begins.{IsFirstWrong}
-use Rattle.dsde_parser.specs.declared.parser.ParseError.{ParseError}
-use Rattle.dsde_parser.specs.declared.parser.ParseError.TheVariants as parse_error
+use Rattle.dsde_expressions.specs.declared.parser.ParseError.{ParseError}
+use Rattle.dsde_expressions.specs.declared.parser.ParseError.TheVariants as parse_error
 use Rattle.dsde_parser.specs.Depth.{depth_of, IsFirstDeep}
 
 -- The cause of each refusal. The first wrong thing is told where no bracket before it stands too

@@ -2,8 +2,7 @@
 #![tactic(auto)]
 
 mod depth;
-mod parser;
 mod whole;
 
-pub use parser::ParseError;
+pub use dsde_expressions::ParseError;
 pub use whole::parse;

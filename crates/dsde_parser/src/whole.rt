@@ -5,11 +5,12 @@ ghost use Rattle.dsde_syntax.specs.Shape.{IsShaped};
 ghost use Rattle.dsde_syntax.specs.Grammar.{tokens_of};
 ghost use Rattle.dsde_grammar.specs.Steps.{start, stop};
 ghost use Rattle.dsde_parser.specs.Depth.{IsShallow, IsFirstDeep};
-ghost use Rattle.dsde_parser.specs.Follows.{StopsBy};
+ghost use Rattle.dsde_expressions.specs.Follows.{StopsBy};
 ghost use Rattle.dsde_parser.specs.Refusal.{IsRefused};
 
 use crate::depth::first_too_deep;
-use crate::parser::{ParseError, Parser};
+use dsde_declarations::decls;
+use dsde_expressions::{ParseError, Parser};
 use dsde_grammar::stops_are_first_wrong;
 use dsde_syntax::{Model, Token};
 use std::alloc::Global;
@@ -61,6 +62,6 @@ fn parse_all(alloc: Global, tokens: &[Token]) -> Result<Model, ParseError>
     ensures stopped { IfErr result (λ error. StopsBy error (stop start 0 (map (λ (token : Token). token.tok) tokens.now))) }
 {
     let mut parser = Parser::new(alloc, tokens);
-    let decls = parser.decls()?;
+    let decls = decls(&mut parser)?;
     Ok(Model { decls })
 }

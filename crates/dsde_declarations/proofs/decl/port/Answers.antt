@@ -1,0 +1,20 @@
+use Rattle.std.proofs.Common.{rules, sym, [], ◌∷◌, ◌++◌}
+use Rattle.dsde_syntax.specs.declared.token.Key.TheVariants as key
+use Rattle.dsde_syntax.specs.declared.token.Sign.TheVariants as sign
+use Rattle.dsde_grammar.specs.Want as want
+use Rattle.dsde_grammar.specs.Steps.{typed}
+use Rattle.dsde_expressions.proofs.LedLemmas.{leads-from}
+use Rattle.dsde_expressions.proofs.StepLemmas.{port-in}
+use Rattle.dsde_declarations.proofs.decl.port.Goals as goal
+
+pub returns-in_err-key-clause-same : goal.returns-in_err-key-clause-same
+returns-in_err-key-clause-same c =
+    leads-from (want.port ∷ []) (want.word key.In ∷ (typed ++ want.mark sign.Semicolon ∷ [])) [] c.args.parser.now c.key.new.self _ (λ s. port-in s c.args.parser.now.0 c.args.parser.now.1 (sym c.if-takes_key.ensures.comes)) (search rules)
+
+pub returns-in_err-name-2-clause-same : goal.returns-in_err-name-2-clause-same
+returns-in_err-name-2-clause-same c =
+    leads-from (want.port ∷ []) (want.word key.In ∷ (typed ++ want.mark sign.Semicolon ∷ [])) [] c.args.parser.now c.typed-2.new.parser _ (λ s. port-in s c.args.parser.now.0 c.args.parser.now.1 (sym c.if-takes_key.ensures.comes)) (search rules)
+
+pub returns-in_err-sign-2-clause-same : goal.returns-in_err-sign-2-clause-same
+returns-in_err-sign-2-clause-same c =
+    leads-from (want.port ∷ []) (want.word key.In ∷ (typed ++ want.mark sign.Semicolon ∷ [])) [] c.args.parser.now c.sign-2.new.self _ (λ s. port-in s c.args.parser.now.0 c.args.parser.now.1 (sym c.if-takes_key.ensures.comes)) (search rules)

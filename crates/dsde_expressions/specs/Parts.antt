@@ -1,0 +1,69 @@
+-- The levels and the spans of the parts of expressions.
+use Rattle.std.specs.Prelude.{◌≡◌, ◌≤◌, ℕ, Bool, true, List, ◌++◌, map, Option}
+use Rattle.std.specs.Option.{option_map}
+use Rattle.std.specs.List.{list_all}
+use Rattle.dsde_syntax.specs.declared.expr.Expr.{Expr}
+use Rattle.dsde_syntax.specs.declared.expr.Tail.{Tail}
+use Rattle.dsde_syntax.specs.declared.stmt.Stmt.{Stmt}
+use Rattle.dsde_syntax.specs.declared.item.Item.{Item}
+use Rattle.dsde_syntax.specs.declared.item.EndPart.{EndPart}
+use Rattle.dsde_syntax.specs.declared.item.EndPart.TheVariants as end_part
+use Rattle.dsde_syntax.specs.declared.item.ViaKey.{ViaKey}
+use Rattle.dsde_syntax.specs.declared.decl.PortDecl.{PortDecl}
+use Rattle.dsde_syntax.specs.declared.decl.Body.{Body}
+use Rattle.dsde_syntax.specs.declared.decl.Phase.{Phase}
+use Rattle.dsde_syntax.specs.Levels.{has_first, if_written, is_expr, is_stmt, is_item, is_index, is_end, is_phase, is_body, level_of}
+use Rattle.dsde_syntax.specs.declared.token.Key.TheVariants as key
+use Rattle.dsde_syntax.specs.declared.token.Sign.TheVariants as sign
+use Rattle.dsde_syntax.specs.declared.id.Id.{Id}
+use Rattle.dsde_syntax.specs.declared.item.End.{End}
+use Rattle.dsde_syntax.specs.declared.item.ViaPart.{ViaPart}
+use Rattle.dsde_syntax.specs.Grammar.{Tokens, word, joined, commas, elses, optional, in_braces, in_parens, block, mark, id_tokens, args_tokens, end_tokens, via_tokens, via_key_tokens, else_block, expr_tokens, tail_tokens, stmt_tokens, item_tokens, port_tokens, phase_tokens, exec_tokens}
+use Rattle.dsde_syntax.specs.Places.{◌>>◌, token, token_at, bracketed, id_span, args_span, block_span, end_span, via_span, via_key_span, all_spans, spans_with, written_span, else_span, expr_span, stmt_span, item_span, port_span, phase_span, exec_span, Span}
+
+-- an expression that may stand at a level
+abbrev pub IsWithin : ℕ → Expr → Type 0
+IsWithin level expr = level_of expr ≤ level
+
+-- each of some parts is of the grammar
+abbrev pub AllOk : {A : Type 0} → (A → Bool) → List A → Type 0
+AllOk ok list = list_all ok list ≡ true
+
+abbrev pub IsOk : {A : Type 0} → (A → Bool) → A → Type 0
+IsOk ok value = ok value ≡ true
+
+pub record SomeOk {A : Type 0} (ok : A → Bool) (list : List A) : Type 0 where
+  pub some : has_first list ≡ true
+  pub all : list_all ok list ≡ true
+
+-- ["if" expr]
+abbrev pub test_tokens : Option Expr → Tokens
+test_tokens cond = optional (λ test. word key.If ++ test) (option_map expr_tokens cond)
+
+abbrev pub test_span : Option Expr → Span
+test_span cond = written_span (λ test. token >> test) (option_map expr_span cond)
+
+-- operands behind "or" and "and"
+abbrev pub or_tail_tokens : Tail → Tokens
+or_tail_tokens tail = word key.Or ++ tail_tokens tail
+
+abbrev pub and_tail_tokens : Tail → Tokens
+and_tail_tokens tail = word key.And ++ tail_tokens tail
+
+abbrev pub joined_by : {A : Type 0} → (A → Tokens) → List A → Tokens
+joined_by spelled list = joined (map spelled list)
+
+abbrev pub all_by : {A : Type 0} → (A → Span) → List A → Span
+all_by span list = all_spans (map span list)
+
+abbrev pub commas_by : {A : Type 0} → (A → Tokens) → List A → Tokens
+commas_by spelled list = commas (map spelled list)
+
+abbrev pub spans_by : {A : Type 0} → (A → Span) → List A → Span
+spans_by span list = spans_with token (map span list)
+
+abbrev pub elses_by : {A : Type 0} → (A → Tokens) → List A → Tokens
+elses_by spelled list = elses (map spelled list)
+
+abbrev pub any_ok : {A : Type 0} → A → Bool
+any_ok value = true
