@@ -1,4 +1,4 @@
-//! Tests of single calls, and of the objects in memory.
+//! Tests of single calls: values, their types, lists, paths, decimals, inputs.
 #![tactic(auto)]
 
 #[cfg(test)]

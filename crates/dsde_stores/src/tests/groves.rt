@@ -33,7 +33,7 @@ const ROUND: [(Call<'static>, &str); 29] = [
     (Call::Path(2), "root/a/b"),
     (Call::Child(1, "b"), "2"),
     (Call::Grow(0, "a", b'3'), "taken 3"),
-    (Call::Drop(1), "2 dropped, 1 left"),
+    (Call::Drop(1), "dropped 2, left 1"),
     (Call::Get(1), ""),
     (Call::Get(2), ""),
     (Call::Change(2, b'5'), ""),
@@ -54,13 +54,13 @@ const ROUND: [(Call<'static>, &str); 29] = [
     (Call::Path(1), ""),
     (Call::Drop(1), ""),
     (Call::Grow(1, "c", b'5'), "stale 5"),
-    (Call::Drop(3), "1 dropped, 1 left"),
+    (Call::Drop(3), "dropped 1, left 1"),
 ];
 
 /// The root is dropped with a part below it.
 const END: [(Call<'static>, &str); 6] = [
     (Call::Grow(0, "a", b'1'), "grown"),
-    (Call::Drop(0), "2 dropped, 0 left"),
+    (Call::Drop(0), "dropped 2, left 0"),
     (Call::Get(0), ""),
     (Call::Get(1), ""),
     (Call::Drop(0), ""),
@@ -161,11 +161,16 @@ fn child<L: Ledger>(
 ) -> Option<u8> {
     let child = given.grove.child(handle, name, looks)?;
     let number = given.handles.iter().position(|handle| *handle == child)?;
-    Some(if number < 10 {
+    Some(digit(number as u64))
+}
+
+/// A number below ten as it is written.
+fn digit(number: u64) -> u8 {
+    if number < 10 {
         b'0' + number as u8
     } else {
         b'?'
-    })
+    }
 }
 
 /// How the path of a part is written; nothing where there is no part.
@@ -192,9 +197,10 @@ fn tell_drop<L: Ledger>(
     let Some(dropped) = grove.drop_subtree(handle, looks) else {
         return Ok(Text::new(alloc));
     };
-    let left = grove.live();
-    let told = format!(in alloc; "{dropped} dropped, {left} left")?;
-    text(alloc, told.as_bytes())
+    let mut told = with_byte(alloc, "dropped ", digit(dropped))?;
+    told.extend_from_slice(b", left ")?;
+    told.push(digit(grove.live()))?;
+    Ok(told)
 }
 
 /// What a call answers, in words; nothing where it finds no part.
@@ -250,6 +256,19 @@ fn planted(alloc: Global) -> Result<Given, Memory> {
     Ok(Given { grove, handles })
 }
 
+/// Grows and drops over and over, and answers how many parts were born.
+fn play_rounds<L: Ledger>(
+    rt: &impl Abort,
+    alloc: Global,
+    given: &mut Given,
+    looks: &mut Steps<L>,
+) -> Result<u64, Fail> {
+    for _ in 0..1000 {
+        play(rt, alloc, given, &ROUND, looks)?;
+    }
+    Ok(given.grove.born())
+}
+
 /// Grows and drops over and over, and at last drops the root.
 fn ends_with_its_root<L: Ledger>(rt: &impl Abort, alloc: Global, blank: Blank) -> Result<(), Fail>
     requires name { blank.name ≡ L.name }
@@ -258,10 +277,7 @@ fn ends_with_its_root<L: Ledger>(rt: &impl Abort, alloc: Global, blank: Blank) -
 {
     let mut looks = Steps::<L>::new(blank);
     let mut given = planted(alloc)?;
-    for _ in 0..1000 {
-        play(rt, alloc, &mut given, &ROUND, &mut looks)?;
-    }
-    assert_eq!(rt; given.grove.born(), 3001);
+    assert_eq!(rt; play_rounds(rt, alloc, &mut given, &mut looks)?, 3001);
     play(rt, alloc, &mut given, &END, &mut looks)
 }
 

@@ -29,7 +29,7 @@ fn stored_twice<R: Files>(alloc: Global, files: &R, name: &str) -> Result<(Text,
 #[test]
 fn files_are_loaded_and_stored(rt: HostRuntime) -> Result<(), Fail> {
     let number = process::id(rt.process());
-    let name = format!(in rt.alloc(); "/tmp/dsde_calls_{number}")?;
+    let name = format!(in rt.alloc(); "/tmp/dsde_stores_{number}")?;
     let (log, faults) = stored_twice(rt.alloc(), &rt, name.as_str())?;
     fs::remove_file(&rt, name.as_str())?;
     assert_eq!(rt; log.as_slice(), b"++ghij,>,".as_slice());
@@ -37,18 +37,21 @@ fn files_are_loaded_and_stored(rt: HostRuntime) -> Result<(), Fail> {
     Ok(())
 }
 
-const REFUSED_STORES: [(&str, &[u8]); 2] = [("/", b"a"), ("/dev/full", b"a")];
-
-const REFUSED_LOADS: [(&str, u64); 4] = [
-    ("/no/such/file", 9),
-    ("/dev/zero", 1000),
-    ("/", 9),
-    ("a\0b", 9),
-];
+/// What a shelf told of files that can be neither stored nor loaded.
+fn refused<R: Files>(alloc: Global, files: &R) -> Result<(Text, u64), Memory> {
+    let stores = [("/", b"a".as_slice()), ("/dev/full", b"a")];
+    let loads = [
+        ("/no/such/file", 9),
+        ("/dev/zero", 1000),
+        ("/", 9),
+        ("a\0b", 9),
+    ];
+    file_log(alloc, files, &stores, &loads)
+}
 
 #[test]
 fn files_that_cannot_be_read_fail(rt: HostRuntime) -> Result<(), Fail> {
-    let (log, faults) = file_log(rt.alloc(), &rt, &REFUSED_STORES, &REFUSED_LOADS)?;
+    let (log, faults) = refused(rt.alloc(), &rt)?;
     assert_eq!(rt; log.as_slice(), b"!!?,>,!,!,".as_slice());
     assert_eq!(rt; faults, 4);
     Ok(())

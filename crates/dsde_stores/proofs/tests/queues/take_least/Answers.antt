@@ -1,8 +1,8 @@
-use Rattle.std.proofs.Common.{ℕ, ◌+◌, ◌≤◌, ◌==◌, not, List, [], ◌∷◌, length, refl, arith}
+use Rattle.std.proofs.Common.{ℕ, ◌≤◌, ◌==◌, not, List, [], ◌∷◌, length, refl, arith}
 use Rattle.std.proofs.lemmas.List.Filters.{length-filter_both}
 use Rattle.dsde_bank.specs.declared.handle.Handle.{Handle}
 use Rattle.dsde_queue.specs.Queue.{due_of}
-use Rattle.dsde_calls.proofs.tests.queues.take_least.Goals as goal
+use Rattle.dsde_stores.proofs.tests.queues.take_least.Goals as goal
 
 -- no more pairs are due than there are
 few_due : (pairs : List (ℕ × Handle)) → length (due_of pairs) ≤ length pairs
