@@ -1,70 +1,43 @@
 //! What is wanted of a text, beside what is made of it.
 
-use crate::entry::Entry;
-use crate::reading::{Printed, read, shown_places, shown_tokens};
-use dsde_syntax::Memory;
+use crate::reading::read;
+use anyhow::{Context, Result, anyhow};
+use dsde_data::{Value, bytes_of, check_names, tell_said, tell_text};
 use std::alloc::Global;
-use std::fmt::Debug;
 use std::str;
 
 /// What differs from what an entry wants, in lines below its text; nothing where nothing differs.
-pub(crate) fn differences(alloc: Global, entry: &Entry) -> Result<String, Memory> {
-    let text = entry.text.bytes(alloc)?;
+///
+/// An entry has its `text`, and why it is no model, where it is `refused`: `BadByte OFFSET`,
+/// `BadNumber OFFSET`, `Syntax LINE:COLUMN`, `Nested LINE:COLUMN` or `TooLong`. It may have the
+/// lines of its `tokens`, each as `FROM..TO key WORD`, `sign SIGN`, `name NAME` or
+/// `number NUMBER`, their `places` as `LINE:COLUMN`, the end's too, and what is `printed` of the
+/// model.
+pub(crate) fn differences(alloc: Global, entry: &Value) -> Result<String> {
+    check_names(entry, &["text", "refused", "tokens", "places", "printed"])?;
+    let text = bytes_of(alloc, entry.get("text").context("text: left out")?)?;
+    let reading = read(alloc, &text).map_err(|_memory| anyhow!("memory ran out"))?;
     let mut lines = String::new(alloc);
-    tell_model(&mut lines, entry, &read(alloc, &text)?)?;
-    if let Some(tokens) = &entry.tokens {
-        tell(&mut lines, "tokens", tokens, &shown_tokens(alloc, &text)?)?;
+    tell_text(
+        alloc,
+        &mut lines,
+        entry,
+        "refused",
+        reading.refused.as_bytes(),
+    )?;
+    for (name, got) in &[
+        ("tokens", reading.tokens.as_bytes()),
+        ("places", reading.places.as_bytes()),
+        ("printed", reading.printed.as_slice()),
+    ] {
+        tell_said(alloc, &mut lines, entry, *name, *got)?;
     }
-    if let Some(places) = &entry.places {
-        tell(&mut lines, "places", places, &shown_places(alloc, &text)?)?;
+    if !reading.comes_back {
+        writeln!(lines, "  does not come back")?;
     }
     if lines.is_empty() {
         return Ok(lines);
     }
-    let text = shown(&text);
-    Ok(format!(in alloc; "  {text:?}\n{lines}")?)
-}
-
-/// Compares whether the text is a model, and what is printed of it.
-fn tell_model(
-    lines: &mut String,
-    entry: &Entry,
-    model: &Result<Printed, String>,
-) -> Result<(), Memory> {
-    match model {
-        Ok(printed) => {
-            tell(lines, "refused", entry.refused.as_deref(), None)?;
-            if let Some(wanted) = &entry.printed {
-                tell(
-                    lines,
-                    "printed",
-                    wanted.as_str(),
-                    shown(printed.text.as_slice()),
-                )?;
-            }
-            tell(lines, "comes back", true, printed.comes_back)
-        }
-        Err(refused) => tell(
-            lines,
-            "refused",
-            entry.refused.as_deref(),
-            Some(refused.as_str()),
-        ),
-    }
-}
-
-fn tell<T: Copy + Debug + PartialEq>(
-    lines: &mut String,
-    what: &str,
-    wanted: T,
-    got: T,
-) -> Result<(), Memory> {
-    if wanted != got {
-        writeln!(lines, "    {what}: wanted {wanted:?}, got {got:?}")?;
-    }
-    Ok(())
-}
-
-fn shown(bytes: &[u8]) -> &str {
-    str::from_utf8(bytes).unwrap_or("bytes that are no text")
+    let text = str::from_utf8(&text).unwrap_or("bytes that are no text");
+    Ok(format!(in alloc; "{text:?}:\n{lines}")?)
 }

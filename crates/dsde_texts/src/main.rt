@@ -6,37 +6,40 @@
 #![tactic(auto)]
 
 mod compare;
-mod entry;
 mod reading;
-mod text;
 
 use crate::compare::differences;
-use crate::entry::Tables;
-use anyhow::{Context, Result, anyhow};
+use anyhow::{Context, Result};
+use dsde_data::{Value, check_names, items_at, read_cases, word_at};
+use std::env;
 use std::rt::Files;
-use std::{env, fs};
 
 fn main(rt: HostRuntime) -> Result<()> {
     for name in env::args(&rt)?.skip(1) {
-        read_file(&rt, &name).context(format_args!("{name}"))?;
+        show_file(&rt, &name).context(format_args!("{name}"))?;
     }
     Ok(())
 }
 
-/// Reads the texts of a file, and writes a line for each table.
-fn read_file(rt: &(impl Files + Print + AllocGlobal), name: &str) -> Result<()> {
-    let file = fs::read_to_string(rt, name)?;
-    let Tables { tables } = serde_json::from_str(rt.alloc(), &file)?;
-    for table in &tables {
-        let name = &table.name;
-        let texts = table.texts.len();
-        println!(rt; "{name}: {texts} texts")?;
-        for entry in &table.texts {
-            let lines = differences(rt.alloc(), entry).map_err(|_memory| anyhow!(
-                "memory ran out"
-            ))?;
-            print!(rt; "{lines}")?;
-        }
+fn show_file(rt: &(impl Files + Print + AllocGlobal), name: &str) -> Result<()> {
+    let file = read_cases(rt, name)?;
+    check_names(&file, &["tables"])?;
+    for table in items_at(&file, "tables")? {
+        show_table(rt, table)?;
+    }
+    Ok(())
+}
+
+/// Writes a line for a table, and one for each of its texts of which something differs.
+fn show_table(rt: &(impl Print + AllocGlobal), table: &Value) -> Result<()> {
+    check_names(table, &["name", "texts"])?;
+    let name = word_at(table, "name")?;
+    let texts = items_at(table, "texts")?;
+    let count = texts.len();
+    println!(rt; "{name}: {count} texts")?;
+    for entry in texts {
+        let lines = differences(rt.alloc(), entry).context(format_args!("{name}"))?;
+        print!(rt; "{lines}")?;
     }
     Ok(())
 }

@@ -1,130 +1,139 @@
 //! What the lexer, the parser and the printer make of a text.
 
+ghost use Rattle.std.specs.Prelude.{◌≡◌, ◌+◌, ◌≤◌, length, All, IfOk, IfSome, Ok};
+ghost use Rattle.dsde_syntax.specs.Spelling.{HasToken};
+ghost use Rattle.dsde_lexer.specs.Tokens.{tokens};
+
 use dsde_lexer::{LexError, Places, lex};
 use dsde_parser::{ParseError, parse};
 use dsde_syntax::{Items, Memory, Model, Tok, Token, Word, print_model, tokens_of};
 use std::alloc::Global;
 use std::str;
 
-/// Each token of a text, as a table has it; nothing where the text is not cut into tokens.
-pub(crate) fn shown_tokens(alloc: Global, text: &[u8]) -> Result<Vec<String>, Memory> {
-    let mut shown = Vec::new(alloc);
-    if let Some(tokens) = cut(alloc, text)? {
-        for token in tokens.as_slice() {
-            shown.push(shown_token(alloc, token)?)?;
-        }
-    }
-    Ok(shown)
-}
-
-fn shown_token(alloc: Global, token: &Token) -> Result<String, Memory> {
-    let mut shown = String::new(alloc);
-    let from = token.from;
-    let to = token.to;
-    write!(shown, "{from}..{to} ")?;
-    match &token.tok {
-        Tok::Key(key) => {
-            let key = key.text();
-            write!(shown, "key {key}")?
-        }
-        Tok::Sign(sign) => {
-            let sign = sign.text();
-            write!(shown, "sign {sign}")?
-        }
-        Tok::Ident(name) => {
-            let name = str::from_utf8(name.as_slice()).unwrap_or("that is no text");
-            write!(shown, "name {name}")?
-        }
-        Tok::Int(value) => write!(shown, "number {value}")?,
-    }
-    Ok(shown)
-}
-
-/// The line and the column of each token of a text, and of its end; nothing where the text is not
-/// cut into tokens.
-pub(crate) fn shown_places(alloc: Global, text: &[u8]) -> Result<Vec<String>, Memory> {
-    let mut shown = Vec::new(alloc);
-    let tokens = match lex(alloc, text) {
-        Ok(tokens) => tokens,
-        Err(LexError::Memory) => return Err(Memory),
-        Err(_) => return Ok(shown),
-    };
-    let places = Places::new(alloc, text, tokens.as_slice())?;
-    for at in 0..tokens.len() as u32 + 1 {
-        let (line, column) = places.line_column(at);
-        shown.push(format!(in alloc; "{line}:{column}")?)?;
-    }
-    Ok(shown)
-}
-
-/// What is printed of a model.
+/// What is made of a text.
 #[derive(Drop)]
-pub(crate) struct Printed {
-    pub text: Word,
+pub(crate) struct Reading {
+    /// Why the text is no model; nothing where it is one.
+    pub refused: String,
+    /// A line for each token; nothing where the text is not cut into tokens.
+    pub tokens: String,
+    /// The line and the column of each token, and of the end.
+    pub places: String,
+    /// What is printed of the model.
+    pub printed: Word,
     /// Whether the model has the text's tokens, and its printed text is read as the same tokens and
-    /// printed alike.
+    /// printed alike; so too where there is no model.
     pub comes_back: bool,
 }
 
-/// Reads a text as a model: what is printed of it, or why it is none.
-pub(crate) fn read(alloc: Global, text: &[u8]) -> Result<Result<Printed, String>, Memory> {
-    let tokens = match lex(alloc, text) {
-        Ok(tokens) => tokens,
-        Err(LexError::BadByte(at)) => return Ok(Err(format!(in alloc; "BadByte {at}")?)),
-        Err(LexError::BadNumber(at)) => return Ok(Err(format!(in alloc; "BadNumber {at}")?)),
-        Err(LexError::TooLong) => return Ok(Err(String::from_str(alloc, "TooLong")?)),
-        Err(LexError::Memory) => return Err(Memory),
+/// Reads a text as a model.
+pub(crate) fn read(alloc: Global, text: &[u8]) -> Result<Reading, Memory> {
+    let mut reading = Reading {
+        refused: String::new(alloc),
+        tokens: String::new(alloc),
+        places: String::new(alloc),
+        printed: Word::new(alloc),
+        comes_back: true,
     };
-    let places = Places::new(alloc, text, tokens.as_slice())?;
-    match parse(alloc, tokens.as_slice()) {
-        Ok(model) => Ok(Ok(print_and_read(alloc, tokens.as_slice(), &model)?)),
-        Err(ParseError::Syntax(at)) => {
-            let (line, column) = places.line_column(at);
-            Ok(Err(format!(in alloc; "Syntax {line}:{column}")?))
+    if let Some(tokens) = cut(alloc, text, &mut reading.refused)? {
+        let places = Places::new(alloc, text, tokens.as_slice())?;
+        show_tokens(&mut reading.tokens, tokens.as_slice())?;
+        show_places(&mut reading.places, &places, tokens.len())?;
+        match parse(alloc, tokens.as_slice()) {
+            Ok(model) => {
+                reading.printed = print_model(alloc, &model)?;
+                let printed = reading.printed.as_slice();
+                reading.comes_back = comes_back(alloc, tokens.as_slice(), &model, printed)?;
+            }
+            Err(ParseError::Syntax(at)) => {
+                let (line, column) = places.line_column(at);
+                write!(reading.refused, "Syntax {line}:{column}")?;
+            }
+            Err(ParseError::Nested(at)) => {
+                let (line, column) = places.line_column(at);
+                write!(reading.refused, "Nested {line}:{column}")?;
+            }
+            Err(ParseError::Memory) => return Err(Memory),
         }
-        Err(ParseError::Nested(at)) => {
-            let (line, column) = places.line_column(at);
-            Ok(Err(format!(in alloc; "Nested {line}:{column}")?))
-        }
-        Err(ParseError::Memory) => Err(Memory),
     }
+    Ok(reading)
 }
 
-/// Prints a model of these tokens, and reads what is printed.
-fn print_and_read(alloc: Global, tokens: &[Token], model: &Model) -> Result<Printed, Memory> {
-    let text = print_model(alloc, model)?;
-    let comes_back = match model_of(alloc, text.as_slice())? {
-        Some(again) => {
-            has_tokens(alloc, model, tokens)?
-                && has_tokens(alloc, &again, tokens)?
-                && print_model(alloc, &again)?.as_slice() == text.as_slice()
-        }
-        None => false,
-    };
-    Ok(Printed { text, comes_back })
-}
-
-/// The model that a text spells.
-fn model_of(alloc: Global, text: &[u8]) -> Result<Option<Model>, Memory> {
-    let tokens = match lex(alloc, text) {
-        Ok(tokens) => tokens,
-        Err(LexError::Memory) => return Err(Memory),
-        Err(_) => return Ok(None),
-    };
-    match parse(alloc, tokens.as_slice()) {
-        Ok(model) => Ok(Some(model)),
-        Err(ParseError::Memory) => Err(Memory),
-        Err(_) => Ok(None),
-    }
-}
-
-/// The tokens of a text that has some.
-fn cut(alloc: Global, text: &[u8]) -> Result<Option<Items<Token>>, Memory> {
+/// The tokens of a text, or why it has none.
+fn cut(alloc: Global, text: &[u8], refused: &mut String) -> Result<Option<Items<Token>>, Memory>
+    ensures whole { IfOk result (λ cut. IfSome cut (λ list. tokens text.now ≡ Ok list)) }
+    ensures well_formed { IfOk result (λ cut. IfSome cut (All HasToken)) }
+    ensures few { IfOk result (λ cut. IfSome cut (λ list. length list ≤ 1_048_576)) }
+{
     match lex(alloc, text) {
-        Ok(tokens) => Ok(Some(tokens)),
-        Err(LexError::Memory) => Err(Memory),
-        Err(_) => Ok(None),
+        Ok(tokens) => return Ok(Some(tokens)),
+        Err(LexError::BadByte(at)) => write!(refused, "BadByte {at}")?,
+        Err(LexError::BadNumber(at)) => write!(refused, "BadNumber {at}")?,
+        Err(LexError::TooLong) => write!(refused, "TooLong")?,
+        Err(LexError::Memory) => return Err(Memory),
     }
+    Ok(None)
+}
+
+fn show_tokens(shown: &mut String, tokens: &[Token]) -> Result<(), Memory> {
+    for token in tokens {
+        let from = token.from;
+        let to = token.to;
+        write!(shown, "{from}..{to} ")?;
+        show_token(shown, &token.tok)?;
+    }
+    Ok(())
+}
+
+fn show_token(shown: &mut String, token: &Tok) -> Result<(), Memory> {
+    if let Tok::Int(value) = token {
+        writeln!(shown, "number {value}")?;
+        return Ok(());
+    }
+    let (kind, word) = match token {
+        Tok::Key(key) => ("key", key.text()),
+        Tok::Sign(sign) => ("sign", sign.text()),
+        Tok::Ident(name) => (
+            "name",
+            str::from_utf8(name.as_slice()).unwrap_or("that is no text"),
+        ),
+        Tok::Int(_) => ("number", ""),
+    };
+    writeln!(shown, "{kind} {word}")?;
+    Ok(())
+}
+
+/// Shows the places of so many tokens, and of the end.
+fn show_places(shown: &mut String, places: &Places, tokens: usize) -> Result<(), Memory>
+    requires all { length places.now ≡ tokens + 1 }
+    requires few { tokens ≤ 1_048_576 }
+{
+    for at in 0..tokens as u32 + 1 {
+        let (line, column) = places.line_column(at);
+        writeln!(shown, "{line}:{column}")?;
+    }
+    Ok(())
+}
+
+/// Whether a model of these tokens and what its printed text spells have these tokens, and both
+/// are printed alike.
+fn comes_back(
+    alloc: Global,
+    tokens: &[Token],
+    model: &Model,
+    printed: &[u8],
+) -> Result<bool, Memory> {
+    let mut refused = String::new(alloc);
+    if let Some(cut) = cut(alloc, printed, &mut refused)? {
+        if let Ok(again) = parse(alloc, cut.as_slice()) {
+            return Ok(
+                has_tokens(alloc, model, tokens)?
+                    && has_tokens(alloc, &again, tokens)?
+                    && print_model(alloc, &again)?.as_slice() == printed,
+            );
+        }
+    }
+    Ok(false)
 }
 
 /// Whether a model's tokens are spelled as these.
