@@ -5,19 +5,18 @@
 //! comes to yet.
 #![tactic(auto)]
 
-mod case;
 mod compare;
 mod run;
 mod statuses;
-mod text;
 
-use crate::case::Cases;
 use crate::compare::differences;
 use crate::run::run;
 use crate::statuses::show_statuses;
 use anyhow::{Context, Result};
+use dsde_data::{Value, check_names, items_at, read_cases, word_at};
+use std::alloc::Global;
+use std::env;
 use std::rt::Files;
-use std::{env, fs};
 
 fn main(rt: HostRuntime) -> Result<()> {
     for name in env::args(&rt)?.skip(1) {
@@ -27,14 +26,14 @@ fn main(rt: HostRuntime) -> Result<()> {
 }
 
 /// Runs the cases of a file, and writes a line for each.
+///
+/// The texts under `models` stand on the shelf of each case.
 fn run_file(rt: &(impl Files + Print + AllocGlobal), name: &str) -> Result<()> {
-    let alloc = rt.alloc();
-    let text = fs::read_to_string(rt, name)?;
-    let file: Cases = serde_json::from_str(alloc, &text)?;
-    for case in &file.cases {
-        let outcome = run(alloc, case, &file.models)?;
-        let lines = differences(alloc, case, &outcome)?;
-        let name = &case.name;
+    let file = read_cases(rt, name)?;
+    check_names(&file, &["models", "cases"])?;
+    for case in items_at(&file, "cases")? {
+        let name = word_at(case, "name")?;
+        let lines = run_case(rt.alloc(), case, &file).context(format_args!("{name}"))?;
         if lines.is_empty() {
             println!(rt; "{name}: ok")?;
         } else {
@@ -42,4 +41,35 @@ fn run_file(rt: &(impl Files + Print + AllocGlobal), name: &str) -> Result<()> {
         }
     }
     Ok(())
+}
+
+/// Runs a case of a file: what differs from what it wants.
+///
+/// A case has the `words` of a command, a text that stands on its own shelf under the name `model`,
+/// the `input`, the most bytes that one read gives (`largest`), and the numbers, counted from 1, of
+/// the calls that fail. It wants the exit `status`, all of `out` or its end, the `notes`, and, where
+/// they are said, what is `left` of the input and how many `reads` there are.
+fn run_case(alloc: Global, case: &Value, file: &Value) -> Result<String> {
+    check_names(
+        case,
+        &[
+            "name",
+            "words",
+            "model",
+            "input",
+            "largest",
+            "failing_loads",
+            "failing_reads",
+            "failing_writes",
+            "failing_notes",
+            "status",
+            "out",
+            "out_ends_with",
+            "notes",
+            "left",
+            "reads",
+        ],
+    )?;
+    let outcome = run(alloc, case, file)?;
+    differences(alloc, case, &outcome)
 }

@@ -1,16 +1,14 @@
 //! A case's command over memory.
 
-use crate::case::Case;
-use crate::text::{CaseText, bytes_of};
-use anyhow::{Result, ensure};
+use anyhow::{Context, Result, ensure};
 use dsde_cli::dsde;
+use dsde_data::{Value, bytes_of, items_at, number_at, numbers_at, text_at};
 use dsde_io::{MemoryShelf, MemorySink, MemorySource, Stored, has_distinct_names};
 use dsde_values::{Seq, Text};
-use std::alloc::{AllocError, Global};
-use std::collections::BTreeMap;
+use std::alloc::Global;
 
 /// How a command ended, and what it left outside.
-#[derive(Debug, Drop)]
+#[derive(Drop)]
 pub(crate) struct Outcome {
     pub status: u8,
     pub input: MemorySource,
@@ -19,17 +17,13 @@ pub(crate) struct Outcome {
 }
 
 /// Does what a case's words ask for.
-pub(crate) fn run(
-    alloc: Global,
-    case: &Case,
-    models: &BTreeMap<String, CaseText>,
-) -> Result<Outcome> {
-    let mut shelf = shelf_of(alloc, case, models)?;
+pub(crate) fn run(alloc: Global, case: &Value, file: &Value) -> Result<Outcome> {
+    let words = words_of(alloc, case)?;
+    let mut shelf = shelf_of(alloc, case, file)?;
     let mut input = input_of(alloc, case)?;
-    let mut out = sink(alloc, &case.failing_writes)?;
-    let mut notes = sink(alloc, &case.failing_notes)?;
-    let words = case.words.as_slice();
-    let status = dsde(alloc, words, &mut shelf, &mut input, &mut out, &mut notes).number();
+    let mut out = sink(alloc, case, "failing_writes")?;
+    let mut notes = sink(alloc, case, "failing_notes")?;
+    let status = dsde(alloc, &words, &mut shelf, &mut input, &mut out, &mut notes).number();
     Ok(Outcome {
         status,
         input,
@@ -38,17 +32,19 @@ pub(crate) fn run(
     })
 }
 
-/// The models under their names, and the case's own under the name `model`.
-fn shelf_of(
-    alloc: Global,
-    case: &Case,
-    models: &BTreeMap<String, CaseText>,
-) -> Result<MemoryShelf> {
-    let mut held = Vec::new(alloc);
-    for (name, text) in models {
-        held.push(stored(alloc, name, text)?)?;
+fn words_of(alloc: Global, case: &Value) -> Result<Vec<String>> {
+    let mut words = Vec::new(alloc);
+    for word in items_at(case, "words")? {
+        let word = word.as_str().context("words: no string")?;
+        words.push(String::from_str(alloc, word)?)?;
     }
-    if let Some(text) = &case.model {
+    Ok(words)
+}
+
+/// The file's models under their names, and the case's own under the name `model`.
+fn shelf_of(alloc: Global, case: &Value, file: &Value) -> Result<MemoryShelf> {
+    let mut held = models_of(alloc, file)?;
+    if let Some(text) = case.get("model") {
         held.push(stored(alloc, "model", text)?)?;
     }
     let held = Seq::from_vec(held);
@@ -56,28 +52,40 @@ fn shelf_of(
         has_distinct_names(held.as_slice()),
         "two models of one name"
     );
-    Ok(MemoryShelf::new(held, numbers(alloc, &case.failing_loads)?))
+    Ok(MemoryShelf::new(
+        held,
+        Seq::from_vec(numbers_at(alloc, case, "failing_loads")?),
+    ))
 }
 
-fn stored(alloc: Global, name: &str, text: &CaseText) -> Result<Stored, AllocError> {
+fn models_of(alloc: Global, file: &Value) -> Result<Vec<Stored>> {
+    let mut held = Vec::new(alloc);
+    if let Some(models) = file.get("models") {
+        for (name, text) in models.as_object().context("models: no object")? {
+            held.push(stored(alloc, name, text)?)?;
+        }
+    }
+    Ok(held)
+}
+
+fn stored(alloc: Global, name: &str, text: &Value) -> Result<Stored> {
+    let bytes = bytes_of(alloc, text).context(format_args!("{name}"))?;
     Ok(Stored {
         name: Text::from_vec(Vec::from_slice(alloc, name.as_bytes())?),
-        bytes: Text::from_vec(text.bytes(alloc)?),
+        bytes: Text::from_vec(bytes),
     })
 }
 
-fn input_of(alloc: Global, case: &Case) -> Result<MemorySource> {
-    let largest = case.largest.unwrap_or(usize::MAX);
+fn input_of(alloc: Global, case: &Value) -> Result<MemorySource> {
+    let largest = number_at(case, "largest")?.unwrap_or(u64::MAX) as usize;
     ensure!(0 < largest, "a read that gives no byte is the end");
-    let text = Text::from_vec(bytes_of(alloc, case.input.as_ref())?);
-    Ok(MemorySource::new(text, largest, numbers(alloc, &case.failing_reads)?))
+    let text = text_at(alloc, case, "input")?;
+    let failing = numbers_at(alloc, case, "failing_reads")?;
+    Ok(MemorySource::new(Text::from_vec(text), largest, Seq::from_vec(failing)))
 }
 
-/// An empty sink, whose writes of these numbers fail.
-fn sink(alloc: Global, failing: &[u64]) -> Result<MemorySink, AllocError> {
-    Ok(MemorySink::new(Text::new(alloc), numbers(alloc, failing)?))
-}
-
-fn numbers(alloc: Global, numbers: &[u64]) -> Result<Seq<u64>, AllocError> {
-    Ok(Seq::from_vec(Vec::from_slice(alloc, numbers)?))
+/// An empty sink, whose writes of the numbers under this name fail.
+fn sink(alloc: Global, case: &Value, failing: &str) -> Result<MemorySink> {
+    let failing = numbers_at(alloc, case, failing)?;
+    Ok(MemorySink::new(Text::new(alloc), Seq::from_vec(failing)))
 }
