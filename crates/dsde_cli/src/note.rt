@@ -3,9 +3,9 @@ ghost use Rattle.dsde_sim.specs.Text.{fault_text, input_text};
 ghost use Rattle.dsde_cli.specs.Note.{note_of, refusal_text, save_text, usage_text, what_text, why_text, wrong_text};
 
 use crate::{Refusal, SaveFault, Status, What, Why};
+use dsde_lists::append_decimal;
 use dsde_sim::{Fault, InputKind, WrongKind, input_text, write_fault};
 use dsde_values::{Memory, Text, write_path};
-use itoa::Buffer;
 
 const USAGE: &str =
     "usage: dsde check MODEL [--print] | run MODEL --turns N [--only outputs|structure] [--save FILE] | resume MODEL FILE --turns N [--only outputs|structure] [--save FILE] | big SEED --turns N";
@@ -18,10 +18,7 @@ pub(crate) fn write_note(status: &Status, text: &mut Text) -> Result<(), Memory>
 {
     let start = text.len();
     let written = append_note(status, text);
-    if written.is_err() {
-        text.truncate(start);
-    }
-    written
+    text.whole_or_none(start, written)
 }
 
 // The functions below leave some part of what they append, from its front, where memory runs out.
@@ -58,9 +55,9 @@ fn append_refusal(kind: Refusal, line: u32, column: u32, text: &mut Text) -> Res
     text.extend_from_slice(b"refused ")?;
     text.extend_from_slice(refusal_text(kind).as_bytes())?;
     text.push(b' ')?;
-    append_number(u64::from(line), text)?;
+    append_decimal(u64::from(line), text)?;
     text.push(b':')?;
-    append_number(u64::from(column), text)
+    append_decimal(u64::from(column), text)
 }
 
 fn append_bad_input(kind: InputKind, line: u64, text: &mut Text) -> Result<(), Memory>
@@ -70,7 +67,7 @@ fn append_bad_input(kind: InputKind, line: u64, text: &mut Text) -> Result<(), M
     text.extend_from_slice(b"input ")?;
     text.extend_from_slice(input_text(kind).as_bytes())?;
     text.push(b' ')?;
-    append_number(line, text)
+    append_decimal(line, text)
 }
 
 fn append_model_fault(fault: &Fault, text: &mut Text) -> Result<(), Memory>
@@ -113,13 +110,6 @@ fn append_bad_save(fault: &SaveFault, text: &mut Text) -> Result<(), Memory>
         }
         SaveFault::FewRecords => text.extend_from_slice(b"FewRecords"),
     }
-}
-
-fn append_number(number: u64, text: &mut Text) -> Result<(), Memory>
-    ensures ok { OnOk result (text.new ≡ text.old ++ decimal number) }
-    ensures err { OnErr result (text.new ≡ text.old) }
-{
-    text.extend_from_slice(Buffer::new().format(number).as_bytes())
 }
 
 fn refusal_text(kind: Refusal) -> &'static str

@@ -20,7 +20,7 @@ use Rattle.dsde_syntax.specs.declared.item.Item.TheOpen.{Item-F, ItemArm-F}
 use Rattle.dsde_syntax.specs.declared.item.Item.TheViews.{roll-ItemArm}
 use Rattle.dsde_syntax.specs.declared.item.Item.TheFolds.{fold-roll-Item, fold-roll-ItemArm}
 use Rattle.dsde_syntax.specs.declared.token.Tok.TheVariants as tok
-use Rattle.dsde_syntax.specs.declared.token.Key.TheVariants as key
+use Rattle.dsde_words.specs.declared.key.Key.TheVariants as key
 use Rattle.dsde_syntax.specs.declared.token.Sign.TheVariants as sign
 use Rattle.dsde_syntax.specs.declared.item.Bracket.{Bracket}
 use Rattle.dsde_syntax.specs.Grammar.{Tokens, word, mark, id_tokens, args_tokens, component_tokens, block, for_tokens, if_tokens, stmt_step, stmt_arm_step, stmt_tokens, stmt_arm_tokens, item_step, item_arm_step, item_tokens, item_arm_tokens}

@@ -4,7 +4,7 @@ ghost use Rattle.std.specs.Prelude.{◌≡◌, ◌<◌, ◌∷◌, ◌++◌, [],
 ghost use Rattle.dsde_syntax.specs.Grammar.{id_tokens, typed_tokens, params_tokens, port_tokens, state_tokens, phase_tokens, body_tokens, result_tokens, decl_tokens};
 ghost use Rattle.dsde_syntax.specs.Places.{args_span, id_span, typed_span, port_span, state_span, phase_span, body_span, result_span, decl_span};
 ghost use Rattle.dsde_syntax.specs.Levels.{is_expr, is_item, is_state, is_phase, is_body, is_decl};
-ghost use Rattle.dsde_syntax.specs.declared.token.Key.TheVariants as key;
+ghost use Rattle.dsde_words.specs.declared.key.Key.TheVariants as key;
 ghost use Rattle.dsde_syntax.specs.declared.token.Sign.TheVariants as sign;
 ghost use Rattle.dsde_grammar.specs.Want as want;
 ghost use Rattle.dsde_grammar.specs.Steps.{args, typed, params, body, function_body, structure, executive, network_body, start};

@@ -4,7 +4,7 @@ ghost use Rattle.std.specs.Prelude.{◌≡◌, ◌<◌, ◌∷◌, ◌++◌, [],
 ghost use Rattle.dsde_syntax.specs.Grammar.{block, optional, component_tokens, end_tokens, end_part_tokens, via_tokens, via_key_tokens, item_tokens, item_arm_tokens};
 ghost use Rattle.dsde_syntax.specs.Places.{block_span, written_span, component_span, end_span, end_part_span, via_span, via_key_span, item_span, item_arm_span};
 ghost use Rattle.dsde_syntax.specs.Levels.{if_written, is_expr, is_index, is_end, is_via, is_item, is_item_arm};
-ghost use Rattle.dsde_syntax.specs.declared.token.Key.TheVariants as key;
+ghost use Rattle.dsde_words.specs.declared.key.Key.TheVariants as key;
 ghost use Rattle.dsde_syntax.specs.declared.token.Sign.TheVariants as sign;
 ghost use Rattle.dsde_grammar.specs.Want as want;
 ghost use Rattle.dsde_grammar.specs.Steps.{set, args, block as block_wants, loop_rest, arm_rest};

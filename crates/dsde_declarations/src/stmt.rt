@@ -4,7 +4,7 @@ ghost use Rattle.std.specs.Prelude.{◌≡◌, ◌<◌, ◌∷◌, [], true, fal
 ghost use Rattle.dsde_syntax.specs.Grammar.{block, set_tokens, for_tokens, if_tokens, stmt_tokens, stmt_arm_tokens};
 ghost use Rattle.dsde_syntax.specs.Places.{block_span, set_span, for_span, stmt_span, stmt_arm_span};
 ghost use Rattle.dsde_syntax.specs.Levels.{is_expr, is_stmt, is_stmt_arm};
-ghost use Rattle.dsde_syntax.specs.declared.token.Key.TheVariants as key;
+ghost use Rattle.dsde_words.specs.declared.key.Key.TheVariants as key;
 ghost use Rattle.dsde_syntax.specs.declared.token.Sign.TheVariants as sign;
 ghost use Rattle.dsde_grammar.specs.Want as want;
 ghost use Rattle.dsde_grammar.specs.Steps.{set, block as block_wants, loop_rest, arm_rest};

@@ -3,7 +3,7 @@ use Rattle.std.proofs.Common.{◌≡◌, ℕ, ◌+◌, ◌≤◌, Bool, true, fa
 use Rattle.std.specs.Prelude.{option_and_then, flat_map}
 use Rattle.std.specs.List.{list_all}
 use Rattle.std.proofs.lemmas.Bool.Decides.{nat_tests}
-use Rattle.dsde_syntax.specs.declared.token.Key.TheVariants as key
+use Rattle.dsde_words.specs.declared.key.Key.TheVariants as key
 use Rattle.dsde_syntax.specs.declared.token.Sign.{Sign}
 use Rattle.dsde_syntax.specs.declared.expr.Expr.{Expr}
 use Rattle.dsde_syntax.specs.declared.expr.Expr.TheVariants as expr

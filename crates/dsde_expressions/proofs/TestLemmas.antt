@@ -2,9 +2,9 @@
 use Rattle.std.proofs.Common.{◌≡◌, Bool, true, false, refl, sym, ap, ◌↔◌}
 use Rattle.std.specs.Prelude.{IsTrue}
 use denote.Enum.Bare.{true_same, false_same}
-use Rattle.dsde_syntax.specs.contracts.token.Key.{the_type as keys}
+use Rattle.dsde_words.specs.contracts.key.Key.{the_type as keys}
 use Rattle.dsde_syntax.specs.contracts.token.Sign.{the_type as signs}
-use Rattle.dsde_syntax.specs.declared.token.Key.{Key}
+use Rattle.dsde_words.specs.declared.key.Key.{Key}
 use Rattle.dsde_syntax.specs.declared.token.Sign.{Sign}
 use Rattle.dsde_syntax.specs.declared.token.Tok.{Tok}
 use Rattle.dsde_syntax.specs.declared.token.Tok.TheVariants as tok

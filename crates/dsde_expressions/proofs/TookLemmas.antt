@@ -4,7 +4,7 @@ use Rattle.std.specs.Prelude.{option_and_then, flat_map}
 use Rattle.std.specs.List.{list_all, join_by}
 use Rattle.dsde_syntax.specs.declared.token.Tok.{Tok}
 use Rattle.dsde_syntax.specs.declared.token.Tok.TheVariants as tok
-use Rattle.dsde_syntax.specs.declared.token.Key.TheVariants as key
+use Rattle.dsde_words.specs.declared.key.Key.TheVariants as key
 use Rattle.dsde_syntax.specs.declared.token.Sign.TheVariants as sign
 use Rattle.dsde_syntax.specs.Grammar.{Tokens}
 use Rattle.dsde_syntax.specs.Places.{Span, ◌>>◌, token, all_spans}

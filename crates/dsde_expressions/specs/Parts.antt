@@ -13,7 +13,7 @@ use Rattle.dsde_syntax.specs.declared.decl.PortDecl.{PortDecl}
 use Rattle.dsde_syntax.specs.declared.decl.Body.{Body}
 use Rattle.dsde_syntax.specs.declared.decl.Phase.{Phase}
 use Rattle.dsde_syntax.specs.Levels.{has_first, if_written, is_expr, is_stmt, is_item, is_index, is_end, is_phase, is_body, level_of}
-use Rattle.dsde_syntax.specs.declared.token.Key.TheVariants as key
+use Rattle.dsde_words.specs.declared.key.Key.TheVariants as key
 use Rattle.dsde_syntax.specs.declared.token.Sign.TheVariants as sign
 use Rattle.dsde_syntax.specs.declared.id.Id.{Id}
 use Rattle.dsde_syntax.specs.declared.item.End.{End}

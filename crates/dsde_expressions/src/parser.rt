@@ -5,7 +5,7 @@ ghost use Rattle.dsde_syntax.specs.Levels.{is_builtin, is_comparison, is_sum_sig
 ghost use Rattle.dsde_syntax.specs.Places.{id_span, type_span, bracketed};
 ghost use Rattle.dsde_syntax.specs.declared.token.Token.{Token};
 ghost use Rattle.dsde_syntax.specs.declared.token.Tok.TheVariants as tok;
-ghost use Rattle.dsde_syntax.specs.declared.token.Key.TheVariants as key;
+ghost use Rattle.dsde_words.specs.declared.key.Key.TheVariants as key;
 ghost use Rattle.dsde_syntax.specs.declared.token.Sign.TheVariants as sign;
 ghost use Rattle.dsde_grammar.specs.Want as want;
 ghost use Rattle.dsde_grammar.specs.Steps.{angles, is_key, is_sign, is_name, is_number, factor_step, term_step, comparison_step};
@@ -24,7 +24,7 @@ use std::marker::Model;
 pub enum ParseError {
     /// No model has a token like this here.
     Syntax(u32),
-    /// More than 256 brackets are open here.
+    /// More than 256 brackets, or more than 512 conditions, are open here.
     Nested(u32),
     Memory,
 }

@@ -6,7 +6,8 @@ use Rattle.std.proofs.lemmas.List.Elements.{All-cons, All-head, All-tail, All-ap
 use Rattle.dsde_syntax.specs.declared.token.Token.{Token}
 use Rattle.dsde_syntax.specs.declared.token.Tok.{Tok}
 use Rattle.dsde_first.specs.declared.first.FirstState.{FirstState}
-use Rattle.dsde_syntax.specs.Spelling.{IsIdentifier, IsNumber, IsToken, HasToken}
+use Rattle.dsde_words.specs.Words.{IsIdentifier}
+use Rattle.dsde_syntax.specs.Spelling.{IsNumber, IsToken, HasToken}
 use Rattle.dsde_first.specs.First.{Port, into, out_of, FirstText, ins_of, outs_of, model_of, port_tokens, state_tokens, spelled, names_of, KeepsRules, IsFirst}
 
 abbrev Good : List Tok → Type 0

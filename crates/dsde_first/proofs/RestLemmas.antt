@@ -8,7 +8,7 @@ use Rattle.dsde_syntax.specs.declared.token.Tok.{Tok}
 use Rattle.dsde_first.specs.declared.first.FirstState.{FirstState}
 use Rattle.dsde_first.specs.declared.first.FirstSet.{FirstSet}
 use Rattle.dsde_first.specs.declared.first.FirstSum.{FirstSum}
-use Rattle.dsde_syntax.specs.declared.token.Key.TheVariants as key
+use Rattle.dsde_words.specs.declared.key.Key.TheVariants as key
 use Rattle.dsde_syntax.specs.declared.token.Sign.TheVariants as sign
 use Rattle.dsde_first.specs.First.{mark, FirstText, Port, ins_of, outs_of, model_of, advance_tokens, port_tokens, state_tokens, send_tokens, set_tokens, block_tokens, rest_tokens}
 use Rattle.dsde_first.specs.Wants.{Took, Reads, ReadsTail, ReadsRest, accepts, head_wants, head_tokens, advance_wants, blocks_wants, blocks_tokens, tail_wants, tail_tokens}

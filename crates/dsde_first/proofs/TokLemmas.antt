@@ -5,11 +5,12 @@ use Rattle.std.proofs.lemmas.Slice.Eq.{bytes_eq-Decides}
 use Rattle.std.proofs.lemmas.Bool.Decides.{Decides-eqb}
 use Rattle.dsde_syntax.specs.declared.token.Tok.{Tok}
 use Rattle.dsde_syntax.specs.declared.token.Tok.TheVariants as tok
-use Rattle.dsde_syntax.specs.declared.token.Key.{Key}
-use Rattle.dsde_syntax.specs.declared.token.Key.TheVariants as key
+use Rattle.dsde_words.specs.declared.key.Key.{Key}
+use Rattle.dsde_words.specs.declared.key.Key.TheVariants as key
 use Rattle.dsde_syntax.specs.declared.token.Sign.{Sign}
 use Rattle.dsde_syntax.specs.declared.token.Sign.TheVariants as sign
-use Rattle.dsde_syntax.specs.Spelling.{key_text, sign_text, key_of, sign_of}
+use Rattle.dsde_words.specs.Words.{key_text, key_of}
+use Rattle.dsde_syntax.specs.Spelling.{sign_text, sign_of}
 use Rattle.dsde_first.specs.Wants.{tok_is}
 
 -- a reserved word is read back from how it is written

@@ -2,8 +2,8 @@
 use Rattle.std.proofs.Common.{◌≡◌, ℕ, Bool, true, false, List, [], ◌∷◌, ◌++◌, Some, None, Err, refl, sym, ap, ◌∙◌}
 use Rattle.dsde_syntax.specs.declared.token.Tok.{Tok}
 use Rattle.dsde_syntax.specs.declared.token.Tok.TheVariants as tok
-use Rattle.dsde_syntax.specs.declared.token.Key.{Key}
-use Rattle.dsde_syntax.specs.declared.token.Key.TheVariants as key
+use Rattle.dsde_words.specs.declared.key.Key.{Key}
+use Rattle.dsde_words.specs.declared.key.Key.TheVariants as key
 use Rattle.dsde_first.specs.Wants.{Want, exactly, name, number, part, time, some_wants, none_wants, time_wants, some_tail, none_tail, Act, push, pop, die, act, push_if, tok_is, after, feed, can_end, accepts, Took, Reads, NoName, NoNumber, part_wants, argument_wants, argument_tokens}
 use Rattle.dsde_first.specs.First.{word, part_tokens, time_tokens}
 use Rattle.dsde_first.specs.declared.first.FirstSum.{FirstSum}

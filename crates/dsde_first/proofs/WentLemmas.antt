@@ -7,12 +7,12 @@ use Rattle.dsde_first.specs.declared.reader.ReadFirst.TheVariants as read_first
 use Rattle.dsde_syntax.specs.declared.token.Tok.{Tok}
 use Rattle.dsde_syntax.specs.declared.token.Tok.TheVariants as tok
 use Rattle.dsde_first.specs.Wants.{Want, ReadsPorts, ports, sets, block, push, pop, act, push_if, tok_is, can_end, accepts, Took, Reads, NoName, port_wants, port_tail, part_wants, sum_wants, parts, braced_wants, braced_tokens}
-use Rattle.dsde_syntax.specs.declared.token.Key.{Key}
+use Rattle.dsde_words.specs.declared.key.Key.{Key}
 use Rattle.dsde_first.specs.declared.first.FirstSet.{FirstSet}
 use Rattle.std.specs.List.{join_by}
 use Rattle.dsde_first.specs.declared.first.FirstPart.{FirstPart}
 use Rattle.dsde_syntax.specs.declared.token.Sign.TheVariants as sign
-use Rattle.dsde_syntax.specs.declared.token.Key.TheVariants as key
+use Rattle.dsde_words.specs.declared.key.Key.TheVariants as key
 use Rattle.dsde_first.specs.First.{word, mark, part_tokens, port_tokens, block_tokens, Port, into, out_of, ins_of, outs_of}
 use Rattle.dsde_first.proofs.TokLemmas.{tok_is-same, tok_is-other}
 use Rattle.dsde_first.proofs.WantsLemmas.{accepts-push, accepts-pop, accepts-left_out}

@@ -4,8 +4,8 @@ use Rattle.std.specs.List.{join_by}
 use Rattle.dsde_syntax.specs.declared.token.Token.{Token}
 use Rattle.dsde_syntax.specs.declared.token.Tok.{Tok}
 use Rattle.dsde_syntax.specs.declared.token.Tok.TheVariants as tok
-use Rattle.dsde_syntax.specs.declared.token.Key.{Key}
-use Rattle.dsde_syntax.specs.declared.token.Key.TheVariants as key
+use Rattle.dsde_words.specs.declared.key.Key.{Key}
+use Rattle.dsde_words.specs.declared.key.Key.TheVariants as key
 use Rattle.dsde_syntax.specs.declared.token.Sign.{Sign}
 use Rattle.dsde_syntax.specs.declared.token.Sign.TheVariants as sign
 use Rattle.dsde_first.specs.declared.first.FirstModel.{FirstModel}
@@ -14,7 +14,8 @@ use Rattle.dsde_first.specs.declared.first.FirstSet.{FirstSet}
 use Rattle.dsde_first.specs.declared.first.FirstSum.{FirstSum}
 use Rattle.dsde_first.specs.declared.first.FirstPart.{FirstPart}
 use Rattle.dsde_first.specs.declared.first.FirstPart.TheVariants as part
-use Rattle.dsde_syntax.specs.Spelling.{IsIdentifier, IsNumber}
+use Rattle.dsde_words.specs.Words.{IsIdentifier}
+use Rattle.dsde_syntax.specs.Spelling.{IsNumber}
 use Rattle.dsde_lexer.specs.Tokens.{tokens}
 
 -- a port as it is written: an in port or an out port

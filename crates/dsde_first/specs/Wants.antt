@@ -3,13 +3,14 @@
 use Rattle.std.specs.Prelude.{◌≡◌, ℕ, ⊤, Bool, true, false, ◌&&◌, ◌==◌, List, [], ◌∷◌, ◌++◌, Option, Some, None, Result, Ok, Err, bytes_eq, flat_map, ◌≤◌, length, All, unwrap_or, IfSome}
 use Rattle.dsde_syntax.specs.declared.token.Tok.{Tok}
 use Rattle.dsde_syntax.specs.declared.token.Tok.TheVariants as tok
-use Rattle.dsde_syntax.specs.declared.token.Key.{Key}
-use Rattle.dsde_syntax.specs.declared.token.Key.TheVariants as key
+use Rattle.dsde_words.specs.declared.key.Key.{Key}
+use Rattle.dsde_words.specs.declared.key.Key.TheVariants as key
 use Rattle.dsde_syntax.specs.declared.token.Sign.{Sign}
 use Rattle.dsde_syntax.specs.declared.token.Sign.TheVariants as sign
 use Rattle.dsde_first.specs.declared.reader.ReadFirst.{ReadFirst}
 use Rattle.dsde_first.specs.declared.reader.ReadFirst.TheVariants as read_first
-use Rattle.dsde_syntax.specs.Spelling.{key_text, sign_text}
+use Rattle.dsde_words.specs.Words.{key_text}
+use Rattle.dsde_syntax.specs.Spelling.{sign_text}
 use Rattle.dsde_first.specs.declared.reader.Ports.{Ports}
 use Rattle.dsde_first.specs.declared.reader.Head.{Head}
 use Rattle.dsde_first.specs.declared.reader.Blocks.{Blocks}

@@ -3,7 +3,7 @@ ghost use Rattle.dsde_first.specs.declared.first.FirstModel.{FirstModel};
 ghost use Rattle.dsde_first.specs.First.{Spells, mark, part_tokens, sum_tokens, state_tokens, send_tokens, set_tokens, time_tokens, advance_tokens, block_tokens};
 ghost use Rattle.dsde_syntax.specs.declared.token.Tok.TheVariants as tok;
 ghost use Rattle.dsde_syntax.specs.declared.token.Sign.TheVariants as sign;
-ghost use Rattle.dsde_syntax.specs.declared.token.Key.TheVariants as key;
+ghost use Rattle.dsde_words.specs.declared.key.Key.TheVariants as key;
 ghost use Rattle.dsde_first.specs.Wants.{exactly, name as any_name, number as any_number, states, sends, sets, block, NoName, NoNumber, Takes, Reads, ReadsPorts, ReadsHead, ReadsEnd, ReadsTail, ReadsRest, ReadsFile, part_wants, sum_wants, argument_wants, port_wants, state_wants, time_wants, some_wants, none_wants, some_tail, none_tail, advance_wants, send_wants, set_wants, braced_wants, blocks_wants, top_wants, argument_tokens, top_tokens, port_tail, state_tail, send_tail, set_tail, braced_tokens, blocks_tokens};
 
 use crate::first::{FirstModel, FirstPart, FirstSet, FirstState, FirstSum};

@@ -2,8 +2,8 @@
 use Rattle.std.proofs.Common.{ℕ, zero, suc, Bool, true, false, List, [], ◌∷◌, map, Option, Some, None}
 use Rattle.std.specs.Prelude.{if◌then◌else◌, ◌==◌, nat_le, nat_lt}
 use Rattle.dsde_syntax.specs.declared.token.Tok.TheVariants as tok
-use Rattle.dsde_syntax.specs.declared.token.Key.{Key}
-use Rattle.dsde_syntax.specs.declared.token.Key.TheVariants as key
+use Rattle.dsde_words.specs.declared.key.Key.{Key}
+use Rattle.dsde_words.specs.declared.key.Key.TheVariants as key
 use Rattle.dsde_syntax.specs.declared.token.Sign.{Sign}
 use Rattle.dsde_syntax.specs.declared.token.Sign.TheVariants as sign
 use Rattle.dsde_syntax.specs.declared.type_name.TypeName.{TypeName}

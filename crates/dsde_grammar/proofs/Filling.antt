@@ -1,14 +1,15 @@
 -- Each step is sound, and each want can be met.
 use Rattle.std.proofs.Common.{◌≡◌, ℕ, true, false, [], ◌∷◌, None, refl, sym, subst, arith}
-use Rattle.std.specs.Prelude.{All, IsTrue}
+use Rattle.std.specs.Prelude.{All}
 use Rattle.std.proofs.lemmas.List.Elements.{All-nil, All-cons, All-append}
 use Rattle.dsde_syntax.specs.declared.token.Tok.{Tok}
 use Rattle.dsde_syntax.specs.declared.token.Tok.TheVariants as tok
-use Rattle.dsde_syntax.specs.declared.token.Key.{Key}
-use Rattle.dsde_syntax.specs.declared.token.Key.TheVariants as key
+use Rattle.dsde_words.specs.declared.key.Key.{Key}
+use Rattle.dsde_words.specs.declared.key.Key.TheVariants as key
 use Rattle.dsde_syntax.specs.declared.token.Sign.{Sign}
 use Rattle.dsde_syntax.specs.declared.token.Sign.TheVariants as sign
-use Rattle.dsde_syntax.specs.Spelling.{IsIdentifier, IsToken, is_word_byte}
+use Rattle.dsde_words.specs.Words.{IsIdentifier}
+use Rattle.dsde_syntax.specs.Spelling.{IsToken}
 use Rattle.dsde_grammar.specs.Want.{Want}
 use Rattle.dsde_grammar.specs.Want as want
 use Rattle.dsde_grammar.specs.Steps.{Wants, step, may_end, go_if, is_key, is_sign, name_step, type_step, expr_step, negation_step, minus_step, prim_step, suffix_step, comparison_step, fallback_step, after_name_step, args_rest_step, row_rest_step, test_step, else_rest_step, stmt_step, else_step, else_block_step, item_step, index_step, end_step, via_step, via_key_step, decl_step, params_rest_step, port_step, state_step, block}
@@ -130,9 +131,7 @@ mark-filled which = record { value = tt; lawful = All-cons IsToken (tok.Sign whi
 
 -- the identifier `a`
 a-lawful : IsIdentifier (97 ∷ [])
-a-lawful =
-    let P : ℕ → Type 0 = λ byte. IsTrue (is_word_byte byte) in
-    record { some = omega arith; begins = refl; bytes = All-cons P 97 [] refl (All-nil P); free = refl }
+a-lawful = record { word = refl; free = refl }
 
 name-filled : Filled want.name
 name-filled = record { value = named (97 ∷ []); lawful = All-cons IsToken (tok.Ident (97 ∷ [])) [] a-lawful (All-nil IsToken) }

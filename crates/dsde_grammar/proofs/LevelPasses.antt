@@ -3,8 +3,8 @@ use Rattle.std.proofs.Common.{◌≡◌, ℕ, zero, suc, ◌+◌, ◌-◌, ◌<�
 use Rattle.std.specs.Prelude.{nat_lt}
 use Rattle.std.proofs.lemmas.Bool.Decides.{nat_tests}
 use Rattle.dsde_syntax.specs.declared.token.Tok.TheVariants as tok
-use Rattle.dsde_syntax.specs.declared.token.Key.{Key}
-use Rattle.dsde_syntax.specs.declared.token.Key.TheVariants as key
+use Rattle.dsde_words.specs.declared.key.Key.{Key}
+use Rattle.dsde_words.specs.declared.key.Key.TheVariants as key
 use Rattle.dsde_syntax.specs.declared.token.Sign.{Sign}
 use Rattle.dsde_syntax.specs.declared.token.Sign.TheVariants as sign
 use Rattle.dsde_syntax.specs.Grammar.{Tokens, joined}

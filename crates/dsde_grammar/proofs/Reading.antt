@@ -6,7 +6,7 @@ use Rattle.std.proofs.lemmas.Bool.Decides.{Decides-eqb}
 use Rattle.std.specs.Prelude.{option_and_then, if◌then◌else◌, ◌==◌}
 use Rattle.dsde_syntax.specs.declared.token.Tok.{Tok}
 use Rattle.dsde_syntax.specs.declared.token.Tok.TheVariants as tok
-use Rattle.dsde_syntax.specs.declared.token.Key.{Key}
+use Rattle.dsde_words.specs.declared.key.Key.{Key}
 use Rattle.dsde_syntax.specs.declared.token.Sign.{Sign}
 use Rattle.dsde_syntax.specs.declared.id.Id.{Id}
 use Rattle.dsde_syntax.specs.Grammar.{Tokens, id_tokens, joined}

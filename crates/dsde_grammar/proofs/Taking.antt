@@ -3,11 +3,11 @@ use Rattle.std.proofs.Common.{◌≡◌, ℕ, Bool, true, false, ◌&&◌, List,
 use Rattle.std.proofs.lemmas.List.{append-nil}
 use Rattle.std.specs.List.{list_all}
 use denote.Enum.Bare.{same_true}
-use Rattle.dsde_syntax.specs.contracts.token.Key.{the_type as keys}
+use Rattle.dsde_words.specs.contracts.key.Key.{the_type as keys}
 use Rattle.dsde_syntax.specs.contracts.token.Sign.{the_type as signs}
 use Rattle.dsde_syntax.specs.declared.token.Tok.{Tok}
 use Rattle.dsde_syntax.specs.declared.token.Tok.TheVariants as tok
-use Rattle.dsde_syntax.specs.declared.token.Key.{Key}
+use Rattle.dsde_words.specs.declared.key.Key.{Key}
 use Rattle.dsde_syntax.specs.declared.token.Sign.{Sign}
 use Rattle.dsde_syntax.specs.declared.id.Id.{Id}
 use Rattle.dsde_syntax.specs.Grammar.{Tokens, word, mark}

@@ -2,12 +2,12 @@
 -- Proofs alone read this; the grammar to believe is that of the tokens of a model.
 use Rattle.std.specs.Prelude.{ℕ, ◌+◌, Bool, true, false, ◌&&◌, if◌then◌else◌, List, [], ◌∷◌, ◌++◌, Option, Some, None}
 use denote.Enum.Bare.{sameb}
-use Rattle.dsde_syntax.specs.contracts.token.Key.{the_type as keys}
+use Rattle.dsde_words.specs.contracts.key.Key.{the_type as keys}
 use Rattle.dsde_syntax.specs.contracts.token.Sign.{the_type as signs}
 use Rattle.dsde_syntax.specs.declared.token.Tok.{Tok}
 use Rattle.dsde_syntax.specs.declared.token.Tok.TheVariants as tok
-use Rattle.dsde_syntax.specs.declared.token.Key.{Key}
-use Rattle.dsde_syntax.specs.declared.token.Key.TheVariants as key
+use Rattle.dsde_words.specs.declared.key.Key.{Key}
+use Rattle.dsde_words.specs.declared.key.Key.TheVariants as key
 use Rattle.dsde_syntax.specs.declared.token.Sign.{Sign}
 use Rattle.dsde_syntax.specs.declared.token.Sign.TheVariants as sign
 use Rattle.dsde_syntax.specs.Grammar.{Tokens}

@@ -1,5 +1,5 @@
 -- What a text of the grammar still wants, behind the tokens that have come.
-use Rattle.dsde_syntax.specs.declared.token.Key.{Key}
+use Rattle.dsde_words.specs.declared.key.Key.{Key}
 use Rattle.dsde_syntax.specs.declared.token.Sign.{Sign}
 
 pub data Want : Type 0 where

@@ -18,7 +18,8 @@ use Rattle.dsde_values.specs.declared.types.Field.{Field}
 use Rattle.dsde_values.specs.declared.types.Types.{Types}
 use Rattle.dsde_values.specs.declared.value.Value.{Value}
 use Rattle.dsde_values.specs.Value.{HasType, spelling}
-use Rattle.dsde_values.specs.Word.{is_word_byte, is_identifier, begins_word, ends_word, Begins}
+use Rattle.dsde_words.specs.Words.{is_word_byte, is_word, begins_word}
+use Rattle.dsde_values.specs.Word.{ends_word, Begins}
 use Rattle.dsde_input.specs.Lines.{Lacks}
 use Rattle.dsde_input.specs.Record.{ArePorts, IsItem, item_text, port_name}
 use Rattle.dsde_input.specs.Reading.{Reads, NoWord}
@@ -42,7 +43,7 @@ Lacks-word (byte ∷ word) all =
     (no_space byte p.0, Lacks-word word p.1)
 
 -- An identifier has no space.
-Lacks-identifier : (name : List ℕ) → is_identifier name ≡ true → Lacks 32 name
+Lacks-identifier : (name : List ℕ) → is_word name ≡ true → Lacks 32 name
 Lacks-identifier [] is = tt
 Lacks-identifier (byte ∷ name) is = Lacks-word (byte ∷ name) (both _ _ is).1
 
@@ -57,7 +58,7 @@ module _ (ports : List Field) (types : Types) (lawful : ArePorts ports) (text : 
       (take at text ≡ is.port.name) × (drop (at + 1) text ≡ spelling types item.value ++ rest)
   item_parts item rest is same =
       let named : port_name ports item.port ≡ is.port.name = ap (λ found. option_map_or (λ field. field.name) found []) is.at in
-      let name_lacks = Lacks-identifier is.port.name (port_fact (λ port. is_identifier port.name ≡ true) ports item.port is.port lawful.named is.at) in
+      let name_lacks = Lacks-identifier is.port.name (port_fact (λ port. is_word port.name ≡ true) ports item.port is.port lawful.named is.at) in
       let split : item_text ports types item ++ rest ≡ is.port.name ++ 32 ∷ (spelling types item.value ++ rest) =
       rw named (append_assoc is.port.name (32 ∷ spelling types item.value) rest) in
       same_cut 32 (take at text) (drop (at + 1) text) is.port.name (spelling types item.value ++ rest)

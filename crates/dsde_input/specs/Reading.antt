@@ -1,6 +1,6 @@
 -- What a reading of the front of a text finds.
 use Rattle.std.specs.Prelude.{ℕ, ◌≡◌, ◌≤◌, false, List, ◌++◌, length, drop, Option, IfSome, IsSomeAnd}
-use Rattle.dsde_values.specs.Word.{begins_word}
+use Rattle.dsde_words.specs.Words.{begins_word}
 
 -- No word goes on.
 abbrev pub NoWord : List ℕ → Type 0

@@ -11,12 +11,12 @@ use Rattle.dsde_values.specs.declared.types.Types.{Types}
 use Rattle.dsde_values.specs.declared.value.Value.{Value}
 use Rattle.dsde_values.specs.declared.value.Value.TheVariants as value
 use Rattle.dsde_values.specs.Value.{HasType, spelling}
-use Rattle.dsde_values.specs.Word.{is_identifier}
+use Rattle.dsde_words.specs.Words.{is_word}
 
 -- what an input may come to: names that are identifiers and differ, and so far whole numbers alone
 pub record ArePorts (ports : List Field) : Type 0 where
   pub few : length ports ≤ 2 ^ 32
-  pub named : All (λ port. is_identifier port.name ≡ true) ports
+  pub named : All (λ port. is_word port.name ≡ true) ports
   pub distinct : AllPairs (λ port later. port.name ≢ later.name) ports
   pub whole : All (λ port. port.ty ≡ ty.Int) ports
 

@@ -5,11 +5,10 @@ ghost use Rattle.dsde_values.specs.declared.arrival.Item.{Item};
 ghost use Rattle.dsde_input.specs.Reading.{Reads, Anything, NoWord};
 ghost use Rattle.dsde_input.specs.Record.{ArePorts, IsTime, IsItem, AreItems, time_text, item_text, later_item_text, items_text, record_of};
 
-use dsde_values::{Arrival, Field, Item, Memory, ReadValue, Seq, Types, decimal_of, read_value};
+use dsde_values::{
+    Arrival, Field, Item, LAST_MOMENT, Memory, ReadValue, Seq, Types, decimal_of, read_value,
+};
 use std::alloc::Global;
-
-/// The greatest time that a record may have.
-const LAST_TIME: u64 = 9_223_372_036_854_775_807;
 
 /// The record that a line spells, if it spells one.
 pub fn read_record(
@@ -42,7 +41,7 @@ fn read_time(line: &[u8]) -> Option<(u64, usize)>
 {
     let size = space_at(line)?;
     let time = decimal_of(&line[..size])?;
-    (time <= LAST_TIME).then_some((time, size + 1))
+    (time <= LAST_MOMENT).then_some((time, size + 1))
 }
 
 /// The items that a text spells, if it spells some.

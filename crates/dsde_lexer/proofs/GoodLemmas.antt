@@ -1,21 +1,23 @@
 -- The identifiers and the numbers among the tokens of a text are well formed.
 use Rattle.std.proofs.Common.{◌≡◌, ℕ, zero, suc, ◌+◌, ◌-◌, ◌≤◌, Bool, true, false, ◌&&◌, not, cond, List, [], ◌∷◌, length, drop, Option, Some, None, Result, Ok, Err, refl, subst, arith}
-use Rattle.std.specs.Prelude.{⊤, All, IfOk, IsTrue, slice_index, take_while, nat_le, nat_lt, if◌then◌else◌, ◌==◌}
+use Rattle.std.specs.Prelude.{⊤, All, IfOk, IsTrue, take_while, nat_le, nat_lt, if◌then◌else◌, ◌==◌}
 use Rattle.std.specs.Option.{option_map_or}
+use Rattle.std.specs.List.{list_all}
 use Rattle.std.specs.Char.{is_ascii_digit}
 use Rattle.std.specs.Str.Parse.{digits_value}
 use Rattle.std.proofs.lemmas.List.Elements.{All-cons}
-use Rattle.std.proofs.lemmas.List.Sums.{take_while-cons}
+use Rattle.std.proofs.lemmas.List.Sums.{take_while-cons, list_all-from_AllPass}
 use Rattle.std.proofs.lemmas.Bool.Decides.{nat_tests}
 use Rattle.dsde_syntax.specs.declared.token.Token.{Token}
 use Rattle.dsde_syntax.specs.declared.token.Tok.TheVariants as tok
-use Rattle.dsde_syntax.specs.declared.token.Key.{Key}
+use Rattle.dsde_words.specs.declared.key.Key.{Key}
 use Rattle.dsde_syntax.specs.declared.token.Sign.{Sign}
 use Rattle.dsde_lexer.specs.declared.lexer.Front.{Front}
 use Rattle.dsde_lexer.specs.declared.lexer.Front.TheVariants as front
 use Rattle.dsde_lexer.specs.declared.lexer.LexError.{LexError}
-use Rattle.dsde_syntax.specs.Spelling.{IsIdentifier, IsToken, HasToken, is_word_byte, key_of, sign_of, sign_text}
-use Rattle.dsde_lexer.specs.Tokens.{is_blank, is_in_comment, begins_word, word_piece, number_piece, sign_piece, front_of, before, placed, tokens_from, tokens}
+use Rattle.dsde_words.specs.Words.{IsIdentifier, is_word_byte, begins_word, is_word, key_of}
+use Rattle.dsde_syntax.specs.Spelling.{IsToken, HasToken, sign_of, sign_text}
+use Rattle.dsde_lexer.specs.Tokens.{is_blank, is_in_comment, word_piece, number_piece, sign_piece, front_of, before, placed, tokens_from, tokens}
 
 -- a fact of both arms of a choice
 of_cond : {A : Type 0} (P : A → Type 0) (b : Bool) (x y : A) → (b ≡ true → P x) → (b ≡ false → P y) → P (cond b x y)
@@ -60,15 +62,19 @@ unfolding Good
 sign-good None = tt
 sign-good (Some mark) = tt
 
+-- a word's first byte is no digit, and each is a word's
+word-parts : (digit all : Bool) → digit ≡ false → all ≡ true → (not digit && all) ≡ true
+word-parts digit all first each = rw (first, each) refl
+
 word_piece-good : (byte : ℕ) (bytes : List ℕ) → is_ascii_digit byte ≡ false → is_word_byte byte ≡ true → Good (word_piece (byte ∷ bytes))
 unfolding Good
 word_piece-good byte bytes digit h =
     let word = take_while is_word_byte (byte ∷ bytes) in
     let rest = take_while is_word_byte bytes in
     let is : word ≡ byte ∷ rest = rw (take_while-cons is_word_byte byte bytes, h) refl in
-    let begins : is_ascii_digit (slice_index word 0) ≡ false = rw is digit in
-    let some : 1 ≤ length word = rw is (omega arith) in
-    word_token-good word (key_of word) refl (λ free. record { some = some; begins = begins; bytes = All-take_while is_word_byte (byte ∷ bytes); free = free })
+    let all : list_all is_word_byte word ≡ true = list_all-from_AllPass is_word_byte word (All-take_while is_word_byte (byte ∷ bytes)) in
+    let own : is_word word ≡ true = rw is (word-parts (is_ascii_digit byte) (list_all is_word_byte (byte ∷ rest)) digit (rw is at all)) in
+    word_token-good word (key_of word) refl (λ free. record { word = own; free = free })
 
 front_of-good : (text : List ℕ) → Good (front_of text)
 unfolding Good

@@ -1,5 +1,5 @@
 -- The tokens of a text stand one behind another within it.
-use Rattle.std.proofs.Common.{◌≡◌, ℕ, zero, suc, ◌+◌, ◌-◌, ◌<◌, ◌≤◌, Bool, true, false, not, cond, List, [], ◌∷◌, length, Option, Some, None, Result, Ok, Err, refl, sym, ap, subst, arith, nat_eq}
+use Rattle.std.proofs.Common.{◌≡◌, ℕ, zero, suc, ◌+◌, ◌-◌, ◌<◌, ◌≤◌, Bool, true, false, cond, List, [], ◌∷◌, length, Option, Some, None, Result, Ok, Err, refl, sym, subst, arith}
 use Rattle.std.specs.Prelude.{IfOk, take_while, nat_lt, if◌then◌else◌, ◌==◌}
 use Rattle.std.specs.Option.{option_map_or}
 use Rattle.std.specs.Char.{is_ascii_digit}
@@ -8,12 +8,13 @@ use Rattle.std.proofs.lemmas.Bool.Decides.{Decides-eqb, nat_tests}
 use Rattle.dsde_syntax.specs.declared.token.Token.{Token}
 use Rattle.dsde_syntax.specs.declared.token.Tok.TheVariants as tok
 use Rattle.dsde_syntax.specs.declared.token.Sign.{Sign}
-use Rattle.dsde_syntax.specs.Spelling.{is_word_byte, sign_of, sign_text}
+use Rattle.dsde_words.specs.Words.{is_word_byte}
+use Rattle.dsde_syntax.specs.Spelling.{sign_of, sign_text}
 use Rattle.dsde_lexer.specs.declared.lexer.Front.{Front}
 use Rattle.dsde_lexer.specs.declared.lexer.Front.TheVariants as front
 use Rattle.dsde_lexer.specs.declared.lexer.LexError.{LexError}
 use Rattle.dsde_lexer.specs.declared.lexer.LexError.TheVariants as lex_error
-use Rattle.dsde_lexer.specs.Tokens.{is_blank, is_in_comment, word_piece, number_piece, sign_piece, front_of, before, placed, tokens_from, tokens, AreInOrder}
+use Rattle.dsde_lexer.specs.Tokens.{is_blank, is_in_comment, word_piece, number_piece, sign_piece, front_of, placed, tokens_from, tokens, AreInOrder}
 use Rattle.dsde_lexer.proofs.SignLemmas.{0-lt-sign_text, sign_of-within}
 
 -- a fact of both arms of a choice

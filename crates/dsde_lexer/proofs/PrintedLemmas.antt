@@ -1,30 +1,32 @@
 -- What is printed of tokens is cut into these tokens again.
-use Rattle.std.proofs.Common.{◌≡◌, ℕ, zero, suc, ◌+◌, ◌-◌, ◌<◌, ◌≤◌, Bool, true, false, ◌&&◌, not, cond, List, [], ◌∷◌, ◌++◌, length, get_or, drop, map, Option, Some, None, Result, Ok, Err, IsTrue, refl, sym, ap, subst, ◌∙◌, arith, append_assoc, length-append}
-use Rattle.std.specs.Prelude.{All, IsOkAnd, take_while, flat_map, decimal, codes, nat_le, if◌then◌else◌, ◌==◌}
-use Rattle.std.specs.List.{join_by}
+use Rattle.std.proofs.Common.{◌≡◌, ℕ, ◌+◌, ◌<◌, ◌≤◌, Bool, true, false, ◌&&◌, not, cond, List, [], ◌∷◌, ◌++◌, length, get_or, drop, map, Option, Result, Ok, Err, IsTrue, refl, sym, ap, subst, ◌∙◌, arith, append_assoc, length-append}
+use Rattle.std.specs.Prelude.{All, IsOkAnd, take_while, flat_map, decimal, codes, nat_le, ◌==◌}
+use Rattle.std.specs.List.{join_by, list_all}
 use Rattle.std.specs.Option.{option_map_or}
 use Rattle.std.specs.Char.{is_ascii_digit}
 use Rattle.std.specs.Str.Parse.{AllDigits, digits_value}
 use Rattle.std.proofs.Math.Seq.{drop-append_seam}
+use Rattle.std.proofs.lemmas.Bool.{false≢true}
 use Rattle.std.proofs.lemmas.Bool.Decides.{nat_tests}
 use Rattle.std.proofs.lemmas.Fmt.{decimal_is_IsNumeral}
 use Rattle.std.proofs.lemmas.List.{get_or_default}
 use Rattle.std.proofs.lemmas.List.Elements.{All-tail}
-use Rattle.std.proofs.lemmas.List.Sums.{take_while-cons}
+use Rattle.std.proofs.lemmas.List.Sums.{take_while-cons, AllPass-from_list_all}
 use Rattle.std.proofs.lemmas.Str.Parse.{digit_at}
 use Rattle.dsde_syntax.specs.declared.token.Token.{Token}
 use Rattle.dsde_syntax.specs.declared.token.Tok.{Tok}
 use Rattle.dsde_syntax.specs.declared.token.Tok.TheVariants as tok
-use Rattle.dsde_syntax.specs.declared.token.Key.{Key}
-use Rattle.dsde_syntax.specs.declared.token.Key.TheVariants as key
+use Rattle.dsde_words.specs.declared.key.Key.{Key}
+use Rattle.dsde_words.specs.declared.key.Key.TheVariants as key
 use Rattle.dsde_syntax.specs.declared.token.Sign.{Sign}
 use Rattle.dsde_syntax.specs.declared.token.Sign.TheVariants as sign
-use Rattle.dsde_syntax.specs.Spelling.{key_text, sign_text, key_of, is_word_byte, IsIdentifier, IsNumber, IsToken}
+use Rattle.dsde_words.specs.Words.{key_text, is_word_byte, IsIdentifier}
+use Rattle.dsde_syntax.specs.Spelling.{sign_text, IsNumber, IsToken}
 use Rattle.dsde_syntax.specs.Print.{tok_text}
 use Rattle.dsde_lexer.specs.declared.lexer.Front.{Front}
 use Rattle.dsde_lexer.specs.declared.lexer.Front.TheVariants as front
 use Rattle.dsde_lexer.specs.declared.lexer.LexError.{LexError}
-use Rattle.dsde_lexer.specs.Tokens.{is_blank, begins_word, word_token, word_piece, number_piece, number_front, front_of, before, placed, tokens_from, tokens}
+use Rattle.dsde_lexer.specs.Tokens.{is_blank, word_token, word_piece, number_piece, number_front, front_of, before, placed, tokens_from, tokens}
 use Rattle.dsde_lexer.proofs.SignLemmas.{0-lt-sign_text}
 use Rattle.dsde_lexer.proofs.TokensLemmas.{tokens_from-piece, tokens-short}
 
@@ -321,16 +323,23 @@ front_of-number byte bytes low high =
     ∙ (cond-no (byte == 35) _ _ (digit-no_hash byte low high)
     ∙ cond-yes (is_ascii_digit byte) _ _ (is_digit byte low high))
 
+-- a word's first byte is no digit, and each is a word's
+word_parts : (digit all : Bool) → (not digit && all) ≡ true → (digit ≡ false) × (all ≡ true)
+word_parts false all h = (refl, h)
+word_parts true all h = absurd (false≢true h)
+
 name-Cuts : (name : List ℕ) (space : Bool) (rest : List ℕ) → IsIdentifier name → Cuts (tok.Ident name) name (blank space ∷ rest)
-name-Cuts [] space rest is = absurd (omega (arith, is.some))
+name-Cuts [] space rest is = absurd (false≢true is.word)
 name-Cuts (byte ∷ bytes) space rest is =
     let name = byte ∷ bytes in
     let text = name ++ blank space ∷ rest in
-    let word : is_word_byte byte ≡ true = is.bytes 0 byte (omega arith) in
-    let taken : take_while is_word_byte text ≡ name = take_while-append is_word_byte name (blank space) rest is.bytes (blank-no_word space) in
+    let parts = word_parts (is_ascii_digit byte) (list_all is_word_byte name) is.word in
+    let all : All (λ own. IsTrue (is_word_byte own)) name = AllPass-from_list_all is_word_byte name parts.1 in
+    let word : is_word_byte byte ≡ true = all 0 byte (omega arith) in
+    let taken : take_while is_word_byte text ≡ name = take_while-append is_word_byte name (blank space) rest all (blank-no_word space) in
     let piece : word_piece text ≡ (front.Token (word_token name), length name) = ap (λ (own : List ℕ). (front.Token (word_token own), length own)) taken in
     let free : (front.Token (word_token name), length name) ≡ (front.Token (tok.Ident name), length name) = ap (λ (found : Option Key). (front.Token (option_map_or tok.Key found (tok.Ident name)), length name)) is.free in
-    sym (front_of-word byte (bytes ++ blank space ∷ rest) is.begins word ∙ (piece ∙ free))
+    sym (front_of-word byte (bytes ++ blank space ∷ rest) parts.0 word ∙ (piece ∙ free))
 
 number_front-fits : (value : ℕ) (digits : List ℕ) (space : Bool) (rest : List ℕ) → IsNumber value → digits_value 10 digits ≡ value → number_front digits (blank space ∷ rest) ≡ front.Token (tok.Int value)
 number_front-fits value digits space rest is h =
@@ -359,10 +368,14 @@ tok-Cuts (tok.Int value) space rest is =
     let own = decimal_is_IsNumeral value (omega (arith, is)) in
     number-Cuts value space rest is (decimal value) own.0.0 own.0.1 own.1
 
+name-some : (name : List ℕ) → IsIdentifier name → 0 < length name
+name-some [] is = absurd (false≢true is.word)
+name-some (byte ∷ bytes) is = omega arith
+
 tok_text-some : (t : Tok) → IsToken t → 0 < length (tok_text t)
 tok_text-some (tok.Key k) is = key_text-some k
 tok_text-some (tok.Sign s) is = 0-lt-sign_text s
-tok_text-some (tok.Ident name) is = omega (arith, is.some)
+tok_text-some (tok.Ident name) is = name-some name is
 tok_text-some (tok.Int value) is = (decimal_is_IsNumeral value (omega (arith, is))).0.0
 
 -- what stands behind a token in a printed text: each further token behind a space, and a line feed

@@ -1,5 +1,5 @@
 -- The lines and columns of a text, both counted from 1, columns in bytes.
-use Rattle.std.specs.Prelude.{◌≤◌, ℕ, ◌+◌, Bool, not, ◌==◌, List, length, take, count_by, slice_get}
+use Rattle.std.specs.Prelude.{ℕ, ◌+◌, Bool, not, ◌==◌, List, length, take, count_by, slice_get}
 use Rattle.std.specs.List.{suffix_len}
 use Rattle.std.specs.Option.{option_map_or}
 use Rattle.dsde_syntax.specs.declared.token.Token.{Token}

@@ -1,12 +1,13 @@
 -- The tokens of a text.
-use Rattle.std.specs.Prelude.{◌≤◌, ◌<◌, ℕ, zero, suc, ◌+◌, ◌-◌, Bool, false, ◌||◌, ◌&&◌, not, if◌then◌else◌, ◌==◌, nat_le, nat_lt, List, [], ◌∷◌, ◌++◌, length, drop, Result, Ok, Err, take_while}
+use Rattle.std.specs.Prelude.{◌≤◌, ◌<◌, ℕ, zero, suc, ◌+◌, ◌-◌, Bool, ◌||◌, ◌&&◌, not, if◌then◌else◌, ◌==◌, nat_le, nat_lt, List, [], ◌∷◌, ◌++◌, length, drop, Result, Ok, Err, take_while}
 use Rattle.std.specs.Option.{option_map_or}
 use Rattle.std.specs.Str.Parse.{digits_value}
 use Rattle.std.specs.Char.{is_ascii_digit}
 use Rattle.dsde_syntax.specs.declared.token.Token.{Token}
 use Rattle.dsde_syntax.specs.declared.token.Tok.{Tok}
 use Rattle.dsde_syntax.specs.declared.token.Tok.TheVariants as tok
-use Rattle.dsde_syntax.specs.Spelling.{key_of, sign_of, sign_text, is_word_byte}
+use Rattle.dsde_words.specs.Words.{key_of, is_word_byte, begins_word}
+use Rattle.dsde_syntax.specs.Spelling.{sign_of, sign_text}
 use Rattle.dsde_lexer.specs.declared.lexer.Front.{Front}
 use Rattle.dsde_lexer.specs.declared.lexer.Front.TheVariants as front
 use Rattle.dsde_lexer.specs.declared.lexer.LexError.{LexError}
@@ -19,11 +20,6 @@ is_blank byte = byte == 32 || byte == 9 || byte == 13 || byte == 10
 -- a comment runs to the byte before a line feed
 abbrev pub is_in_comment : ℕ → Bool
 is_in_comment byte = not (byte == 10)
-
--- whether a letter, a digit or `_` stands first
-abbrev pub begins_word : List ℕ → Bool
-begins_word [] = false
-begins_word (byte ∷ _) = is_word_byte byte
 
 -- a word is a reserved one, or else an identifier
 abbrev pub word_token : List ℕ → Tok

@@ -1,10 +1,12 @@
 ghost use Rattle.std.specs.Prelude.{◌≡◌, ◌≢◌, ◌≤◌, ◌<◌, length, drop, take_while, All, IfOk, IfErr, Ok, Err, SomeIff};
 ghost use Rattle.std.specs.Char.{is_ascii_digit};
 ghost use Rattle.std.specs.Str.Parse.{AllDigits, digits_value};
-ghost use Rattle.dsde_syntax.specs.Spelling.{HasToken, is_word_byte};
+ghost use Rattle.dsde_words.specs.Words.{is_word_byte};
+ghost use Rattle.dsde_syntax.specs.Spelling.{HasToken};
 ghost use Rattle.dsde_lexer.specs.Tokens.{AreInOrder, tokens, front_of, word_piece, number_piece, sign_piece, is_in_comment};
 
 use dsde_syntax::{GREATEST_NUMBER, Items, Key, Memory, Sign, Tok, Token, Word};
+use dsde_words::{is_word_byte, word_size};
 use std::alloc::Global;
 
 /// Why a text has no tokens. Each place is the offset of a byte.
@@ -155,25 +157,10 @@ fn comment_size(text: &[u8]) -> usize
     text.iter().take_while(|byte| **byte != b'\n').count()
 }
 
-/// How many letters, digits and `_` a text begins with.
-fn word_size(text: &[u8]) -> usize
-    ensures size { result ≡ length (take_while is_word_byte text.now) }
-    ensures within { result ≤ length text.now }
-{
-    text.iter().take_while(|byte| is_word_byte(**byte)).count()
-}
-
 /// How many digits a text begins with.
 fn digits_size(text: &[u8]) -> usize
     ensures size { result ≡ length (take_while is_ascii_digit text.now) }
     ensures within { result ≤ length text.now }
 {
     text.iter().take_while(|byte| byte.is_ascii_digit()).count()
-}
-
-/// Whether a byte may stand in an identifier.
-fn is_word_byte(byte: u8) -> bool
-    ensures { result ≡ is_word_byte byte }
-{
-    byte.is_ascii_alphanumeric() || byte == b'_'
 }

@@ -3,9 +3,11 @@
 #![tactic(auto)]
 
 mod boxed;
+mod decimal;
 mod memory;
 mod seq;
 
 pub use boxed::Boxed;
+pub use decimal::{append_decimal, append_signed_decimal};
 pub use memory::Memory;
 pub use seq::{Seq, Text};

@@ -1,3 +1,5 @@
+//! The answer where memory ran out.
+
 use std::alloc::{AllocError, AllocFailed};
 
 /// Memory ran out. It is the one answer that may come at any allocation.

@@ -1,11 +1,16 @@
+//! Lists of items, and of bytes.
+
 ghost use Rattle.std.specs.Prelude.{◌≡◌, ◌+◌, ◌≤◌, [], ◌∷◌, ◌++◌, length, take, slice_get, slice_set, ◌↔◌, IsTrue, IfOk, OnOk, OnErr, MatchOption};
 ghost use Rattle.std.specs.Option.{option_copied, option_copied_mut};
 ghost use Rattle.std.specs.Borrow.{LendsIf, sem};
+ghost use Rattle.std.specs.Slice.Iter.{iter_rest};
+ghost use Rattle.std.specs.Iterator.Adapters.{IterYieldsInOrder};
 ghost use Rattle.dsde_lists.specs.contracts.seq.Seq.{the_row};
 
 use crate::Memory;
 use std::alloc::Global;
 use std::marker::Model;
+use std::slice::Iter;
 
 /// A list of items over one `Vec`, which contracts see as the list.
 #[derive(Debug, Drop)]
@@ -71,6 +76,14 @@ impl<T> Seq<T> {
         self.items.as_slice()
     }
 
+    /// The items, one after the other.
+    pub fn iter(&self) -> Iter<'_, T>
+        ensures rest { iter_rest result ≡ self.now }
+        ensures runs { IterYieldsInOrder T }
+    {
+        self.items.iter()
+    }
+
     /// The item at an index, counted from 0; `None` exactly where the list is not as long.
     pub fn get(&self, index: usize) -> Option<&T>
         ensures value { option_copied result ≡ slice_get self.now index }
@@ -111,6 +124,19 @@ impl<T: Drop> Seq<T> {
         ensures { self.new ≡ take len self.old }
     {
         self.items.truncate(len);
+    }
+
+    /// Passes on how a writing ended that began when the list had `start` items, and takes back
+    /// what it left where memory ran out.
+    pub fn whole_or_none(&mut self, start: usize, written: Result<(), Memory>) -> Result<(), Memory>
+        ensures same { result ≡ written }
+        ensures ok { OnOk result (self.new ≡ self.old) }
+        ensures err { OnErr result (self.new ≡ take start self.old) }
+    {
+        if written.is_err() {
+            self.truncate(start);
+        }
+        written
     }
 }
 

@@ -15,11 +15,12 @@ use dsde_grammar::stops_are_first_wrong;
 use dsde_syntax::{Model, Token};
 use std::alloc::Global;
 
-/// The one shaped model that tokens spell, if no more than 256 brackets are open anywhere.
+/// The one shaped model that tokens spell, if nowhere more than 256 brackets or 512 conditions are
+/// open.
 ///
 /// `Syntax` comes at the first token that no model can have there, or at the end where the tokens
-/// only begin a model; `Nested` at the first token at which 257 brackets are open, if nothing is
-/// wrong there or before. The places are indexes of tokens, their number for the end.
+/// only begin a model; `Nested` at the first token at which 257 brackets or 513 conditions are open,
+/// if nothing is wrong there or before. The places are indexes of tokens, their number for the end.
 pub fn parse(alloc: Global, tokens: &[Token]) -> Result<Model, ParseError>
     requires few { length tokens.now < 2 ^ 32 }
     requires well_formed { All HasToken tokens.now }
@@ -53,7 +54,7 @@ fn parse_deep(alloc: Global, tokens: &[Token], deep: usize) -> ParseError
     }
 }
 
-/// The model that tokens spell, however many brackets are open.
+/// The model that tokens spell, however much is open.
 fn parse_all(alloc: Global, tokens: &[Token]) -> Result<Model, ParseError>
     requires few { length tokens.now < 2 ^ 32 }
     requires well_formed { All HasToken tokens.now }

@@ -6,25 +6,11 @@ use Rattle.std.proofs.lemmas.List.{get_or_append_left, get_or-map, length-map}
 use Rattle.std.proofs.lemmas.List.Elements.{All-map}
 use Rattle.dsde_first.specs.declared.first.FirstModel.{FirstModel}
 use Rattle.dsde_first.specs.First.{IsFirst, AreDistinct, names_of, state_names}
-use Rattle.dsde_syntax.specs.Spelling.{IsIdentifier}
-use Rattle.dsde_values.specs.Word.{is_word_byte, is_identifier}
+use Rattle.dsde_words.specs.Words.{IsIdentifier, is_word}
 use Rattle.dsde_values.specs.declared.types.Ty.TheVariants as ty
 use Rattle.dsde_input.specs.Record.{ArePorts}
 use Rattle.dsde_sim.specs.Engine.{HasFewPorts}
 use Rattle.dsde_run.specs.Run.{port_of, ports_of}
-
-all_true : (test : ℕ → Bool) (bytes : List ℕ) → All (λ byte. test byte ≡ true) bytes → list_all test bytes ≡ true
-all_true test [] all = refl
-all_true test (byte ∷ bytes) all = rw (all zero byte (omega arith), all_true test bytes (λ k d within. all (suc k) d (omega (arith, within)))) refl
-
-both_true : (first second : Bool) → first ≡ true → second ≡ true → (first && second) ≡ true
-both_true first second is also = rw (is, also) refl
-
--- an identifier of a model's text is one of a record's port
-identifier : (name : List ℕ) → IsIdentifier name → is_identifier name ≡ true
-identifier [] is = absurd (omega (arith, is.some))
-identifier (byte ∷ bytes) is =
-    both_true (not (is_ascii_digit byte)) (list_all is_word_byte (byte ∷ bytes)) (ap not is.begins) (all_true is_word_byte (byte ∷ bytes) is.bytes)
 
 -- within a list a default does not matter
 apart_read : (names : List (List ℕ)) (at : ℕ) (one other : List ℕ) → at < length names → get_or names at other ≡ get_or names at one
@@ -45,8 +31,8 @@ apart (name ∷ names) others distinct (suc i) (suc j) d before within =
 pub are_ports : (model : FirstModel) → IsFirst model → HasFewPorts model → ArePorts (ports_of model)
 are_ports model form few = record {
   few = omega (arith, few.0, length-map model.ins port_of);
-  named = All-map (λ port. is_identifier port.name ≡ true) port_of model.ins (λ k d within.
-      identifier (get_or model.ins k d) (named k d within));
+  named = All-map (λ port. is_word port.name ≡ true) port_of model.ins (λ k d within.
+      (named k d within).word);
   distinct = λ i j d before within.
       let size : j < length model.ins = omega (arith, within, length-map model.ins port_of) in
       let one = get_or-map port_of model.ins i d.name d (omega (arith, before, size)) in

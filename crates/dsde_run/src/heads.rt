@@ -75,7 +75,7 @@ fn ports_of(alloc: Global, model: &FirstModel) -> Result<Seq<Field>, Memory>
     ensures { IfOk result (λ ports. ports ≡ ports_of model.now) }
 {
     let mut ports = Seq::new(alloc);
-    for name in model.ins.as_slice() {
+    for name in model.ins.iter() {
         ports.push(Field {
             name: Text::from_slice(alloc, name.as_slice())?,
             ty: Ty::Int,

@@ -7,14 +7,11 @@ ghost use Rattle.dsde_sim.specs.Meaning.{block};
 use crate::mean::{Input, number_value, run_block, sum_value};
 use crate::{FaultKind, LeafEnd, MoveKind, Site};
 use dsde_first::{FirstModel, FirstSet, FirstState, Word};
-use dsde_values::{Seq, When};
+use dsde_values::{LAST_MOMENT, Seq, When};
 use std::alloc::Global;
 
 /// The most values that a block may get at one in port.
 pub(crate) const MOST_VALUES: usize = 65_536;
-
-/// The last moment of a run.
-pub(crate) const LAST_MOMENT: u64 = 9_223_372_036_854_775_807;
 
 /// A component that is no network, between two of its moves.
 #[derive(Debug, Drop)]
@@ -90,7 +87,7 @@ fn sends(alloc: Global, model: &FirstModel, state: &[i64]) -> Result<Seq<Sent>, 
 {
     let nothing = Input::none(alloc);
     let mut sent = Seq::new(alloc);
-    for send in model.sends.as_slice() {
+    for send in model.sends.iter() {
         match sum_value(model, state, &nothing, &send.value) {
             Ok(value) => sent.push(Sent {
                 port: port_of(model.outs.as_slice(), send.name.as_slice()),

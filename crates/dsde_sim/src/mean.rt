@@ -96,7 +96,7 @@ pub(crate) fn sum_value(
     ensures { result ≡ sum_value model.now values.now input.now sum.now }
 {
     let mut total = 0i64;
-    for part in sum.parts.as_slice() {
+    for part in sum.parts.iter() {
         let value = part_value(model, values, input, part)?;
         total = total.checked_add(value).ok_or(FaultKind::Overflow)?;
     }

@@ -4,8 +4,8 @@ ghost use Rattle.dsde_sim.specs.Text.{event_text, end_text, finish_text, fault_t
 
 use crate::{Event, Fault, FaultKind, Finish, InputKind, MoveKind, Site};
 use dsde_first::{FirstModel, FirstState, Word};
+use dsde_lists::{append_decimal, append_signed_decimal};
 use dsde_values::{Memory, Text, When, write_path};
-use itoa::Buffer;
 
 /// Appends the event's line and a line feed. Without memory the text stays as it was.
 pub fn write_event(event: &Event, model: &FirstModel, text: &mut Text) -> Result<(), Memory>
@@ -14,10 +14,7 @@ pub fn write_event(event: &Event, model: &FirstModel, text: &mut Text) -> Result
 {
     let start = text.len();
     let written = append_event(event, model, text);
-    if written.is_err() {
-        text.truncate(start);
-    }
-    written
+    text.whole_or_none(start, written)
 }
 
 /// Appends the last line of a trace, which says how the run ended, after how many turns and at
@@ -28,10 +25,7 @@ pub fn write_end(how: &Finish, turns: u64, time: u64, text: &mut Text) -> Result
 {
     let start = text.len();
     let written = append_end(how, turns, time, text);
-    if written.is_err() {
-        text.truncate(start);
-    }
-    written
+    text.whole_or_none(start, written)
 }
 
 /// Appends a fault's path, site, kind and place. Without memory the text stays as it was.
@@ -41,10 +35,7 @@ pub fn write_fault(fault: &Fault, text: &mut Text) -> Result<(), Memory>
 {
     let start = text.len();
     let written = append_fault(fault, text);
-    if written.is_err() {
-        text.truncate(start);
-    }
-    written
+    text.whole_or_none(start, written)
 }
 
 // The functions below leave some part of what they append, from its front, where memory runs out.
@@ -82,24 +73,10 @@ fn append_turn(number: u64, time: u64, text: &mut Text) -> Result<(), Memory>
     ensures grows { take (length text.old) text.new ≡ text.old }
 {
     text.extend_from_slice(b"turn ")?;
-    append_number(number, text)?;
+    append_decimal(number, text)?;
     text.extend_from_slice(b" at ")?;
-    append_number(time, text)?;
+    append_decimal(time, text)?;
     text.push(b'\n')
-}
-
-fn append_number(number: u64, text: &mut Text) -> Result<(), Memory>
-    ensures ok { OnOk result (text.new ≡ text.old ++ decimal number) }
-    ensures err { OnErr result (text.new ≡ text.old) }
-{
-    text.extend_from_slice(Buffer::new().format(number).as_bytes())
-}
-
-fn append_signed(value: i64, text: &mut Text) -> Result<(), Memory>
-    ensures ok { OnOk result (text.new ≡ text.old ++ signed_decimal value) }
-    ensures err { OnErr result (text.new ≡ text.old) }
-{
-    text.extend_from_slice(Buffer::new().format(value).as_bytes())
 }
 
 fn port_name(ports: &[Word], port: u32) -> &[u8]
@@ -118,7 +95,7 @@ fn append_value(port: &[u8], value: i64, text: &mut Text) -> Result<(), Memory>
 {
     text.extend_from_slice(port)?;
     text.push(b' ')?;
-    append_signed(value, text)?;
+    append_signed_decimal(value, text)?;
     text.push(b'\n')
 }
 
@@ -136,7 +113,7 @@ fn append_settled(
     append_bindings(model.states.as_slice(), state, text)?;
     text.extend_from_slice(b"} next ")?;
     match next {
-        When::At(time) => append_number(time, text)?,
+        When::At(time) => append_decimal(time, text)?,
         When::Never => text.extend_from_slice(b"never")?,
     }
     text.push(b'\n')
@@ -171,7 +148,7 @@ fn append_binding(
     text.extend_from_slice(before)?;
     text.extend_from_slice(state.name.as_slice())?;
     text.extend_from_slice(b": ")?;
-    append_signed(value, text)
+    append_signed_decimal(value, text)
 }
 
 fn append_end(how: &Finish, turns: u64, time: u64, text: &mut Text) -> Result<(), Memory>
@@ -181,9 +158,9 @@ fn append_end(how: &Finish, turns: u64, time: u64, text: &mut Text) -> Result<()
     text.extend_from_slice(b"end ")?;
     append_how(how, text)?;
     text.extend_from_slice(b" turns ")?;
-    append_number(turns, text)?;
+    append_decimal(turns, text)?;
     text.extend_from_slice(b" at ")?;
-    append_number(time, text)?;
+    append_decimal(time, text)?;
     text.push(b'\n')
 }
 
@@ -198,7 +175,7 @@ fn append_how(how: &Finish, text: &mut Text) -> Result<(), Memory>
             text.extend_from_slice(b"input ")?;
             text.extend_from_slice(input_text(*kind).as_bytes())?;
             text.push(b' ')?;
-            append_number(*line, text)
+            append_decimal(*line, text)
         }
         Finish::Fault(fault) => {
             text.extend_from_slice(b"fault ")?;
@@ -217,9 +194,9 @@ fn append_fault(fault: &Fault, text: &mut Text) -> Result<(), Memory>
     text.push(b' ')?;
     text.extend_from_slice(kind_text(fault.kind).as_bytes())?;
     text.push(b' ')?;
-    append_number(u64::from(fault.line), text)?;
+    append_decimal(u64::from(fault.line), text)?;
     text.push(b':')?;
-    append_number(u64::from(fault.column), text)
+    append_decimal(u64::from(fault.column), text)
 }
 
 fn move_text(kind: MoveKind) -> &'static str

@@ -4,7 +4,8 @@ use Rattle.std.specs.List.{join_by}
 use Rattle.dsde_syntax.specs.declared.token.Tok.{Tok}
 use Rattle.dsde_syntax.specs.declared.token.Tok.TheVariants as tok
 use Rattle.dsde_syntax.specs.declared.decl.Model.{Model}
-use Rattle.dsde_syntax.specs.Spelling.{key_text, sign_text}
+use Rattle.dsde_words.specs.Words.{key_text}
+use Rattle.dsde_syntax.specs.Spelling.{sign_text}
 use Rattle.dsde_syntax.specs.Grammar.{tokens_of}
 
 -- a token as it is written, a number without leading zeros

@@ -4,7 +4,7 @@ ghost use Rattle.dsde_syntax.specs.Print.{tok_text, text_of};
 
 use crate::writer::tokens_of;
 use crate::{Memory, Model, Tok, Word};
-use itoa::Buffer;
+use dsde_lists::append_decimal;
 use std::alloc::Global;
 
 /// The text of a model: its tokens joined by single spaces and ended by a line feed.
@@ -41,6 +41,6 @@ fn write_token(text: &mut Word, token: &Tok) -> Result<(), Memory>
         Tok::Key(word) => text.extend_from_slice(word.text().as_bytes()),
         Tok::Sign(sign) => text.extend_from_slice(sign.text().as_bytes()),
         Tok::Ident(name) => text.extend_from_slice(name.as_slice()),
-        Tok::Int(value) => text.extend_from_slice(Buffer::new().format(*value).as_bytes()),
+        Tok::Int(value) => append_decimal(*value, text),
     }
 }

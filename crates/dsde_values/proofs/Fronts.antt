@@ -11,7 +11,8 @@ use Rattle.std.proofs.lemmas.List.Folds.{length-prefix_len}
 use Rattle.std.proofs.lemmas.Slice.Eq.{bytes_eq-Decides}
 use Rattle.std.proofs.Math.Numerals.{one-add}
 use Rattle.std.proofs.Math.Seq.{take-append_seam, drop-append_seam}
-use Rattle.dsde_values.specs.Word.{is_word_byte, begins_word, ends_word, goes_on, Begins}
+use Rattle.dsde_words.specs.Words.{is_word_byte, begins_word}
+use Rattle.dsde_values.specs.Word.{ends_word, goes_on, Begins}
 use Rattle.dsde_values.specs.Reading.{Takes, Took, Lacks, NoWord, truth_text}
 use Rattle.std.specs.Prelude.{MatchBool}
 use Rattle.dsde_values.proofs.Names.{take_while-word}

@@ -8,7 +8,8 @@ use Rattle.std.proofs.lemmas.List.Folds.{list_all-append}
 use Rattle.dsde_values.specs.declared.types.Ty.{Ty}
 use Rattle.dsde_values.specs.declared.types.Types.{Types}
 use Rattle.dsde_values.specs.declared.value.Value.{Value}
-use Rattle.dsde_values.specs.Word.{is_word_byte, begins_word, ends_word}
+use Rattle.dsde_words.specs.Words.{is_word_byte, begins_word}
+use Rattle.dsde_values.specs.Word.{ends_word}
 use Rattle.dsde_values.specs.Value.{joined, spelling, has_type, IsLawful}
 use Rattle.dsde_values.specs.Reading.{Took, Lacks, NoWord, Anything, AreItems, items_text, list_text}
 use Rattle.dsde_values.proofs.Fronts.{and_false}

@@ -8,7 +8,7 @@ use Rattle.std.proofs.lemmas.List.{same_from_push, take-append-drop}
 use Rattle.std.proofs.Math.Seq.{take-append_seam, drop-append_seam}
 use borrow.Author.Tests.{ltb-true}
 use Rattle.dsde_values.specs.declared.name.Name.{Name}
-use Rattle.dsde_values.specs.Word.{is_word_byte, is_identifier, begins_word}
+use Rattle.dsde_words.specs.Words.{is_word_byte, is_word, begins_word}
 use Rattle.dsde_values.specs.Path.{index_text, name_text, is_index, is_name, is_component, is_plain, are_below}
 
 and_assoc : (a b c : Bool) → (a && b) && c ≡ a && (b && c)
@@ -46,7 +46,7 @@ pub take_while-word : (word rest : List ℕ) → list_all is_word_byte word ≡ 
 take_while-word word rest all none =
     ap (λ (n : ℕ). take n (word ++ rest)) (prefix_len-word word rest all none) ∙ take-append_seam word rest
 
-pub identifier_word : (word : List ℕ) → is_identifier word ≡ true → list_all is_word_byte word ≡ true
+pub identifier_word : (word : List ℕ) → is_word word ≡ true → list_all is_word_byte word ≡ true
 identifier_word [] is = refl
 identifier_word (byte ∷ word) is = (both_true (not (is_ascii_digit byte)) (list_all is_word_byte (byte ∷ word)) is).1
 
@@ -55,11 +55,11 @@ abbrev pub stem_size : List ℕ → ℕ
 stem_size text = length (take_while is_word_byte text)
 
 module _ (name : Name) (text : List ℕ) (is : is_name name ≡ true) (same : name_text name ≡ text) where
-  pub its_stem : is_identifier name.stem ≡ true
-  its_stem = (both_true (is_identifier name.stem) (is_index name.index) is).0
+  pub its_stem : is_word name.stem ≡ true
+  its_stem = (both_true (is_word name.stem) (is_index name.index) is).0
 
   pub its_index : is_index name.index ≡ true
-  its_index = (both_true (is_identifier name.stem) (is_index name.index) is).1
+  its_index = (both_true (is_word name.stem) (is_index name.index) is).1
 
   its_size : stem_size text ≡ length name.stem
   its_size = ap stem_size (sym same) ∙ ap length (take_while-word name.stem (index_text name.index) (identifier_word name.stem its_stem) (not_word_index name.index))

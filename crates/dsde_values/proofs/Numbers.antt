@@ -12,7 +12,8 @@ use Rattle.std.proofs.lemmas.List.{take-append-drop, drop-drop}
 use Rattle.std.proofs.Math.Seq.{take-append_seam}
 use Rattle.std.proofs.Math.Numerals.{one-add}
 use Rattle.std.proofs.lemmas.Bool.Decides.{nat_tests}
-use Rattle.dsde_values.specs.Word.{is_word_byte, begins_word, ends_word, Begins}
+use Rattle.dsde_words.specs.Words.{is_word_byte, begins_word}
+use Rattle.dsde_values.specs.Word.{ends_word, Begins}
 use Rattle.dsde_values.specs.Value.{number_size}
 
 -- a digit may stand in a word

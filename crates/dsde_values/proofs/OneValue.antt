@@ -1,6 +1,6 @@
 -- In a lawful table at most one value of a type begins given bytes: where its text stands, it is what is read.
-use Rattle.std.proofs.Common.{◌≡◌, ◌==◌, ℕ, suc, ◌+◌, ◌<◌, ◌≤◌, ◌^◌, ℤ, Bool, true, false, ◌&&◌, List, [], ◌∷◌, ◌++◌, length, map, refl, sym, ◌∙◌, ap, subst, arith, append_assoc, leb, ltb, FitsSigned, length-append}
-use Rattle.std.specs.Prelude.{Option, Some, None, codes, unwrap_or, slice_get, slice_index_or, Ok}
+use Rattle.std.proofs.Common.{◌≡◌, ◌==◌, ℕ, ◌+◌, ◌≤◌, ◌^◌, ℤ, Bool, true, false, List, [], ◌∷◌, ◌++◌, length, map, refl, sym, ◌∙◌, ap, subst, arith, append_assoc, leb, ltb, FitsSigned, length-append}
+use Rattle.std.specs.Prelude.{Option, Some, None, codes, unwrap_or, Ok}
 use Rattle.std.specs.Int.{w64}
 use Rattle.std.specs.Fmt.{signed_decimal}
 use Rattle.std.specs.Option.{option_map_or}
@@ -18,8 +18,8 @@ use Rattle.dsde_values.specs.declared.value.Value.{Value, Value-F, roll-Value, m
 use Rattle.dsde_values.specs.declared.value.Value.TheOpen as layer
 use Rattle.dsde_values.specs.declared.value.Value.TheVariants as value
 use Rattle.dsde_values.specs.declared.value.Value.TheViews.{rolls-Int, rolls-Bool, rolls-Enum, rolls-Rec, rolls-List, rolls-Nothing, rolls-Some}
-use Rattle.dsde_values.specs.Word.{begins_word, ends_word, goes_on, Begins}
-use Rattle.dsde_values.specs.Value.{name_at, variants_at, fields_at, spelling, fits_int, is_variant, fill, type_step, has_type, HasType, IsLawful}
+use Rattle.dsde_values.specs.Word.{goes_on, Begins}
+use Rattle.dsde_values.specs.Value.{name_at, fields_at, spelling, fits_int, is_variant, fill, type_step, has_type, HasType, IsLawful}
 use Rattle.dsde_values.specs.Reading.{Took, NoWord, Anything, truth_text, variant_text, field_text, fields_text, record_text, list_text, items_text, AreParts, AreItems}
 use Rattle.dsde_values.proofs.FieldReading as fields
 use Rattle.dsde_values.proofs.Fronts.{truth_word, truth_ends, truth_taken, stops}

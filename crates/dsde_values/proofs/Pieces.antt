@@ -14,7 +14,7 @@ use Rattle.std.proofs.lemmas.Slice.Eq.{bytes_eq-Decides}
 use borrow.Author.Tests.{ltb-true}
 use Rattle.dsde_values.specs.declared.name.Name.{Name}
 use Rattle.dsde_values.specs.declared.path.Path.{Path}
-use Rattle.dsde_values.specs.Word.{is_word_byte}
+use Rattle.dsde_words.specs.Words.{is_word_byte}
 use Rattle.dsde_values.specs.Path.{index_text, name_text, names_text, path_text, is_index, is_name, is_component, is_plain, are_below, is_path, IsPath}
 use Rattle.dsde_values.proofs.Names.{both_true, identifier_word, its_stem, its_index, its_front, its_back}
 use Rattle.dsde_values.proofs.Numbers.{is_word_byte-digit}

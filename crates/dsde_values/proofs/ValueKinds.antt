@@ -21,7 +21,7 @@ use Rattle.dsde_values.specs.declared.value.Value.{Value, Value-F, out-Value, ro
 use Rattle.dsde_values.specs.declared.value.Value.TheOpen as layer
 use Rattle.dsde_values.specs.declared.value.Value.TheVariants as value
 use Rattle.dsde_values.specs.declared.value.Value.TheViews.{rolls-Int, rolls-Bool, rolls-Enum, rolls-Rec, rolls-List, rolls-Nothing, rolls-Some}
-use Rattle.dsde_values.specs.Word.{is_word_byte, is_identifier}
+use Rattle.dsde_words.specs.Words.{is_word_byte, is_word}
 use Rattle.dsde_values.specs.Value.{name_at, variants_at, variants, fields, joined, spelling, fits_int, is_variant, fill, type_step, has_type, IsLawful}
 use Rattle.dsde_values.specs.Reading.{AreParts, AreItems}
 use Rattle.dsde_values.proofs.Layers.{typed, spelling-Int, spelling-true, spelling-false, spelling-Enum, spelling-Rec, spelling-List, spelling-Nothing, spelling-Some}
@@ -134,7 +134,7 @@ module _ (types : Types) where
   abbrev Opens : List ℕ → Type 0
   Opens text = (byte : ℕ) × (tail : List ℕ) × (text ≡ byte ∷ tail) × (byte ≢ 93)
 
-  word_opens : (text rest : List ℕ) → is_identifier text ≡ true → Opens (text ++ rest)
+  word_opens : (text rest : List ℕ) → is_word text ≡ true → Opens (text ++ rest)
   word_opens [] rest is = absurd (false≢true is)
   word_opens (byte ∷ text) rest is =
       let parts = both_true _ (list_all is_word_byte (byte ∷ text)) is in
@@ -159,11 +159,11 @@ module _ (types : Types) where
   truth_opens false = opens_along _ _ (spelling-false types) (102, codes "alse", refl, λ e. absurd (omega (arith, e)))
 
   module _ (lawful : IsLawful types) (number : ℕ) where
-    enum_named : (found : Option Def) → found ≡ slice_get types.defs number → 0 < length (option_map_or (λ (def : Def). variants def.shape) found []) → is_identifier (option_map_or (λ (def : Def). def.name) found []) ≡ true
+    enum_named : (found : Option Def) → found ≡ slice_get types.defs number → 0 < length (option_map_or (λ (def : Def). variants def.shape) found []) → is_word (option_map_or (λ (def : Def). def.name) found []) ≡ true
     enum_named None is some = absurd (omega arith)
     enum_named (Some def) is some = lawful_name def (lawful_def types number def lawful (sym is))
 
-    pub name_of_enum : (n : ℕ) → is_variant types number n ≡ true → is_identifier (name_at types number) ≡ true
+    pub name_of_enum : (n : ℕ) → is_variant types number n ≡ true → is_word (name_at types number) ≡ true
     name_of_enum n is =
         enum_named (slice_get types.defs number) refl
         (some (length (variants_at types number)) (both_true _ _ is).1)
@@ -171,11 +171,11 @@ module _ (types : Types) where
         some : (size : ℕ) → ltb n size ≡ true → 0 < size
         some size less = let h = ltb-true n size less in omega arith
 
-    rec_named : (found : Option Def) (parts : List (Ty → Bool)) → found ≡ slice_get types.defs number → option_map_or (fill parts) (option_and_then (λ (def : Def). fields def.shape) found) false ≡ true → is_identifier (option_map_or (λ (def : Def). def.name) found []) ≡ true
+    rec_named : (found : Option Def) (parts : List (Ty → Bool)) → found ≡ slice_get types.defs number → option_map_or (fill parts) (option_and_then (λ (def : Def). fields def.shape) found) false ≡ true → is_word (option_map_or (λ (def : Def). def.name) found []) ≡ true
     rec_named None parts is h = absurd (false≢true h)
     rec_named (Some def) parts is h = lawful_name def (lawful_def types number def lawful (sym is))
 
-    pub name_of_record : (parts : List Value) → AreParts types number parts → is_identifier (name_at types number) ≡ true
+    pub name_of_record : (parts : List Value) → AreParts types number parts → is_word (name_at types number) ≡ true
     name_of_record parts are = rec_named (slice_get types.defs number) (map (has_type types) parts) refl are
 
   opens : (lawful : IsLawful types) (v : Value) (t : Ty) (seen : Ty-F Ty) → out-Ty t ≡ seen → has_type types v t ≡ true → Opens (spelling types v)

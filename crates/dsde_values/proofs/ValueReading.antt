@@ -14,7 +14,8 @@ use Rattle.dsde_values.specs.declared.types.Ty.TheVariants as ty
 use Rattle.dsde_values.specs.declared.types.Types.{Types}
 use Rattle.dsde_values.specs.declared.value.Value.{Value}
 use Rattle.dsde_values.specs.declared.value.Value.TheVariants as value
-use Rattle.dsde_values.specs.Word.{is_word_byte, begins_word, ends_word, goes_on}
+use Rattle.dsde_words.specs.Words.{is_word_byte, begins_word}
+use Rattle.dsde_values.specs.Word.{ends_word, goes_on}
 use Rattle.dsde_values.specs.Value.{name_at, fields_at, joined, field_texts, spelling, is_variant, has_type}
 use Rattle.dsde_values.specs.Reading.{Took, Lacks, Reads, NoWord, Anything, truth_text, variant_text, record_text, list_text, AreParts, AreItems}
 use Rattle.dsde_values.proofs.Fronts.{and_false, word_same, stops}

@@ -18,7 +18,8 @@ use Rattle.dsde_values.specs.declared.types.Def.{Def}
 use Rattle.dsde_values.specs.declared.types.Shape.{Shape}
 use Rattle.dsde_values.specs.declared.types.Shape.TheVariants as shape
 use Rattle.dsde_values.specs.declared.types.Types.{Types}
-use Rattle.dsde_values.specs.Word.{is_word_byte, is_identifier, begins_word, ends_word}
+use Rattle.dsde_words.specs.Words.{is_word_byte, is_word, begins_word}
+use Rattle.dsde_values.specs.Word.{ends_word}
 use Rattle.dsde_values.specs.Value.{variants, name_at, variants_at, is_variant, are_distinct, is_lawful_shape, is_lawful_def, IsLawful}
 use Rattle.dsde_values.specs.Reading.{Took, Lacks, NoWord, variant_text, ReadsVariant}
 use Rattle.dsde_values.proofs.Fronts.{and_false, word_same, stops}
@@ -63,7 +64,7 @@ identifier_ends [] all some = absurd (omega arith)
 identifier_ends (byte ∷ []) all some = (both_true (is_word_byte byte) true all).0
 identifier_ends (byte ∷ next ∷ word) all some = identifier_ends (next ∷ word) (both_true (is_word_byte byte) (list_all is_word_byte (next ∷ word)) all).1 (omega arith)
 
-identifier_some : (word : List ℕ) → is_identifier word ≡ true → 0 < length word
+identifier_some : (word : List ℕ) → is_word word ≡ true → 0 < length word
 identifier_some [] is = absurd (false≢true is)
 identifier_some (byte ∷ word) is = omega arith
 
@@ -74,7 +75,7 @@ ends_word-behind (byte ∷ []) [] some ends = absurd (omega arith)
 ends_word-behind (byte ∷ []) (next ∷ word) some ends = ends
 ends_word-behind (byte ∷ next ∷ text) word some ends = ends_word-behind (next ∷ text) word some ends
 
-pub ends_word-identifier : (text word : List ℕ) → is_identifier word ≡ true → ends_word (text ++ word) ≡ true
+pub ends_word-identifier : (text word : List ℕ) → is_word word ≡ true → ends_word (text ++ word) ≡ true
 ends_word-identifier text word is =
     ends_word-behind text word (identifier_some word is) (identifier_ends word (identifier_word word is) (identifier_some word is))
 
@@ -84,15 +85,15 @@ lawful_def types number def lawful is =
     ap is_lawful_def (sym (get_or_from_slice_get types.defs number def def is))
     ∙ AllPass-from_list_all is_lawful_def types.defs lawful number def (slice_get_within types.defs number def is)
 
-pub lawful_name : (def : Def) → is_lawful_def def ≡ true → is_identifier def.name ≡ true
-lawful_name def lawful = (both_true (is_identifier def.name) (is_lawful_shape def.shape) lawful).0
+pub lawful_name : (def : Def) → is_lawful_def def ≡ true → is_word def.name ≡ true
+lawful_name def lawful = (both_true (is_word def.name) (is_lawful_shape def.shape) lawful).0
 
-lawful_variants : (s : Shape) → is_lawful_shape s ≡ true → (list_all is_identifier (variants s) ≡ true) × (are_distinct (variants s) ≡ true)
-lawful_variants (shape.Enum names) lawful = both_true (list_all is_identifier names) (are_distinct names) lawful
+lawful_variants : (s : Shape) → is_lawful_shape s ≡ true → (list_all is_word (variants s) ≡ true) × (are_distinct (variants s) ≡ true)
+lawful_variants (shape.Enum names) lawful = both_true (list_all is_word names) (are_distinct names) lawful
 lawful_variants (shape.Rec fields) lawful = (refl, refl)
 
-def_variants : (def : Def) → is_lawful_def def ≡ true → (list_all is_identifier (variants def.shape) ≡ true) × (are_distinct (variants def.shape) ≡ true)
-def_variants def lawful = lawful_variants def.shape (both_true (is_identifier def.name) (is_lawful_shape def.shape) lawful).1
+def_variants : (def : Def) → is_lawful_def def ≡ true → (list_all is_word (variants def.shape) ≡ true) × (are_distinct (variants def.shape) ≡ true)
+def_variants def lawful = lawful_variants def.shape (both_true (is_word def.name) (is_lawful_shape def.shape) lawful).1
 
 -- A name that stands somewhere is found.
 found_at : (names : List (List ℕ)) (at : ℕ) (name : List ℕ) → slice_get names at ≡ Some name → list_any (λ (other : List ℕ). bytes_eq other name) names ≡ true
@@ -123,14 +124,14 @@ distinct_at (first ∷ names) distinct (suc i) (suc j) name here there =
     ap suc (distinct_at names parts.1 i j name here there)
 
 module _ (types : Types) (lawful : IsLawful types) (number : ℕ) where
-  named : (found : Option Def) → found ≡ slice_get types.defs number → (at : ℕ) (variant : List ℕ) → slice_get (option_map_or (λ (def : Def). variants def.shape) found []) at ≡ Some variant → is_identifier variant ≡ true
+  named : (found : Option Def) → found ≡ slice_get types.defs number → (at : ℕ) (variant : List ℕ) → slice_get (option_map_or (λ (def : Def). variants def.shape) found []) at ≡ Some variant → is_word variant ≡ true
   named None is at variant here = absurd (cc)
   named (Some def) is at variant here =
       let all = (def_variants def (lawful_def types number def lawful (sym is))).0 in
-      ap is_identifier (sym (get_or_from_slice_get (variants def.shape) at variant variant here))
-      ∙ AllPass-from_list_all is_identifier (variants def.shape) all at variant (slice_get_within (variants def.shape) at variant here)
+      ap is_word (sym (get_or_from_slice_get (variants def.shape) at variant variant here))
+      ∙ AllPass-from_list_all is_word (variants def.shape) all at variant (slice_get_within (variants def.shape) at variant here)
 
-  pub variant_named : (at : ℕ) (variant : List ℕ) → slice_get (variants_at types number) at ≡ Some variant → is_identifier variant ≡ true
+  pub variant_named : (at : ℕ) (variant : List ℕ) → slice_get (variants_at types number) at ≡ Some variant → is_word variant ≡ true
   variant_named at variant here = named (slice_get types.defs number) refl at variant here
 
   one : (found : Option Def) → found ≡ slice_get types.defs number → (i j : ℕ) (variant : List ℕ) → slice_get (option_map_or (λ (def : Def). variants def.shape) found []) i ≡ Some variant → slice_get (option_map_or (λ (def : Def). variants def.shape) found []) j ≡ Some variant → i ≡ j

@@ -1,4 +1,5 @@
 pub mod Path
 pub mod Reading
 pub mod Value
+pub mod When
 pub mod Word

@@ -8,7 +8,7 @@ use Rattle.std.specs.declared.cmp.Ordering.{Ordering}
 use Rattle.std.specs.Str.{bytes_eq}
 use Rattle.dsde_values.specs.declared.name.Name.{Name}
 use Rattle.dsde_values.specs.declared.path.Path.{Path}
-use Rattle.dsde_values.specs.Word.{is_identifier, is_reserved}
+use Rattle.dsde_words.specs.Words.{is_word, is_reserved}
 
 -- the path of the whole model
 abbrev pub root : Path
@@ -37,7 +37,7 @@ is_index (Some index) = nat_lt index (2 ^ 63)
 
 -- an identifier, and an index
 abbrev pub is_name : Name → Bool
-is_name name = is_identifier name.stem && is_index name.index
+is_name name = is_word name.stem && is_index name.index
 
 -- a name that a component may have: its identifier is no word of the language
 abbrev pub is_component : Name → Bool

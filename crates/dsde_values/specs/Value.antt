@@ -16,7 +16,7 @@ use Rattle.dsde_values.specs.declared.types.Types.{Types}
 use Rattle.dsde_values.specs.declared.value.Value.{Value, Value-F, fold-Value}
 use Rattle.dsde_values.specs.declared.value.Value.TheOpen as layer
 use Rattle.dsde_values.specs.declared.value.Value.TheVariants as value
-use Rattle.dsde_values.specs.Word.{is_word_byte, is_identifier}
+use Rattle.dsde_words.specs.Words.{is_word_byte, is_word}
 
 -- an enum's variants
 abbrev pub variants : Shape → List (List ℕ)
@@ -116,11 +116,11 @@ are_distinct (name ∷ names) = not (list_any (λ other. bytes_eq other name) na
 
 -- An enum's variants are distinct identifiers.
 abbrev pub is_lawful_shape : Shape → Bool
-is_lawful_shape (shape.Enum names) = list_all is_identifier names && are_distinct names
+is_lawful_shape (shape.Enum names) = list_all is_word names && are_distinct names
 is_lawful_shape (shape.Rec _) = true
 
 abbrev pub is_lawful_def : Def → Bool
-is_lawful_def def = is_identifier def.name && is_lawful_shape def.shape
+is_lawful_def def = is_word def.name && is_lawful_shape def.shape
 
 -- a table whose definitions have identifiers as names, and whose enums have distinct identifiers as variants
 abbrev pub IsLawful : Types → Type 0

@@ -1,25 +1,25 @@
 ghost use Rattle.std.specs.Prelude.{◌≡◌, ◌↔◌, IsTrue};
 ghost use Rattle.std.specs.List.{list_all, list_any};
-ghost use Rattle.dsde_values.specs.Word.{is_identifier};
 ghost use Rattle.std.specs.Str.{bytes_eq};
+ghost use Rattle.dsde_words.specs.Words.{is_word};
 ghost use Rattle.dsde_values.specs.Value.{IsLawful, is_lawful_def, is_lawful_shape, are_distinct};
 
-use crate::word::is_identifier;
 use crate::{Def, Shape, Types};
 use dsde_lists::Text;
+use dsde_words::is_word;
 
 /// Whether a table is lawful: its definitions have identifiers as names, and the variants of each
 /// enum are distinct identifiers.
 pub fn is_lawful(types: &Types) -> bool
     ensures { IsTrue result ↔ IsLawful types.now }
 {
-    types.defs.as_slice().iter().all(is_lawful_def)
+    types.defs.iter().all(is_lawful_def)
 }
 
 fn is_lawful_def(def: &Def) -> bool
     ensures { result ≡ is_lawful_def def.now }
 {
-    is_identifier(def.name.as_slice()) && is_lawful_shape(&def.shape)
+    is_word(def.name.as_slice()) && is_lawful_shape(&def.shape)
 }
 
 fn is_lawful_shape(shape: &Shape) -> bool
@@ -34,9 +34,9 @@ fn is_lawful_shape(shape: &Shape) -> bool
 }
 
 fn are_identifiers(names: &[Text]) -> bool
-    ensures { result ≡ list_all is_identifier names.now }
+    ensures { result ≡ list_all is_word names.now }
 {
-    names.iter().all(|name| is_identifier(name.as_slice()))
+    names.iter().all(|name| is_word(name.as_slice()))
 }
 
 /// Whether no name stands twice in a list.

@@ -14,7 +14,6 @@ mod types;
 mod typing;
 mod value;
 mod when;
-mod word;
 
 pub use arrival::{Arrival, Item};
 pub use decimal::decimal_of;
@@ -28,4 +27,4 @@ pub use spelling::write_value;
 pub use types::{Def, Field, Shape, Ty, Types};
 pub use typing::has_type;
 pub use value::{Value, Values, copy_value, equal};
-pub use when::When;
+pub use when::{LAST_MOMENT, When};

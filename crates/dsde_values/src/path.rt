@@ -6,9 +6,8 @@ ghost use Rattle.dsde_values.specs.declared.path.ReadPath.TheVariants as read_pa
 
 use crate::Name;
 use crate::decimal::decimal_of;
-use crate::word::{is_identifier, is_reserved, word_size};
-use dsde_lists::{Memory, Seq, Text};
-use itoa::Buffer;
+use dsde_lists::{Memory, Seq, Text, append_decimal};
+use dsde_words::{is_reserved, is_word, word_size};
 use std::alloc::Global;
 use std::cmp::Ordering;
 
@@ -49,10 +48,7 @@ pub fn write_path(path: &Path, text: &mut Text) -> Result<(), Memory>
 {
     let start = text.len();
     let written = append_path(path, text);
-    if written.is_err() {
-        text.truncate(start);
-    }
-    written
+    text.whole_or_none(start, written)
 }
 
 fn append_path(path: &Path, text: &mut Text) -> Result<(), Memory>
@@ -77,7 +73,7 @@ fn append_name(name: &Name, text: &mut Text) -> Result<(), Memory>
     text.extend_from_slice(name.stem.as_slice())?;
     if let Some(index) = name.index {
         text.push(b'[')?;
-        text.extend_from_slice(Buffer::new().format(index).as_bytes())?;
+        append_decimal(index, text)?;
         text.push(b']')?;
     }
     Ok(())
@@ -128,7 +124,7 @@ fn read_name(alloc: Global, text: &[u8]) -> Result<Name, ReadPath>
     ensures none { IsErrOf result ReadPath.NotAPath → (name : Name) → is_name name ≡ true → name_text name ≢ text.now }
 {
     let (stem, rest) = text.split_at(word_size(text));
-    if !is_identifier(stem) {
+    if !is_word(stem) {
         return Err(ReadPath::NotAPath);
     }
     let Some(index) = read_index(rest) else {
@@ -194,7 +190,7 @@ fn is_component(name: &Name) -> bool
 fn is_name(name: &Name) -> bool
     ensures { result ≡ is_name name.now }
 {
-    is_identifier(name.stem.as_slice()) && name.index.is_none_or(|index| index <= LAST_INDEX)
+    is_word(name.stem.as_slice()) && name.index.is_none_or(|index| index <= LAST_INDEX)
 }
 
 /// Whether a name is this word without an index.

@@ -5,15 +5,16 @@ ghost use Rattle.std.specs.List.{list_all, position};
 ghost use Rattle.std.specs.Str.{bytes_eq};
 ghost use Rattle.dsde_values.specs.declared.reading.ReadValue.TheVariants as read_value;
 ghost use Rattle.dsde_values.specs.declared.value.Value.{Value};
-ghost use Rattle.dsde_values.specs.Word.{is_word_byte, begins_word, Begins};
+ghost use Rattle.dsde_words.specs.Words.{is_word_byte, begins_word};
+ghost use Rattle.dsde_values.specs.Word.{Begins};
 ghost use Rattle.dsde_values.specs.Value.{HasType, IsLawful, spelling, number_size, fields_at, fill};
 ghost use Rattle.dsde_values.specs.Reading.{Takes, Reads, Anything, ReadsInt, ReadsTruth, ReadsVariant, ReadsValue, ReadsField, ReadsFields, ReadsRecord, ReadsList};
 
 use crate::decimal::signed_decimal_of;
 use crate::typing::{LONGEST_LIST, fields_at, name_at, variants_at};
-use crate::word::word_size;
 use crate::{Field, Ty, Types, Value, Values};
 use dsde_lists::{Boxed, Memory, Seq, Text};
+use dsde_words::word_size;
 use std::alloc::Global;
 use std::marker::Model;
 

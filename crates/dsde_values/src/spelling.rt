@@ -3,8 +3,7 @@ ghost use Rattle.dsde_values.specs.Value.{spelling, joined, field_texts, name_at
 
 use crate::typing::{fields_at, name_at, variants_at};
 use crate::{Field, Types, Value};
-use dsde_lists::{Memory, Text};
-use itoa::Buffer;
+use dsde_lists::{Memory, Text, append_signed_decimal};
 
 /// Appends the value's one spelling: a whole number in decimal, `true` or `false`, `E::v` for an
 /// enum's variant, `R{f: v, g: w}` for a record, `[v, w]` for a list, `none` or `some(v)` for an
@@ -16,10 +15,7 @@ pub fn write_value(value: &Value, types: &Types, text: &mut Text) -> Result<(), 
 {
     let start = text.len();
     let written = append_value(value, types, text);
-    if written.is_err() {
-        text.truncate(start);
-    }
-    written
+    text.whole_or_none(start, written)
 }
 
 #[cycle(writing)]
@@ -29,7 +25,7 @@ fn append_value(value: &Value, types: &Types, text: &mut Text) -> Result<(), Mem
     ensures grows { take (length text.old) text.new ≡ text.old }
 {
     match value {
-        Value::Int(number) => text.extend_from_slice(Buffer::new().format(*number).as_bytes()),
+        Value::Int(number) => append_signed_decimal(*number, text),
         Value::Bool(true) => text.extend_from_slice(b"true"),
         Value::Bool(false) => text.extend_from_slice(b"false"),
         Value::Enum(number, variant) => append_variant(*number, *variant, types, text),

@@ -57,7 +57,7 @@ fn tell_item(told: &mut String, item: &Item) -> Result<(), AllocError> {
 fn tell_record(told: &mut String, arrival: &Arrival) -> Result<(), AllocError> {
     let (line, time) = (arrival.line, arrival.time);
     write!(told, "{line}:{time}")?;
-    for item in arrival.items.as_slice() {
+    for item in arrival.items.iter() {
         tell_item(told, item)?;
     }
     told.push_str(", ")

@@ -2,7 +2,7 @@ ghost use Rattle.std.specs.Prelude.{◌≡◌, ◌<◌, ◌∷◌, ◌++◌, [],
 ghost use Rattle.dsde_syntax.specs.Grammar.{commas, in_parens, in_braces, expr_tokens, suffix_tokens, expr_arm_tokens, field_set_tokens, sign_tail_tokens};
 ghost use Rattle.dsde_syntax.specs.Places.{bracketed, args_span, expr_span, expr_arm_span, field_set_span, sign_tail_span, suffix_span, tail_span};
 ghost use Rattle.dsde_syntax.specs.Levels.{if_written, is_expr, stands_at, may_follow, is_sum_sign, is_mul_sign, is_expr_arm, is_field_set, is_suffix, sign_tail_level, tail_level};
-ghost use Rattle.dsde_syntax.specs.declared.token.Key.TheVariants as key;
+ghost use Rattle.dsde_words.specs.declared.key.Key.TheVariants as key;
 ghost use Rattle.dsde_syntax.specs.declared.token.Sign.TheVariants as sign;
 ghost use Rattle.dsde_grammar.specs.Want as want;
 ghost use Rattle.dsde_grammar.specs.Steps.{is_sign, angles, args, exprs, field_set, braced_expr, choice_rest, post_wants, neg_wants, mul_wants, sum_wants, cmp_wants, not_wants, and_wants, or_wants};

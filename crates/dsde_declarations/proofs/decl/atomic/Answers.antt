@@ -2,7 +2,7 @@ use Rattle.std.proofs.Common.{rules, ◌∙◌, [], ◌∷◌, ◌++◌}
 use Rattle.dsde_syntax.specs.declared.token.Sign.TheVariants as sign
 use Rattle.dsde_grammar.specs.Want as want
 use Rattle.dsde_grammar.specs.Steps.{body, params}
-use Rattle.dsde_syntax.specs.declared.token.Key.TheVariants as key
+use Rattle.dsde_words.specs.declared.key.Key.TheVariants as key
 use Rattle.dsde_expressions.proofs.LedLemmas.{leads-behind}
 use Rattle.dsde_declarations.proofs.decl.atomic.Goals as goal
 

@@ -1,6 +1,6 @@
 use Rattle.std.proofs.Common.{sym, [], ◌∷◌, ◌++◌}
 use Rattle.dsde_grammar.specs.Steps.{params, typed, args, body, function_body, network_body}
-use Rattle.dsde_syntax.specs.declared.token.Key.TheVariants as key
+use Rattle.dsde_words.specs.declared.key.Key.TheVariants as key
 use Rattle.dsde_syntax.specs.declared.token.Sign.TheVariants as sign
 use Rattle.dsde_grammar.specs.Want as want
 use Rattle.dsde_expressions.proofs.LedLemmas.{leads-from}

@@ -1,6 +1,6 @@
 use Rattle.std.proofs.Common.{rules, ◌∙◌, [], ◌∷◌, ◌++◌}
 use Rattle.dsde_grammar.specs.Steps.{network_body, params}
-use Rattle.dsde_syntax.specs.declared.token.Key.TheVariants as key
+use Rattle.dsde_words.specs.declared.key.Key.TheVariants as key
 use Rattle.dsde_grammar.specs.Want as want
 use Rattle.dsde_expressions.proofs.LedLemmas.{leads-behind}
 use Rattle.dsde_declarations.proofs.decl.network.Goals as goal

@@ -2,7 +2,7 @@ use Rattle.dsde_syntax.specs.declared.token.Sign.TheVariants as sign
 use Rattle.dsde_expressions.proofs.TookLemmas.{Took-push, Took-else}
 use Rattle.dsde_declarations.proofs.StmtLemmas.{stmt_loop-Took, stmt_arm-Took, stmt_choice-Took}
 use Rattle.std.proofs.Common.{rules, refl, sym, [], ◌∷◌}
-use Rattle.dsde_syntax.specs.declared.token.Key.TheVariants as key
+use Rattle.dsde_words.specs.declared.key.Key.TheVariants as key
 use Rattle.dsde_grammar.specs.Want as want
 use Rattle.dsde_grammar.specs.Steps.{block, arm_rest, set, loop_rest}
 use Rattle.dsde_expressions.proofs.NodeLemmas.{taken}

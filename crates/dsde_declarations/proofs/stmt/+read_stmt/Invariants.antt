@@ -5,7 +5,7 @@ use Rattle.dsde_syntax.specs.Places.{stmt_span, stmt_arm_span}
 use Rattle.dsde_syntax.specs.Levels.{is_stmt, is_stmt_arm}
 use Rattle.dsde_expressions.specs.Took.{Took, TookAll}
 use Rattle.dsde_expressions.specs.Parts.{AllOk, SomeOk, joined_by, all_by, elses_by, spans_by}
-use Rattle.dsde_syntax.specs.declared.token.Key.TheVariants as key
+use Rattle.dsde_words.specs.declared.key.Key.TheVariants as key
 use Rattle.dsde_grammar.specs.Want as want
 use Rattle.dsde_grammar.specs.Steps.{arm_rest}
 use Rattle.dsde_expressions.specs.Follows.{Led}

@@ -8,5 +8,5 @@ use Rattle.dsde_values.proofs.lawful.is_lawful.Goals as goal
 pub returns : goal.returns
 returns c =
     let all : c.all.result ≡ list_all is_lawful_def c.args.types.now.defs =
-    all_from_yields_List is_lawful_def _ _ _ c.all.ensures.ran (YieldsList-from_slice c.args.types.now.defs (c.iter.ensures.rest ∙ c.as_slice.ensures)) (λ x b q k. search (rules, tests)) in
+    all_from_yields_List is_lawful_def _ _ _ c.all.ensures.ran (YieldsList-from_slice c.args.types.now.defs c.iter.ensures.rest) (λ x b q k. search (rules, tests)) in
     (λ e. sym all ∙ e, λ e. all ∙ e)

@@ -3,7 +3,7 @@ use Rattle.std.specs.List.{All, AllPairs}
 use Rattle.std.proofs.lemmas.List.Elements.{All-nil, All-cons}
 use Rattle.dsde_values.specs.declared.types.Field.{Field}
 use Rattle.dsde_values.specs.declared.types.Ty.TheVariants as ty
-use Rattle.dsde_values.specs.Word.{is_identifier}
+use Rattle.dsde_words.specs.Words.{is_word}
 use Rattle.dsde_calls.proofs.tests.inputs.two_ports.Goals as goal
 
 abbrev x : Field
@@ -18,8 +18,8 @@ apart zero (suc zero) d before within = λ same. cc
 apart zero (suc (suc j)) d before within = absurd (omega arith)
 apart (suc i) j d before within = absurd (omega arith)
 
-both_named : All (λ (port : Field). is_identifier port.name ≡ true) (x ∷ y_2 ∷ [])
-both_named = All-cons (λ (port : Field). is_identifier port.name ≡ true) x (y_2 ∷ []) refl (All-cons (λ (port : Field). is_identifier port.name ≡ true) y_2 [] refl (All-nil _))
+both_named : All (λ (port : Field). is_word port.name ≡ true) (x ∷ y_2 ∷ [])
+both_named = All-cons (λ (port : Field). is_word port.name ≡ true) x (y_2 ∷ []) refl (All-cons (λ (port : Field). is_word port.name ≡ true) y_2 [] refl (All-nil _))
 
 both_whole : All (λ (port : Field). port.ty ≡ ty.Int) (x ∷ y_2 ∷ [])
 both_whole = All-cons (λ (port : Field). port.ty ≡ ty.Int) x (y_2 ∷ []) refl (All-cons (λ (port : Field). port.ty ≡ ty.Int) y_2 [] refl (All-nil _))

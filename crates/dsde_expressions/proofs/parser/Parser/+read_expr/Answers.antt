@@ -4,7 +4,7 @@ use Rattle.dsde_expressions.proofs.TookLemmas.{Took-push, Took-comma, Took-else}
 use Rattle.dsde_expressions.proofs.ChainLemmas.{or-Took, and-Took, sum-Took, mul-Took, post-Took}
 use Rattle.dsde_expressions.proofs.NodeLemmas.{boxed-Reads, no-empty, taken, or_tail-Took, and_tail-Took, sum_tail-Took, mul_tail-Took, call-Took, builtin-Took, row-Took, new-Took, choice-Took, whole-Took}
 use Rattle.std.proofs.Common.{rules, sym, ◌∙◌, [], ◌∷◌, ◌++◌, ap}
-use Rattle.dsde_syntax.specs.declared.token.Key.TheVariants as key
+use Rattle.dsde_words.specs.declared.key.Key.TheVariants as key
 use Rattle.dsde_syntax.specs.declared.token.Sign.TheVariants as sign
 use Rattle.dsde_grammar.specs.Want as want
 use Rattle.dsde_grammar.specs.Steps.{expr_wants, post_wants, cmp_wants, args, exprs, braced_expr, choice_rest, neg_wants, not_wants, angles, field_set}

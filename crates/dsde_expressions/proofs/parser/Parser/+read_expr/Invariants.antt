@@ -5,7 +5,7 @@ use Rattle.dsde_syntax.specs.Places.{expr_span, expr_arm_span, field_set_span, s
 use Rattle.dsde_syntax.specs.Levels.{is_expr, stands_at, may_follow, is_sum_sign, is_mul_sign, is_expr_arm, is_field_set, is_suffix, sign_tail_level, tail_level}
 use Rattle.dsde_expressions.specs.Took.{Took, TookAll}
 use Rattle.dsde_expressions.specs.Parts.{AllOk, SomeOk, joined_by, all_by, commas_by, spans_by, elses_by, or_tail_tokens, and_tail_tokens}
-use Rattle.dsde_syntax.specs.declared.token.Key.TheVariants as key
+use Rattle.dsde_words.specs.declared.key.Key.TheVariants as key
 use Rattle.dsde_grammar.specs.Want as want
 use Rattle.dsde_grammar.specs.Steps.{exprs, field_set, choice_rest}
 use Rattle.dsde_expressions.specs.Follows.{Led}

@@ -1,7 +1,7 @@
 use Rattle.std.proofs.Common.{refl}
 use Rattle.std.specs.Prelude.{flat_map}
 use Rattle.std.proofs.lemmas.Result.{err_from_is_err_and}
-use Rattle.dsde_syntax.specs.declared.token.Key.TheVariants as key
+use Rattle.dsde_words.specs.declared.key.Key.TheVariants as key
 use Rattle.dsde_first.specs.First.{word, send_tokens}
 use Rattle.dsde_first.specs.Wants.{sends, send_wants, send_tail}
 use Rattle.dsde_first.proofs.WentLemmas.{Went-push, Went-end, Went-fails, Stops-at}

@@ -1,5 +1,3 @@
-use Rattle.std.proofs.Common.{◌≡◌, arith}
-use Rattle.dsde_lexer.specs.Spots.{IsSpot}
 use Rattle.dsde_lexer.proofs.OrderLemmas.{tokens-in_order, tokens-fit}
 use Rattle.dsde_lexer.proofs.PlacesLemmas.{HasPlaces-none, HasPlaces-next, HasPlaces-more, HasPlaces-all, IsSpot-start}
 use Rattle.dsde_lexer.proofs.places.Places.new.Goals as goal

@@ -1,7 +1,7 @@
 -- What is written so far, followed by the tokens of the rest, stays the same.
 use Rattle.std.proofs.Common.{◌≡◌, ◌++◌, map, flat_map, drop}
 use Rattle.dsde_syntax.specs.Grammar.{word, mark, joined, expr_tokens, suffix_tokens, expr_arm_tokens, field_set_tokens, sign_tail_tokens, tail_tokens}
-use Rattle.dsde_syntax.specs.declared.token.Key.TheVariants as key
+use Rattle.dsde_words.specs.declared.key.Key.TheVariants as key
 use Rattle.dsde_syntax.specs.declared.token.Sign.TheVariants as sign
 use Rattle.dsde_syntax.proofs.writer.Writer.+write_expr.Given as goal
 

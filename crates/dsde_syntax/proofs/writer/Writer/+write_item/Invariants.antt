@@ -1,7 +1,7 @@
 -- What is written so far, followed by the tokens of the rest, stays the same.
 use Rattle.std.proofs.Common.{◌≡◌, ◌++◌, map, flat_map, drop}
 use Rattle.dsde_syntax.specs.Grammar.{word, joined, item_tokens, item_arm_tokens}
-use Rattle.dsde_syntax.specs.declared.token.Key.TheVariants as key
+use Rattle.dsde_words.specs.declared.key.Key.TheVariants as key
 use Rattle.dsde_syntax.proofs.writer.Writer.+write_item.Given as goal
 
 abbrev pub invariant-item_arms-loop-arm : goal.invariant-item_arms-loop-arm
