@@ -5,7 +5,7 @@ use Rattle.std.proofs.lemmas.Bool.{cases_eq}
 use Rattle.dsde_bank.specs.declared.handle.Handle.{Handle}
 use Rattle.dsde_grove.specs.Grove.{IsAbove}
 use Rattle.dsde_grove.specs.Grove.IsAbove.{itself, above_parent}
-use Rattle.dsde_grove.specs.Inside.{parent_in, IsTree}
+use Rattle.dsde_grove.specs.Inside.{parent_in, IsLinked}
 use Rattle.dsde_grove.specs.declared.part.Part.{Part}
 use Rattle.dsde_grove.specs.declared.part.Kid.{Kid}
 use Rattle.dsde_grove.proofs.Trees.{Held}
@@ -45,7 +45,7 @@ module _ {T : Type 0} where
   parent_from None p is = absurd (cc)
   parent_from (Some x) p is = (x, refl, is)
 
-  pub parent_falls : (held : Held T) (next : ℕ) → IsTree held next → (c : ℕ) (p : Handle) → parent_in held c ≡ Some p → p.birth < c
+  pub parent_falls : (held : Held T) (next : ℕ) → IsLinked held next → (c : ℕ) (p : Handle) → parent_in held c ≡ Some p → p.birth < c
   parent_falls held next tree c p is = let from = parent_from (fin.get held c) p is in (tree.up c from.0 p from.1 from.2).later
 
   pub parent_of-placed : (held : Held T) (c : ℕ) (x : ℕ × Part T) → fin.get held c ≡ Some x → parent_in held c ≡ x.1.parent
@@ -55,7 +55,7 @@ module _ {T : Type 0} where
   same_placed x y e = cc
 
   -- below a part, but not at it, lies one of its kids
-  pub through_kid : (held : Held T) (next : ℕ) → IsTree held next → (a : ℕ) (x : ℕ × Part T) → fin.get held a ≡ Some x → {b : ℕ} → (y : ℕ × Part T) → fin.get held b ≡ Some y → IsAbove (parent_in held) a b → b ≢ a
+  pub through_kid : (held : Held T) (next : ℕ) → IsLinked held next → (a : ℕ) (x : ℕ × Part T) → fin.get held a ≡ Some x → {b : ℕ} → (y : ℕ × Part T) → fin.get held b ≡ Some y → IsAbove (parent_in held) a b → b ≢ a
       → (kid : Kid) × Contains x.1.kids.items kid × IsAbove (parent_in held) kid.handle.birth b
   through_kid held next tree a x at y is itself other = absurd (other refl)
   through_kid held next tree a x at {b} y is (above_parent {parent = parent} parent_is above) other =

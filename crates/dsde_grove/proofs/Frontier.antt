@@ -10,7 +10,7 @@ use Rattle.dsde_bank.specs.Bank.{Bank}
 use Rattle.dsde_bank.proofs.Births.{get-remove_same, get-remove_other, len-remove_old}
 use Rattle.dsde_grove.specs.Grove.{IsAbove}
 use Rattle.dsde_grove.specs.Grove.IsAbove.{itself, above_parent}
-use Rattle.dsde_grove.specs.Inside.{parent_in, IsTree, IsListed, TakesAll}
+use Rattle.dsde_grove.specs.Inside.{parent_in, IsLinked, IsListed, TakesAll}
 use Rattle.dsde_grove.specs.declared.part.Part.{Part}
 use Rattle.dsde_grove.specs.declared.part.Kid.{Kid}
 use Rattle.dsde_grove.proofs.Trees.{Held}
@@ -143,7 +143,7 @@ module _ {T : Type 0} where
       ] refl
 
   -- the last part of the list is taken out, and its kids come in its place
-  module _ (tree now : Held T) (next top : ℕ) (w : List Handle) (x : Handle) (part : Part T) (lawful : IsTree tree next)
+  module _ (tree now : Held T) (next top : ℕ) (w : List Handle) (x : Handle) (part : Part T) (lawful : IsLinked tree next)
       (f : IsFrontier tree now top (w ++ x ∷ [])) (at : fin.get now x.birth ≡ Some (x.slot, part)) where
     abbrev after : Held T
     after = fin.remove now x.birth

@@ -12,7 +12,7 @@ use Rattle.dsde_bank.specs.Bank.{Bank}
 use Rattle.dsde_bank.proofs.Births.{same_births, get-insert_same, get-insert_other, len-insert_new}
 use Rattle.dsde_values.specs.declared.name.Name.{Name}
 use Rattle.dsde_grove.specs.Grove.{Spot, IsKid, root_name, root_spot}
-use Rattle.dsde_grove.specs.Inside.{link, link_of, path_at, spot_in, parts_of, grove_of, IsBelow, IsListed, IsTree, ChangesKids}
+use Rattle.dsde_grove.specs.Inside.{link, link_of, path_at, spot_in, parts_of, grove_of, IsBelow, IsListed, IsLinked, ChangesKids}
 use Rattle.dsde_grove.specs.declared.part.Part.{Part}
 use Rattle.dsde_grove.specs.declared.part.Kid.{Kid}
 use Rattle.dsde_grove.proofs.Listed.{listed_left, listed_last, listed_append_cases}
@@ -55,14 +55,14 @@ module _ {T : Type 0} where
   carried_same x = record { slot = refl; parent = refl; name = refl; value = refl; kids = λ k listed. listed }
 
   -- a tree of one part
-  module _ (held : Held T) (slot : ℕ) (part : Part T) (is : held ≡ fin.insert fin.empty 0 (slot, part)) (root : part.parent ≡ None) (none : part.kids.items ≡ []) where
+  module _ (held : Held T) (slot : ℕ) (part : Part T) (is : held ≡ fin.insert fin.empty 0 (slot, part)) (root : part.parent ≡ None) (named : part.name ≡ root_name) (none : part.kids.items ≡ []) where
     only : (b : ℕ) (x : ℕ × Part T) → fin.get held b ≡ Some x → (b ≡ 0) × (x ≡ (slot, part))
     only b x at = elim (cases_eq b 0) [
       | inl same ↦ (same, one_part x (slot, part) (sym at ∙ ap (λ m. fin.get m b) is ∙ ap (fin.get (fin.insert fin.empty 0 (slot, part))) same ∙ get-insert_same fin.empty 0 (slot, part)))
       | inr other ↦ let nothing : None ≡ Some x = sym (ap (λ m. fin.get m b) is ∙ get-insert_other fin.empty 0 (slot, part) b other ∙ fin.get-empty nat_cmp b) ∙ at in absurd (cc)
     ]
 
-    pub tree-root : IsTree held 1
+    pub tree-root : IsLinked held 1
     tree-root = record {
       given = λ b x at. omega (arith, (only b x at).0);
       up = λ b x p at parent. let wrong : None ≡ Some p = sym root ∙ ap (λ (z : ℕ × Part T). z.1.parent) (sym (only b x at).1) ∙ parent in absurd (cc);
@@ -72,6 +72,7 @@ module _ {T : Type 0} where
       apart = λ b x at i j d less within same.
           let empty = ap (λ (z : ℕ × Part T). z.1.kids.items) (only b x at).1 ∙ none in
           absurd (omega (arith, within, ap length empty));
+      root = λ b x at _. ((only b x at).0, ap (λ (z : ℕ × Part T). z.1.name) (only b x at).1 ∙ named);
     }
 
     pub parts-root : parts_of held ≡ fin.insert fin.empty 0 record { slot = slot; parent = None; name = part.name; path = part.name ∷ []; value = part.value }
@@ -91,7 +92,7 @@ module _ {T : Type 0} where
         shown = record { slot = slot; parent = None; name = part.name; path = part.name ∷ []; value = part.value }
 
   -- a part is put into the bank, and then into the list of its parent
-  module _ (old : Held T) (next slot : ℕ) (parent : Handle) (part : Part T) (two three : Bank (Part T)) (lawful : IsTree old next)
+  module _ (old : Held T) (next slot : ℕ) (parent : Handle) (part : Part T) (two three : Bank (Part T)) (lawful : IsLinked old next)
       (held : two.held ≡ fin.insert old next (slot, part)) (linked : ChangesKids two three parent (λ kids. kids ++ listing part.name record { birth = next; slot = slot } ∷ []))
       (below : part.parent ≡ Some parent) (none : part.kids.items ≡ []) (other_birth : parent.birth ≢ next)
       (free : (k : Kid) → Contains linked.part.kids.items k → k.name ≢ part.name) where
@@ -154,9 +155,15 @@ module _ {T : Type 0} where
     later : parent.birth < next
     later = lawful.given parent.birth (parent.slot, linked.part) above_was
 
-    pub tree-grown : IsTree new (next + 1)
-    tree-grown = record { given = given; up = up; down = down; apart = apart }
+    pub tree-grown : IsLinked new (next + 1)
+    tree-grown = record { given = given; up = up; down = down; apart = apart; root = root }
       where
+        root : (b : ℕ) (y : ℕ × Part T) → fin.get new b ≡ Some y → y.1.parent ≡ None → (b ≡ 0) × (y.1.name ≡ root_name)
+        root b y is bare = elim (came b y is) [
+          | inl fresh ↦ let wrong : Some parent ≡ None = sym below ∙ ap (λ (z : ℕ × Part T). z.1.parent) (sym fresh.1) ∙ bare in absurd (cc)
+          | inr was ↦ let over = lawful.root b was.0 was.1 (sym was.2.parent ∙ bare) in (over.0, was.2.name ∙ over.1)
+        ]
+
         given : (b : ℕ) (y : ℕ × Part T) → fin.get new b ≡ Some y → b < next + 1
         given b y is = elim (came b y is) [ inl fresh ↦ omega (arith, fresh.0) | inr was ↦ omega (arith, lawful.given b was.0 was.1) ]
 
@@ -213,23 +220,23 @@ module _ {T : Type 0} where
 
   -- the first part of an empty bank
   module _ (old new : Bank (Part T)) (handle : Handle) (part : Part T) (held : new.held ≡ fin.insert old.held handle.birth (handle.slot, part)) (birth : handle.birth ≡ old.next_birth) (next : new.next_birth ≡ old.next_birth + 1)
-      (bare : old.held ≡ fin.empty) (first : old.next_birth ≡ 0) (root : part.parent ≡ None) (none : part.kids.items ≡ []) where
+      (bare : old.held ≡ fin.empty) (first : old.next_birth ≡ 0) (root : part.parent ≡ None) (named : part.name ≡ root_name) (none : part.kids.items ≡ []) where
     placed_first : new.held ≡ fin.insert fin.empty 0 (handle.slot, part)
     placed_first = held ∙ (λ i. fin.insert (bare i) ((birth ∙ first) i) (handle.slot, part))
 
-    pub tree-planted : IsTree new.held new.next_birth
-    tree-planted = let one : 1 ≡ new.next_birth = omega (arith, next, first) in subst (IsTree new.held) one (tree-root new.held handle.slot part placed_first root none)
+    pub tree-planted : IsLinked new.held new.next_birth
+    tree-planted = let one : 1 ≡ new.next_birth = omega (arith, next, first) in subst (IsLinked new.held) one (tree-root new.held handle.slot part placed_first root named none)
 
     pub len-planted : fin.len new.held ≡ 1
     len-planted = ap fin.len placed_first ∙ len-insert_new fin.empty 0 (handle.slot, part) (fin.get-empty nat_cmp 0) ∙ ap (λ n. n + 1) (fin.len-empty nat_cmp (ℕ × Part T))
 
-    pub parts-planted : part.name ≡ root_name → parts_of new.held ≡ fin.insert fin.empty 0 (root_spot handle part.value)
-    parts-planted named =
-        parts-root new.held handle.slot part placed_first root none
+    pub parts-planted : parts_of new.held ≡ fin.insert fin.empty 0 (root_spot handle part.value)
+    parts-planted =
+        parts-root new.held handle.slot part placed_first root named none
         ∙ (λ i. fin.insert fin.empty 0 record { slot = handle.slot; parent = None; name = named i; path = named i ∷ []; value = part.value })
 
   -- the part that is new shows below its parent, and all others as before
-  module _ (old : Held T) (next slot : ℕ) (parent : Handle) (part : Part T) (two three : Bank (Part T)) (lawful : IsTree old next)
+  module _ (old : Held T) (next slot : ℕ) (parent : Handle) (part : Part T) (two three : Bank (Part T)) (lawful : IsLinked old next)
       (held : two.held ≡ fin.insert old next (slot, part)) (linked : ChangesKids two three parent (λ kids. kids ++ listing part.name record { birth = next; slot = slot } ∷ []))
       (below : part.parent ≡ Some parent) (none : part.kids.items ≡ []) (other_birth : parent.birth ≢ next)
       (free : (k : Kid) → Contains linked.part.kids.items k → k.name ≢ part.name) where
@@ -284,7 +291,7 @@ module _ {T : Type 0} where
         ]
 
   -- nothing is held under a birth that was not given
-  pub not_given : (held : Held T) (next : ℕ) → IsTree held next → fin.get held next ≡ None
+  pub not_given : (held : Held T) (next : ℕ) → IsLinked held next → fin.get held next ≡ None
   not_given held next lawful = by (fin.get held next) refl
     where
       by : (o : Option (ℕ × Part T)) → fin.get held next ≡ o → fin.get held next ≡ None
@@ -292,7 +299,7 @@ module _ {T : Type 0} where
       by (Some x) is = absurd (omega (arith, lawful.given next x is))
 
   -- the name is still free once room is made and the part is in the bank
-  pub still_free : (older one two three : Bank (Part T)) (next birth slot : ℕ) (parent : Handle) (name : Name) (part : Part T) (change : List Kid → List Kid) → IsTree older.held next → ChangesKids older one parent (λ kids. kids)
+  pub still_free : (older one two three : Bank (Part T)) (next birth slot : ℕ) (parent : Handle) (name : Name) (part : Part T) (change : List Kid → List Kid) → IsLinked older.held next → ChangesKids older one parent (λ kids. kids)
       → two.held ≡ fin.insert one.held birth (slot, part) → parent.birth ≢ birth → (linked : ChangesKids two three parent change) → ((kid : Handle) → ¬ IsKid (grove_of older) parent name kid)
       → (k : Kid) → Contains linked.part.kids.items k → k.name ≢ name
   still_free older one two three next birth slot parent name part change lawful kept held other linked free k listed named =
@@ -303,5 +310,5 @@ module _ {T : Type 0} where
       let as_named : Contains kept.part.kids.items (listing name k.handle) = subst (λ (x : Kid). Contains kept.part.kids.items x) (λ i. listing (named i) k.handle) was in
       free k.handle (kid_is older next lawful parent name kept.part (found-get older parent kept.part kept.was) k.handle as_named)
 
-  pub len-placed : (one two : Bank (Part T)) (next birth : ℕ) (x : ℕ × Part T) → IsTree one.held birth → two.held ≡ fin.insert one.held birth x → fin.len two.held ≡ fin.len one.held + 1
+  pub len-placed : (one two : Bank (Part T)) (next birth : ℕ) (x : ℕ × Part T) → IsLinked one.held birth → two.held ≡ fin.insert one.held birth x → fin.len two.held ≡ fin.len one.held + 1
   len-placed one two next birth x lawful held = ap fin.len held ∙ len-insert_new one.held birth x (not_given one.held birth lawful)

@@ -8,7 +8,7 @@ use Rattle.dsde_bank.specs.declared.handle.Handle.{Handle}
 use Rattle.dsde_bank.specs.Bank.{Bank, found}
 use Rattle.dsde_values.specs.declared.name.Name.{Name}
 use Rattle.dsde_grove.specs.Grove.{Grove, Spot, spot, IsKid}
-use Rattle.dsde_grove.specs.Inside.{spot_in, grove_of, IsTree}
+use Rattle.dsde_grove.specs.Inside.{spot_in, grove_of, IsLinked}
 use Rattle.dsde_grove.specs.declared.grove.GrowEnd.{GrowEnd}
 use Rattle.dsde_grove.specs.declared.grove.GrowEnd.TheVariants.{Stale, Taken, Memory}
 use Rattle.dsde_grove.specs.declared.part.Part.{Part}
@@ -63,7 +63,7 @@ module _ {T : Type 0} where
   pub part_shown : (bank : Bank (Part T)) (handle : Handle) (s : Spot T) → spot (grove_of bank) handle ≡ Some s → (q : Part T) × (found bank handle ≡ Some q) × (spot_in bank.held handle.birth (handle.slot, q) ≡ s)
   part_shown bank handle s is = shown_some (λ part. spot_in bank.held handle.birth (handle.slot, part)) (found bank handle) s (sym (spot-found bank handle) ∙ is)
 
-  module _ (bank : Bank (Part T)) (next : ℕ) (lawful : IsTree bank.held next) (handle : Handle) (name : Name) where
+  module _ (bank : Bank (Part T)) (next : ℕ) (lawful : IsLinked bank.held next) (handle : Handle) (name : Name) where
     -- what a kid's parent lists
     pub kid_above : (kid : Handle) → IsKid (grove_of bank) handle name kid → (above : Part T) × (found bank handle ≡ Some above) × Contains above.kids.items (listing name kid)
     kid_above kid is =

@@ -8,3 +8,5 @@ pub mod Pruned
 pub mod Kids
 pub mod Grown
 pub mod Walk
+pub mod Shown
+pub mod ShownTrees

@@ -7,16 +7,17 @@ use Rattle.std.proofs.lemmas.Bool.{cases_eq, eq-eqb, ne_eqb}
 use Rattle.std.proofs.lemmas.List.Kept.{AllPairs-filter}
 use Rattle.dsde_bank.specs.declared.handle.Handle.{Handle}
 use Rattle.dsde_bank.specs.Bank.{Bank, found}
-use Rattle.dsde_grove.specs.Grove.{Spot, IsAbove, DropsSubtree, parent_of}
+use Rattle.dsde_grove.specs.Grove.{Spot, spot, IsAbove, IsTree, DropsSubtree, parent_of}
 use Rattle.dsde_grove.specs.Grove.IsAbove.{itself, above_parent}
 use Rattle.dsde_grove.specs.Part.{is_handle}
-use Rattle.dsde_grove.specs.Inside.{parent_in, link, link_of, path_at, spot_in, parts_of, grove_of, IsBelow, IsListed, IsTree, TakesAll, ChangesKids}
+use Rattle.dsde_grove.specs.Inside.{parent_in, link, link_of, path_at, spot_in, parts_of, grove_of, IsBelow, IsListed, IsLinked, TakesAll, ChangesKids}
 use Rattle.dsde_grove.specs.declared.part.Part.{Part}
 use Rattle.dsde_grove.specs.declared.part.Kid.{Kid}
 use Rattle.dsde_grove.proofs.Listed.{listed_filter, filter_listed}
 use Rattle.dsde_grove.proofs.Parts.{get-parts_of, found-get}
 use Rattle.dsde_grove.proofs.Paths.{same_paths}
 use Rattle.dsde_grove.proofs.Trees.{Held, link_from}
+use Rattle.dsde_grove.proofs.Shown.{either}
 use Rattle.dsde_grove.proofs.Above.{above_cases, above_same, above_le, parent_falls, parent_of-placed}
 
 abbrev pub DifferInName : Kid → Kid → Type 0
@@ -55,14 +56,14 @@ module _ {T : Type 0} where
   one_some x y e = cc
 
   -- no part but its parent lists a part among its kids
-  lists_top : (tree : Held T) (next : ℕ) → IsTree tree next → (top : Handle) (part : Part T) → fin.get tree top.birth ≡ Some (top.slot, part) → (b : ℕ) (x : ℕ × Part T) (k : Kid) → fin.get tree b ≡ Some x → Contains x.1.kids.items k → k.handle.birth ≡ top.birth
+  lists_top : (tree : Held T) (next : ℕ) → IsLinked tree next → (top : Handle) (part : Part T) → fin.get tree top.birth ≡ Some (top.slot, part) → (b : ℕ) (x : ℕ × Part T) (k : Kid) → fin.get tree b ≡ Some x → Contains x.1.kids.items k → k.handle.birth ≡ top.birth
       → (part.parent ≡ Some record { birth = b; slot = x.0 }) × (k.handle ≡ top)
   lists_top tree next lawful top part live b x k is listed same =
       let down = lawful.down b x k is listed in
       let here = one_some (k.handle.slot, down.below) (top.slot, part) (sym down.live ∙ ap (fin.get tree) same ∙ live) in
       (sym (ap (λ (z : ℕ × Part T). z.1.parent) here) ∙ down.parent, λ i. record { birth = same i; slot = (here i).0 })
 
-  pub pruned-root : (old new : Bank (Part T)) (next : ℕ) → IsTree old.held next → (top : Handle) (part : Part T) → fin.get old.held top.birth ≡ Some (top.slot, part) → part.parent ≡ None → TakesAll old new top → IsPruned old.held new.held top.birth
+  pub pruned-root : (old new : Bank (Part T)) (next : ℕ) → IsLinked old.held next → (top : Handle) (part : Part T) → fin.get old.held top.birth ≡ Some (top.slot, part) → part.parent ≡ None → TakesAll old new top → IsPruned old.held new.held top.birth
   pruned-root old new next lawful top part live root t = record {
     there = λ b x is other. (
       x,
@@ -82,7 +83,7 @@ module _ {T : Type 0} where
     left = t.left;
   }
 
-  pub pruned-kid : (old mid new : Bank (Part T)) (next : ℕ) → IsTree old.held next → (top parent : Handle) (part : Part T) → fin.get old.held top.birth ≡ Some (top.slot, part) → part.parent ≡ Some parent → TakesAll old mid top
+  pub pruned-kid : (old mid new : Bank (Part T)) (next : ℕ) → IsLinked old.held next → (top parent : Handle) (part : Part T) → fin.get old.held top.birth ≡ Some (top.slot, part) → part.parent ≡ Some parent → TakesAll old mid top
       → ChangesKids mid new parent (filter (λ other. not (is_handle top other.handle))) → IsPruned old.held new.held top.birth
   pruned-kid old mid new next lawful top parent part live below t c = record { there = there; back = back; left = left }
     where
@@ -140,14 +141,14 @@ module _ {T : Type 0} where
         )
       ]
 
-  module _ (tree new : Held T) (next top : ℕ) (lawful : IsTree tree next) (pruned : IsPruned tree new top) where
+  module _ (tree new : Held T) (next top : ℕ) (lawful : IsLinked tree next) (pruned : IsPruned tree new top) where
     abbrev Stays : ℕ → Type 0
     Stays b = ¬ IsAbove (parent_in tree) top b
 
     stays_up : (b : ℕ) (x : ℕ × Part T) (p : Handle) → fin.get tree b ≡ Some x → x.1.parent ≡ Some p → Stays b → Stays p.birth
     stays_up b x p is parent out above = out (above_parent (parent_of-placed tree b x is ∙ parent) above)
 
-    pub tree-pruned : IsTree new next
+    pub tree-pruned : IsLinked new next
     tree-pruned = record {
       given = λ b y is. let from = pruned.back b y is in lawful.given b from.0 from.1;
       up = up;
@@ -156,6 +157,10 @@ module _ {T : Type 0} where
           let from = pruned.back b y is in
           let to = pruned.there b from.0 from.1 (pruned.left b y is) in
           subst (λ (z : ℕ × Part T). AllPairs DifferInName z.1.kids.items) (one_some to.0 y (sym to.1 ∙ is)) to.2.apart;
+      root = λ b y is bare.
+          let from = kept b y is in
+          let was = lawful.root b from.0 from.1 (sym from.2.parent ∙ bare) in
+          (was.0, from.2.name ∙ was.1);
     }
       where
         kept : (b : ℕ) (y : ℕ × Part T) → fin.get new b ≡ Some y → (x : ℕ × Part T) × (fin.get tree b ≡ Some x) × Keeps top x y
@@ -238,18 +243,28 @@ module _ {T : Type 0} where
   pub parent_of-held : (bank : Bank (Part T)) (b : ℕ) → parent_of (grove_of bank) b ≡ parent_in bank.held b
   parent_of-held bank b = ap (option_and_then (λ (s : Spot T). s.parent)) (get-parts_of bank.held b) ∙ parents_shown bank.held b (fin.get bank.held b)
 
-  pub drops-pruned : (old new : Bank (Part T)) (next : ℕ) (top : Handle) → IsTree old.held next → IsPruned old.held new.held top.birth → new.next_birth ≡ old.next_birth → DropsSubtree (grove_of old) (grove_of new) top
-  drops-pruned old new next top lawful pruned same = record {
-    gone = λ b above. gone-pruned old.held new.held next top.birth lawful pruned b (above_same (λ c. sym (parent_of-held old c)) above);
-    kept = λ b out. kept-pruned old.held new.held next top.birth lawful pruned b (λ above. out (above_same (λ c. parent_of-held old c) above));
+  pub drops-pruned : (old new : Bank (Part T)) (next : ℕ) (top : Handle) (part : Spot T) → IsLinked old.held next → IsTree (grove_of old) → spot (grove_of old) top ≡ Some part → IsPruned old.held new.held top.birth → new.next_birth ≡ old.next_birth
+      → DropsSubtree (grove_of old) (grove_of new) top
+  drops-pruned old new next top part lawful tree live pruned same = record {
+    gone = gone;
+    kept = kept;
     next = same;
+    part = part;
+    live = live;
+    either = either (grove_of old) tree (grove_of new) top part live gone kept;
   }
+    where
+      gone : (b : ℕ) → IsAbove (parent_of (grove_of old)) top.birth b → fin.get (parts_of new.held) b ≡ None
+      gone b above = gone-pruned old.held new.held next top.birth lawful pruned b (above_same (λ c. sym (parent_of-held old c)) above)
+
+      kept : (b : ℕ) → ¬ IsAbove (parent_of (grove_of old)) top.birth b → fin.get (parts_of new.held) b ≡ fin.get (parts_of old.held) b
+      kept b out = kept-pruned old.held new.held next top.birth lawful pruned b (λ above. out (above_same (λ c. parent_of-held old c) above))
 
   -- the top is taken out of the list of its parent, if it has one
   abbrev pub Unlinks : Bank (Part T) → Bank (Part T) → Handle → Option Handle → Type 0
   Unlinks mid new top o = MatchOption o (new ≡ mid) (λ above. ChangesKids mid new above (filter (λ other. not (is_handle top other.handle))))
 
-  pub pruned-any : (old mid new : Bank (Part T)) (next : ℕ) → IsTree old.held next → (top : Handle) (part : Part T) → fin.get old.held top.birth ≡ Some (top.slot, part) → TakesAll old mid top → Unlinks mid new top part.parent → IsPruned old.held new.held top.birth
+  pub pruned-any : (old mid new : Bank (Part T)) (next : ℕ) → IsLinked old.held next → (top : Handle) (part : Part T) → fin.get old.held top.birth ≡ Some (top.slot, part) → TakesAll old mid top → Unlinks mid new top part.parent → IsPruned old.held new.held top.birth
   pruned-any old mid new next lawful top part live t u = by part.parent refl u
     where
       by : (o : Option Handle) → part.parent ≡ o → Unlinks mid new top o → IsPruned old.held new.held top.birth
@@ -265,7 +280,7 @@ module _ {T : Type 0} where
   next-unlinked mid new top (Some parent) c = c.next
 
   -- the parent of the top stays
-  pub parent_stays : (old mid : Bank (Part T)) (next : ℕ) → IsTree old.held next → (top : Handle) (part : Part T) → fin.get old.held top.birth ≡ Some (top.slot, part) → TakesAll old mid top → IfSome part.parent (λ above. IsSome (found mid above))
+  pub parent_stays : (old mid : Bank (Part T)) (next : ℕ) → IsLinked old.held next → (top : Handle) (part : Part T) → fin.get old.held top.birth ≡ Some (top.slot, part) → TakesAll old mid top → IfSome part.parent (λ above. IsSome (found mid above))
   parent_stays old mid next lawful top part live t = by part.parent refl
     where
       by : (o : Option Handle) → part.parent ≡ o → IfSome o (λ above. IsSome (found mid above))

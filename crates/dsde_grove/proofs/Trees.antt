@@ -11,8 +11,8 @@ use Rattle.dsde_bank.specs.declared.handle.Handle.{Handle}
 use Rattle.dsde_bank.specs.Bank.{Bank, found, with_value}
 use Rattle.dsde_bank.proofs.Births.{get-insert_same, get-insert_other, len-insert_old, same_births}
 use Rattle.dsde_values.specs.declared.name.Name.{Name}
-use Rattle.dsde_grove.specs.Grove.{Spot, with_value as write}
-use Rattle.dsde_grove.specs.Inside.{link, link_of, path_at, spot_in, parts_of, grove_of, IsBelow, IsListed, IsTree, ChangesKids}
+use Rattle.dsde_grove.specs.Grove.{Spot, root_name, with_value as write}
+use Rattle.dsde_grove.specs.Inside.{link, link_of, path_at, spot_in, parts_of, grove_of, IsBelow, IsListed, IsLinked, ChangesKids}
 use Rattle.dsde_grove.specs.declared.part.Part.{Part}
 use Rattle.dsde_grove.specs.declared.part.Kid.{Kid}
 use Rattle.dsde_grove.proofs.Parts.{same_parts, get-found, get-parts_of, spot-found}
@@ -43,7 +43,7 @@ module _ {T : Type 0} where
   link_from (Some x) parent name is = let both : link x ≡ (parent, name) = cc in (x, refl, ap (λ p. p.0) both, ap (λ p. p.1) both)
 
   -- a parent is born before its kids
-  pub falls : (held : Held T) (next : ℕ) → IsTree held next → (b : ℕ) (p : Handle) (n : Name) → link_of held b ≡ Some (Some p, n) → p.birth < b
+  pub falls : (held : Held T) (next : ℕ) → IsLinked held next → (b : ℕ) (p : Handle) (n : Name) → link_of held b ≡ Some (Some p, n) → p.birth < b
   falls held next tree b p n at = let from = link_from (fin.get held b) (Some p) n at in (tree.up b from.0 p from.1 from.2).later
 
   -- one place in two maps, at a birth that both have or neither
@@ -75,9 +75,15 @@ module _ {T : Type 0} where
   path-similar old new similar b = same_paths (λ _. Unit {0}) (link_of old) (link_of new) (λ c _. links-similar old new similar c) (λ c p n _ _. tt) (suc b) b tt
 
   -- the same names and handles stand among kids
-  pub tree-similar : (old new : Held T) (next : ℕ) → IsTree old next → IsSimilar old new → IsTree new next
-  tree-similar old new next tree similar = record { given = given; up = up; down = down; apart = apart }
+  pub tree-similar : (old new : Held T) (next : ℕ) → IsLinked old next → IsSimilar old new → IsLinked new next
+  tree-similar old new next tree similar = record { given = given; up = up; down = down; apart = apart; root = root }
     where
+      root : (b : ℕ) (y : ℕ × Part T) → fin.get new b ≡ Some y → y.1.parent ≡ None → (b ≡ 0) × (y.1.name ≡ root_name)
+      root b y is bare =
+          let from = similar.back b y is in
+          let was = tree.root b from.0 from.1 (sym from.2.parent ∙ bare) in
+          (was.0, from.2.name ∙ was.1)
+
       given : (b : ℕ) (y : ℕ × Part T) → fin.get new b ≡ Some y → b < next
       given b y is = let from = similar.back b y is in tree.given b from.0 from.1
 
@@ -229,7 +235,7 @@ module _ {T : Type 0} where
     similar : IsSimilar bank.held (with_value bank handle (record part { value = value })).held
     similar = similar-write bank handle part (record part { value = value }) live refl refl refl
 
-    pub tree-write : (next : ℕ) → IsTree bank.held next → IsTree (with_value bank handle (record part { value = value })).held next
+    pub tree-write : (next : ℕ) → IsLinked bank.held next → IsLinked (with_value bank handle (record part { value = value })).held next
     tree-write next tree = tree-similar bank.held (with_value bank handle (record part { value = value })).held next tree similar
 
     pub len-write : fin.len (with_value bank handle (record part { value = value })).held ≡ fin.len bank.held

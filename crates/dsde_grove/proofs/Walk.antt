@@ -7,7 +7,7 @@ use Rattle.dsde_bank.specs.Bank.{Bank, found}
 use Rattle.dsde_values.specs.declared.name.Name.{Name}
 use Rattle.dsde_values.specs.declared.path.Path.{Path}
 use Rattle.dsde_grove.specs.Grove.{Spot, depth_of, path_of}
-use Rattle.dsde_grove.specs.Inside.{link, link_of, path_at, spot_in, grove_of, IsTree}
+use Rattle.dsde_grove.specs.Inside.{link, link_of, path_at, spot_in, grove_of, IsLinked}
 use Rattle.dsde_grove.specs.declared.part.Part.{Part}
 use Rattle.dsde_grove.proofs.Parts.{get-found, found-get, spot-found}
 use Rattle.dsde_grove.proofs.Paths.{path-kid, path-root}
@@ -33,21 +33,21 @@ module _ {T : Type 0} where
   IsAtLive bank (Some at) = (part : Part T) × (found bank at ≡ Some part)
 
   -- one step up
-  pub path-step : (bank : Bank (Part T)) (next : ℕ) → IsTree bank.held next → (at : Handle) (part : Part T) → found bank at ≡ Some part → path_at bank.held at.birth ≡ path_above bank.held part.parent ++ part.name ∷ []
+  pub path-step : (bank : Bank (Part T)) (next : ℕ) → IsLinked bank.held next → (at : Handle) (part : Part T) → found bank at ≡ Some part → path_at bank.held at.birth ≡ path_above bank.held part.parent ++ part.name ∷ []
   path-step bank next lawful at part live = by part.parent refl
     where
       by : (o : Option Handle) → part.parent ≡ o → path_at bank.held at.birth ≡ path_above bank.held o ++ part.name ∷ []
       by None root = path-root (link_of bank.held) at.birth part.name (ap (option_map link) (get-found bank at part live) ∙ (λ i. Some (root i, part.name)))
       by (Some up) below = path-kid (link_of bank.held) (falls bank.held next lawful) at.birth up part.name (ap (option_map link) (get-found bank at part live) ∙ (λ i. Some (below i, part.name)))
 
-  pub live-step : (bank : Bank (Part T)) (next : ℕ) → IsTree bank.held next → (at : Handle) (part : Part T) → found bank at ≡ Some part → IsAtLive bank part.parent
+  pub live-step : (bank : Bank (Part T)) (next : ℕ) → IsLinked bank.held next → (at : Handle) (part : Part T) → found bank at ≡ Some part → IsAtLive bank part.parent
   live-step bank next lawful at part live = by part.parent refl
     where
       by : (o : Option Handle) → part.parent ≡ o → IsAtLive bank o
       by None root = tt
       by (Some up) below = let above = lawful.up at.birth (at.slot, part) up (get-found bank at part live) below in (above.above, found-get bank up above.above above.live)
 
-  pub lower-step : (bank : Bank (Part T)) (next : ℕ) → IsTree bank.held next → (at : Handle) (part : Part T) → found bank at ≡ Some part → height part.parent < suc at.birth
+  pub lower-step : (bank : Bank (Part T)) (next : ℕ) → IsLinked bank.held next → (at : Handle) (part : Part T) → found bank at ≡ Some part → height part.parent < suc at.birth
   lower-step bank next lawful at part live = by part.parent refl
     where
       by : (o : Option Handle) → part.parent ≡ o → height o < suc at.birth
@@ -66,5 +66,5 @@ module _ {T : Type 0} where
       named s = record { names = s.path }
 
   -- a step up leaves at least one name
-  pub some_name : (bank : Bank (Part T)) (next : ℕ) → IsTree bank.held next → (at : Handle) (part : Part T) → found bank at ≡ Some part → 0 < length (path_at bank.held at.birth)
+  pub some_name : (bank : Bank (Part T)) (next : ℕ) → IsLinked bank.held next → (at : Handle) (part : Part T) → found bank at ≡ Some part → 0 < length (path_at bank.held at.birth)
   some_name bank next lawful at part live = omega (arith, ap length (path-step bank next lawful at part live), length-append (path_above bank.held part.parent) (part.name ∷ []))

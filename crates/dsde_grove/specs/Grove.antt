@@ -1,5 +1,5 @@
 -- What a contract sees of a `Grove`.
-use Rattle.std.specs.Prelude.{◌≡◌, ℕ, ◌+◌, List, [], ◌∷◌, ◌++◌, length, Option, Some, None, option_and_then, codes, ◌==◌, if◌then◌else◌, refl}
+use Rattle.std.specs.Prelude.{◌≡◌, ℕ, ◌+◌, ◌<◌, ◌⊎◌, List, [], ◌∷◌, ◌++◌, length, Option, Some, None, option_and_then, codes, ◌==◌, if◌then◌else◌, refl}
 use Rattle.std.specs.Option.{option_map, option_map_or}
 use Rattle.std.specs.Coded.{Coded, code_by, coded×, coded_ℕ, coded_list, coded_option}
 use Rattle.std.specs.Ordering.{nat_cmp}
@@ -97,8 +97,37 @@ module _ {T : Type 0} where
     pub parts : new.parts ≡ map.insert old.parts kid.birth record { slot = kid.slot; parent = Some parent; name = name; path = above.path ++ name ∷ []; value = value }
     pub next : new.next_birth ≡ old.next_birth + 1
 
-  -- the part under a handle and all parts below it are gone, and all others as they were
+  -- the parent of a part is live and born before it, and their paths differ by the part's own name
+  pub record IsParent (grove : Grove T) (birth : ℕ) (part : Spot T) (parent : Handle) : Type 0 where
+    pub above : Spot T
+    pub live : spot grove parent ≡ Some above
+    pub earlier : parent.birth < birth
+    pub path : part.path ≡ above.path ++ part.name ∷ []
+
+  -- births are below the next one; a part without a parent is the root, of birth 0; each other part has its parent; no two siblings have one name
+  pub record IsTree (grove : Grove T) : Type 0 where
+    pub given : (birth : ℕ) (part : Spot T) → map.get grove.parts birth ≡ Some part → birth < grove.next_birth
+    pub root : (birth : ℕ) (part : Spot T) → map.get grove.parts birth ≡ Some part → part.parent ≡ None → (birth ≡ 0) × (part.name ≡ root_name) × (part.path ≡ root_name ∷ [])
+    pub up : (birth : ℕ) (part : Spot T) (parent : Handle) → map.get grove.parts birth ≡ Some part → part.parent ≡ Some parent → IsParent grove birth part parent
+    pub apart : (a b : ℕ) (p q : Spot T) (parent : Handle) → map.get grove.parts a ≡ Some p → map.get grove.parts b ≡ Some q → p.parent ≡ Some parent → q.parent ≡ Some parent → p.name ≡ q.name → a ≡ b
+
+  -- the handle finds nothing, and its birth was given before
+  pub record IsGone (grove : Grove T) (handle : Handle) : Type 0 where
+    pub absent : spot grove handle ≡ None
+    pub given : handle.birth < grove.next_birth
+
+  -- the part of this birth is the top or below it: its path has that of the top in front
+  pub record IsUnder (grove : Grove T) (top : Spot T) (birth : ℕ) : Type 0 where
+    pub part : Spot T
+    pub live : map.get grove.parts birth ≡ Some part
+    pub rest : List Name
+    pub path : part.path ≡ top.path ++ rest
+
+  -- the part under a handle and all parts below it are gone, and all others as they were: which of the two holds of a birth, its path tells
   pub record DropsSubtree (old new : Grove T) (top : Handle) : Type 0 where
     pub gone : (birth : ℕ) → IsAbove (parent_of old) top.birth birth → map.get new.parts birth ≡ None
     pub kept : (birth : ℕ) → ¬ IsAbove (parent_of old) top.birth birth → map.get new.parts birth ≡ map.get old.parts birth
     pub next : new.next_birth ≡ old.next_birth
+    pub part : Spot T
+    pub live : spot old top ≡ Some part
+    pub either : (birth : ℕ) → (IsUnder old part birth × (map.get new.parts birth ≡ None)) ⊎ ((¬ IsUnder old part birth) × (map.get new.parts birth ≡ map.get old.parts birth))

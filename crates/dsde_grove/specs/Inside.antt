@@ -10,7 +10,7 @@ use Rattle.dsde_bank.specs.Bank.{Bank}
 use Rattle.dsde_bank.specs.Batch.{Batch}
 use Rattle.dsde_bank.specs.declared.handle.Handle.{Handle}
 use Rattle.dsde_values.specs.declared.name.Name.{Name}
-use Rattle.dsde_grove.specs.Grove.{Grove, Spot, IsAbove}
+use Rattle.dsde_grove.specs.Grove.{Grove, Spot, IsAbove, root_name}
 use Rattle.dsde_grove.specs.declared.part.Part.{Part}
 use Rattle.dsde_grove.specs.declared.part.Kid.{Kid}
 
@@ -62,16 +62,17 @@ module _ {T : Type 0} where
     pub parent : below.parent ≡ Some record { birth = birth; slot = placed.0 }
     pub named : below.name ≡ kid.name
 
-  -- parts and their lists of kids agree, a parent is born before its kids, and no two kids have one name
-  pub record IsTree (held : map.FinMap nat_cmp (ℕ × Part T)) (next : ℕ) : Type 0 where
+  -- parts and their lists of kids agree, a parent is born before its kids, no two kids have one name, and a part without a parent is the root
+  pub record IsLinked (held : map.FinMap nat_cmp (ℕ × Part T)) (next : ℕ) : Type 0 where
     pub given : (birth : ℕ) (placed : ℕ × Part T) → map.get held birth ≡ Some placed → birth < next
     pub up : (birth : ℕ) (placed : ℕ × Part T) (parent : Handle) → map.get held birth ≡ Some placed → placed.1.parent ≡ Some parent → IsBelow held birth placed parent
     pub down : (birth : ℕ) (placed : ℕ × Part T) (kid : Kid) → map.get held birth ≡ Some placed → Contains placed.1.kids.items kid → IsListed held birth placed kid
     pub apart : (birth : ℕ) (placed : ℕ × Part T) → map.get held birth ≡ Some placed → AllPairs (λ a b. a.name ≢ b.name) placed.1.kids.items
+    pub root : (birth : ℕ) (placed : ℕ × Part T) → map.get held birth ≡ Some placed → placed.1.parent ≡ None → (birth ≡ 0) × (placed.1.name ≡ root_name)
 
-  -- the bank is a tree, and the work list is empty and has room for all its parts
+  -- the parts of the bank are linked, and the work list is empty and has room for all its parts
   pub record IsSound (bank : Bank (Part T)) (work : Batch Handle) : Type 0 where
-    pub tree : IsTree bank.held bank.next_birth
+    pub tree : IsLinked bank.held bank.next_birth
     pub idle : work.items ≡ []
     pub room : map.len bank.held ≤ work.spare
 

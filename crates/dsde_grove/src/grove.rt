@@ -3,7 +3,7 @@ ghost use Rattle.std.specs.Option.{option_copied, option_copied_mut, option_map}
 ghost use Rattle.std.specs.FinMap as map;
 ghost use Rattle.std.specs.Borrow.{Lends, LendsIf, sem};
 ghost use Rattle.dsde_bank.specs.declared.handle.Handle.{Handle};
-ghost use Rattle.dsde_grove.specs.Grove.{spot, value_of, path_of, depth_of, with_value, root_spot, IsKid, Grows, DropsSubtree};
+ghost use Rattle.dsde_grove.specs.Grove.{spot, value_of, path_of, depth_of, with_value, root_spot, parent_of, IsAbove, IsKid, IsTree, IsGone, Grows, DropsSubtree};
 ghost use Rattle.dsde_grove.specs.contracts.grove.Grove.{the_row};
 
 use crate::growth::{link, make_room, unlink};
@@ -57,6 +57,7 @@ impl<T: Drop> Grove<T> {
         ensures birth { IfOk result (λ made. made.1.birth ≡ 0) }
         ensures parts { IfOk result (λ made. made.0.parts ≡ map.insert map.empty 0 (root_spot made.1 root)) }
         ensures next { IfOk result (λ made. made.0.next_birth ≡ 1) }
+        ensures tree { IfOk result (λ made. IsTree made.0) }
     {
         Self::plant::<Brand>(alloc, root, Blank::new(1))
     }
@@ -69,6 +70,7 @@ impl<T: Drop> Grove<T> {
         ensures birth { IfOk result (λ made. made.1.birth ≡ 0) }
         ensures parts { IfOk result (λ made. made.0.parts ≡ map.insert map.empty 0 (root_spot made.1 root)) }
         ensures next { IfOk result (λ made. made.0.next_birth ≡ 1) }
+        ensures tree { IfOk result (λ made. IsTree made.0) }
     {
         let mut looks = Steps::<L>::new(blank);
         let mut bank = Bank::new(alloc);
@@ -90,14 +92,16 @@ impl<T: Drop> Grove<T> {
 
     /// How many parts are live.
     pub fn live(&self) -> u64
-        ensures { result ≡ map.len self.now.parts }
+        ensures count { result ≡ map.len self.now.parts }
+        ensures tree { IsTree self.now }
     {
         self.bank.len() as u64
     }
 
     /// The birth of the next part.
     pub fn born(&self) -> u64
-        ensures { result ≡ self.now.next_birth }
+        ensures next { result ≡ self.now.next_birth }
+        ensures tree { IsTree self.now }
     {
         self.bank.born()
     }
@@ -105,6 +109,7 @@ impl<T: Drop> Grove<T> {
     /// The value of a part; `None` exactly where the handle is not live. Counts at most 2 looks.
     pub fn get<L: Ledger>(&self, handle: Handle, looks: &mut Steps<L>) -> Option<&T>
         ensures value { option_copied result ≡ value_of self.now handle }
+        ensures tree { IsTree self.now }
         ensures ticks { looks.new ≤ looks.old + 2 }
     {
         match self.bank.get(handle, looks) {
@@ -117,6 +122,8 @@ impl<T: Drop> Grove<T> {
     pub fn get_mut<L: Ledger>(&mut self, handle: Handle, looks: &mut Steps<L>) -> Option<&mut T>
         ensures* writes_back { sem 𝓛 (LendsIf (the_row T.row) T.row self.entry result (with_value self.old handle) self.old) }
         ensures value { option_copied_mut result ≡ value_of self.old handle }
+        ensures tree { IsTree self.old }
+        ensures written { (value : T) → IsTree (with_value self.old handle value) }
         ensures ticks { looks.new ≤ looks.old + 2 }
     {
         if self.is_live(handle, looks) {
@@ -129,6 +136,7 @@ impl<T: Drop> Grove<T> {
     // Whether a handle is live. Counts one look.
     fn is_live<L: Ledger>(&self, handle: Handle, looks: &mut Steps<L>) -> bool
         ensures value { result ≡ is_some (spot self.now handle) }
+        ensures tree { IsTree self.now }
         ensures ticks { looks.new ≡ looks.old + 1 }
     {
         self.bank.get(handle, looks).is_some()
@@ -139,6 +147,8 @@ impl<T: Drop> Grove<T> {
         requires { IsSome (spot self.old handle) }
         ensures* writes_back { sem 𝓛 (Lends (the_row T.row) T.row self.entry result (with_value self.old handle)) }
         ensures value { value_of self.old handle ≡ Some result.now }
+        ensures tree { IsTree self.old }
+        ensures written { (value : T) → IsTree (with_value self.old handle value) }
         ensures ticks { looks.new ≡ looks.old + 1 }
     {
         let part = self.bank.get_mut(handle, looks).unwrap();
@@ -221,6 +231,9 @@ impl<T: Drop> Grove<T> {
         ensures taken { (result ≡ Err (GrowEnd.Taken, value)) ↔ ((kid : Handle) × IsKid self.old parent name kid) }
         ensures handed_back { IfErr result (λ refused. refused.1 ≡ value) }
         ensures refused { OnErr result (self.new ≡ self.old) }
+        ensures tree { IsTree self.new }
+        ensures fresh { IfOk result (λ kid. map.get self.old.parts kid.birth ≡ None) }
+        ensures gone { (other : Handle) → IsGone self.old other → IsGone self.new other }
         ensures ticks { looks.new ≤ looks.old + 4 }
     {
         match self.look_for(parent, &name, looks) {
@@ -256,6 +269,10 @@ impl<T: Drop> Grove<T> {
         ensures stale { IfNone result (self.new ≡ self.old) }
         ensures dropped { OnSome result (DropsSubtree self.old self.new handle) }
         ensures count { IfSome result (λ count. map.len self.new.parts + count ≡ map.len self.old.parts) }
+        ensures tree { IsTree self.new }
+        ensures gone { OnSome result ((other : Handle) → IsAbove (parent_of self.old) handle.birth other.birth → IsGone self.new other) }
+        ensures stay_gone { (other : Handle) → IsGone self.old other → IsGone self.new other }
+        ensures emptied { handle.birth ≡ 0 → OnSome result (self.new.parts ≡ map.empty) }
         ensures ticks { looks.new ≤ looks.old + 4 * unwrap_or result 0 + 2 }
     {
         let parent = match self.bank.get(handle, looks) {

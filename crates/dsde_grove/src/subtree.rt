@@ -3,7 +3,7 @@ ghost use Rattle.std.specs.Prelude.{◌≡◌, ◌+◌, ◌≤◌, ◌∷◌, []
 ghost use Rattle.std.specs.FinMap as map;
 ghost use Rattle.dsde_bank.specs.Bank.{found};
 ghost use Rattle.dsde_bank.specs.declared.handle.Handle.{Handle};
-ghost use Rattle.dsde_grove.specs.Inside.{IsTree, TakesAll};
+ghost use Rattle.dsde_grove.specs.Inside.{IsLinked, TakesAll};
 
 use crate::part::{Kid, Part};
 use dsde_bank::{Bank, Batch, Handle};
@@ -18,7 +18,7 @@ pub fn take_all<T: Drop, L: Ledger>(
     top: Handle,
     looks: &mut Steps<L>,
 )
-    requires tree { IsTree bank.old.held bank.old.next_birth }
+    requires tree { IsLinked bank.old.held bank.old.next_birth }
     requires live { IsSome (found bank.old top) }
     requires idle { work.old.items ≡ [] }
     requires room { map.len bank.old.held ≤ work.old.spare }

@@ -1,11 +1,14 @@
 -- What stays in order as pairs are dropped.
-use Rattle.std.proofs.Common.{◌≡◌, ℕ, zero, suc, ◌<◌, ◌≤◌, Bool, true, false, cond, List, [], ◌∷◌, length, get_or, sym, ◌∙◌, arith}
-use Rattle.std.specs.List.{dedup, dedup_from, items_where_true}
+use Rattle.std.proofs.Common.{◌≡◌, ◌≢◌, ℕ, zero, suc, ◌<◌, ◌≤◌, Bool, true, false, cond, List, [], ◌∷◌, length, get_or, refl, sym, ap, subst, ◌∙◌, arith}
+use Rattle.std.specs.List.{AllPairs, dedup, dedup_from, items_where_true}
 use Rattle.std.specs.List.Sorted.{IsSortedBy, IsPermutation}
+use Rattle.std.proofs.lemmas.Bool.{true≢false}
+use Rattle.std.proofs.lemmas.Bool.Decides.{nat_tests}
+use Rattle.std.proofs.lemmas.List.Kept.{AllPairs-cons}
 use Rattle.std.proofs.lemmas.List.Sorted.{sorted_far}
 use Rattle.dsde_queue.specs.Queue.{comes_before, in_order, NoneBefore, IsOrdered, is_same}
 use Rattle.dsde_queue.specs.Heap.{IsHeap}
-use Rattle.dsde_queue.proofs.Order.{Pair, weak}
+use Rattle.dsde_queue.proofs.Order.{Pair, weak, never, same_pair}
 use Rattle.dsde_queue.proofs.Sorting.{none_by_index, in_order-permutation, in_order-ordered}
 
 -- what a sort ensures
@@ -72,3 +75,52 @@ ordered_dedup (x ∷ xs) up = ordered_dedup_from x xs up
 -- the pairs of a queue, sorted
 pub in_order-sorted : (xs ys : List Pair) → IsPermutation xs ys → IsOrdered ys → in_order xs ≡ ys
 in_order-sorted xs ys moved up = sym (in_order-permutation xs ys moved) ∙ in_order-ordered ys up
+
+-- a pair comes before each of the list
+abbrev BeforeAll : Pair → List Pair → Type 0
+BeforeAll x [] = Unit {0}
+BeforeAll x (y ∷ ys) = (comes_before x y ≡ true) × BeforeAll x ys
+
+-- each pair comes before the later ones
+abbrev IsStrict : List Pair → Type 0
+IsStrict [] = Unit {0}
+IsStrict (x ∷ xs) = BeforeAll x xs × IsStrict xs
+
+-- what comes before a pair comes before each that does not come before that one
+before_later : (x y z : Pair) → comes_before x y ≡ true → comes_before z y ≡ false → (b : Bool) → comes_before x z ≡ b → comes_before x z ≡ true
+before_later x y z first later true is = is
+before_later x y z first later false is = absurd (true≢false (sym first ∙ weak.chain x z y is later))
+
+before_all : (x y : Pair) (l : List Pair) → comes_before x y ≡ true → NoneBefore y l → BeforeAll x l
+before_all x y [] first none = tt
+before_all x y (z ∷ zs) first none = (before_later x y z first none.0 _ refl, before_all x y zs first none.1)
+
+is_same-itself : (x y : Pair) → y ≡ x → is_same y x ≡ true
+is_same-itself x y same = subst (λ (z : Pair). is_same z x ≡ true) (sym same) (grind (arith, nat_tests))
+
+-- of two pairs in order that are not the same, the first comes before the second
+before_other : (x y : Pair) → comes_before y x ≡ false → is_same y x ≡ false → (b : Bool) → comes_before x y ≡ b → comes_before x y ≡ true
+before_other x y up other true is = is
+before_other x y up other false is = absurd (true≢false (sym (is_same-itself x y (same_pair y x up is)) ∙ other))
+
+strict_dedup_from : (x : Pair) (l : List Pair) → IsOrdered (x ∷ l) → IsStrict (dedup_from is_same x l)
+strict_dedup_from x [] up = (tt, tt)
+strict_dedup_from x (q ∷ qs) up = by (strict_dedup_from x qs (up.0.1, up.1.1)) (strict_dedup_from q qs up.1) _ refl
+  where
+    by : IsStrict (dedup_from is_same x qs) → IsStrict (dedup_from is_same q qs) → (b : Bool) → is_same q x ≡ b → IsStrict (cond b (dedup_from is_same x qs) (x ∷ dedup_from is_same q qs))
+    by same other true is = same
+    by same other false is = (before_all x q (dedup_from is_same q qs) (before_other x q up.0.0 is _ refl) (none_dedup q q qs (never q _ refl, up.1.0)), other)
+
+pub strict_dedup : (l : List Pair) → IsOrdered l → IsStrict (dedup is_same l)
+strict_dedup [] up = tt
+strict_dedup (x ∷ xs) up = strict_dedup_from x xs up
+
+other_at : (x : Pair) (l : List Pair) → BeforeAll x l → (k : ℕ) (d : Pair) → k < length l → x ≢ get_or l k d
+other_at x [] first k d within = absurd (omega arith)
+other_at x (y ∷ ys) first zero d within = λ same. true≢false (sym first.0 ∙ ap (comes_before x) (sym same) ∙ never x _ refl)
+other_at x (y ∷ ys) first (suc k) d within = other_at x ys first.1 k d (omega arith)
+
+-- no pair stands twice where each comes before the later ones
+pub strict_once : (l : List Pair) → IsStrict l → AllPairs (λ (x y : Pair). x ≢ y) l
+strict_once [] strict = λ i j d less within. absurd (omega arith)
+strict_once (x ∷ xs) strict = AllPairs-cons (λ (a b : Pair). a ≢ b) x xs (other_at x xs strict.0) (strict_once xs strict.1)

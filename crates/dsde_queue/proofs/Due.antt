@@ -1,7 +1,8 @@
 -- The pairs of the least time are taken one after another.
-use Rattle.std.proofs.Common.{◌≡◌, ◌≢◌, ℕ, ◌+◌, ◌<◌, ◌≤◌, true, false, not, eqb, cond, List, [], ◌∷◌, ◌++◌, length, filter, Some, ◌⊎◌, inl, inr, subst, refl, sym, ap, ◌∙◌, arith}
+use Rattle.std.proofs.Common.{◌≡◌, ◌≢◌, ℕ, zero, suc, ◌+◌, ◌<◌, ◌≤◌, true, false, not, eqb, cond, List, [], ◌∷◌, ◌++◌, length, filter, All, Some, ◌⊎◌, inl, inr, subst, refl, sym, ap, ◌∙◌, arith}
 use Rattle.std.proofs.lemmas.Bool.{eq-eqb}
 use Rattle.std.proofs.lemmas.Bool.Decides.{nat_tests, eqb_tells}
+use Rattle.std.proofs.lemmas.List.Filters.{length-filter_both}
 use Rattle.dsde_bank.specs.Batch.{Batch}
 use Rattle.dsde_bank.specs.declared.handle.Handle.{Handle}
 use Rattle.dsde_queue.specs.Queue.{Queue, comes_before, NoneBefore, IsOrdered, first_of, due_of, later_than_due, handles, IsNotFirst}
@@ -79,3 +80,20 @@ one_due t h l rest is =
     let test : eqb t t ≡ true = eq-eqb t t refl in
     let long = ap (λ m. length (at_time t m)) is ∙ ap (λ b. length (cond b ((t, h) ∷ at_time t rest) (at_time t rest))) test in
     omega (arith, long)
+
+-- where the first pair is of another time, and none is earlier, all are later
+all_at_later : (t u : ℕ) (l : List Pair) → t < u → NoneEarlier u l → All (λ (p : Pair). t < p.0) l
+all_at_later t u [] later none k d within = absurd (omega arith)
+all_at_later t u (q ∷ qs) later none zero d within = omega (arith, none.0)
+all_at_later t u (q ∷ qs) later none (suc k) d within = all_at_later t u qs later none.1 k d (omega arith)
+
+pub left_later : (t : ℕ) (l : List Pair) → IsOrdered l → NoneEarlier t l → IsNotFirst t l → All (λ (p : Pair). t < p.0) l
+left_later t [] up none other = λ k d within. absurd (omega arith)
+left_later t (p ∷ ps) up none other = all_at_later t p.0 (p ∷ ps) (let apart : p.0 ≢ t = other in omega (arith, none.0)) (omega arith, none_earlier p ps up.0)
+
+-- no more pairs are due than there are
+pub few_due : (l : List Pair) → length (due_of l) ≤ length l
+few_due [] = omega arith
+few_due (p ∷ ps) =
+    let both = length-filter_both (λ q. eqb q.0 p.0) (λ q. not (eqb q.0 p.0)) (λ q. refl) (p ∷ ps) in
+    omega (arith, both)

@@ -1,4 +1,4 @@
-ghost use Rattle.std.specs.Prelude.{◌≡◌, ◌+◌, ◌<◌, ◌≤◌, [], ◌∷◌, ◌++◌, length, map, filter, IsNone, MatchOption, OnOk, ◌↔◌};
+ghost use Rattle.std.specs.Prelude.{◌≡◌, ◌≢◌, ◌+◌, ◌<◌, ◌≤◌, [], ◌∷◌, ◌++◌, length, map, filter, All, AllPairs, IfSome, IsNone, MatchOption, OnOk, ◌↔◌};
 ghost use Rattle.std.specs.Option.{option_map};
 ghost use Rattle.std.specs.List.{dedup};
 ghost use Rattle.dsde_queue.specs.Queue.{put, IsOrdered, first_of, due_of, later_than_due, handles, time_of, TakesFirst, IsNotFirst, is_same, Admits};
@@ -44,7 +44,9 @@ impl Queue {
 
     /// How many pairs there are.
     pub fn len(&self) -> usize
-        ensures { result ≡ length self.now.pairs }
+        ensures count { result ≡ length self.now.pairs }
+        ensures due { length (due_of self.now.pairs) ≤ result }
+        ensures ordered { IsOrdered self.now.pairs }
     {
         self.pairs.len()
     }
@@ -63,6 +65,7 @@ impl Queue {
     pub fn put_reserved(&mut self, time: u64, handle: Handle)
         requires room { 0 < self.old.spare }
         ensures pairs { self.new.pairs ≡ put (time, handle) self.old.pairs }
+        ensures ordered { IsOrdered self.new.pairs }
         ensures spare { self.new.spare + 1 ≡ self.old.spare }
     {
         let at = self.pairs.len();
@@ -80,7 +83,9 @@ impl Queue {
 
     /// Takes out the first pair; `None` exactly where the queue is empty.
     pub fn take_first(&mut self) -> Option<(u64, Handle)>
-        ensures { MatchOption result ((self.old.pairs ≡ []) × (self.new ≡ self.old)) (TakesFirst self.old self.new) }
+        ensures taken { MatchOption result ((self.old.pairs ≡ []) × (self.new ≡ self.old)) (TakesFirst self.old self.new) }
+        ensures ordered { IsOrdered self.old.pairs }
+        ensures left { IsOrdered self.new.pairs }
     {
         if self.pairs.is_empty() {
             return None;
@@ -96,6 +101,9 @@ impl Queue {
         requires room { length (due_of self.old.pairs) ≤ due.old.spare }
         ensures time { result ≡ option_map time_of (first_of self.old.pairs) }
         ensures taken { self.new.pairs ≡ later_than_due self.old.pairs }
+        ensures ordered { IsOrdered self.old.pairs }
+        ensures left { IsOrdered self.new.pairs }
+        ensures later { IfSome result (λ time. All (λ pair. time < pair.0) self.new.pairs) }
         ensures room { self.new.spare ≡ self.old.spare + length (due_of self.old.pairs) }
         ensures due { due.new.items ≡ due.old.items ++ handles (due_of self.old.pairs) }
         ensures due_room { due.new.spare + length (due_of self.old.pairs) ≡ due.old.spare }
@@ -111,6 +119,8 @@ impl Queue {
     pub fn compact<F: Fn(u64, Handle) -> bool>(&mut self, keep: &F)
         requires { F.IsAlwaysCallable keep.now }
         ensures kept { (test : _) → Admits (F.post keep.now) test → self.new.pairs ≡ dedup is_same (filter test self.old.pairs) }
+        ensures ordered { IsOrdered self.new.pairs }
+        ensures once { AllPairs (λ pair other. pair ≢ other) self.new.pairs }
         ensures room { self.new.spare + length self.new.pairs ≡ self.old.spare + length self.old.pairs }
     {
         self.pairs.sort_unstable();

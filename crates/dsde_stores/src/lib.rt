@@ -1,4 +1,4 @@
-//! Tests of what is kept, and of the objects in memory and over files and streams.
+//! Tests of what is kept: counts, banks, schedules, trees.
 #![tactic(auto)]
 
 #[cfg(test)]

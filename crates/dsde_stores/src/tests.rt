@@ -1,16 +1,11 @@
-//! What no clause says: that each call succeeds with ample memory, what real files and streams do, and examples from outside.
+//! What no clause says: that each call succeeds with ample memory, and examples from outside.
 //!
 //! A long contract that a test has no use for stays behind a helper that promises nothing, so that it burdens no later goal.
 
 mod banks;
 mod counts;
-mod files;
 mod groves;
 mod queues;
-mod shelves;
-mod sinks;
-mod sources;
-mod streams;
 
 use dsde_values::{Memory, Text};
 use std::alloc::Global;

@@ -154,3 +154,92 @@ fn a_batch_keeps_its_order(rt: HostRuntime) -> Result<(), Fail> {
     }
     Ok(())
 }
+
+/// Puts that many values in.
+fn insert_all<L: Ledger>(
+    given: &mut Given,
+    count: u16,
+    looks: &mut Steps<L>,
+) -> Result<(), Memory> {
+    for number in 0..count {
+        insert(given, (number % 100) as u8, looks)?;
+    }
+    Ok(())
+}
+
+/// Takes out each value whose birth is a multiple of 3, and answers their number.
+fn take_thirds<L: Ledger>(given: &mut Given, looks: &mut Steps<L>) -> u64 {
+    let mut taken = 0u64;
+    for handle in &given.handles {
+        if handle.birth % 3 == 0 && given.bank.take(*handle, looks).is_some() {
+            taken = taken.saturating_add(1);
+        }
+    }
+    taken
+}
+
+/// How many handles still find a value.
+fn found<L: Ledger>(given: &Given, looks: &mut Steps<L>) -> u64 {
+    let mut found = 0u64;
+    for handle in &given.handles {
+        if given.bank.get(*handle, looks).is_some() {
+            found = found.saturating_add(1);
+        }
+    }
+    found
+}
+
+/// How many of some thousand values are taken out, are found at last, are held, and were put in.
+fn thinned<L: Ledger>(alloc: Global, blank: Blank) -> Result<[u64; 4], Memory>
+    requires name { blank.name ≡ L.name }
+    requires parts { blank.parts ≡ L.parts }
+    requires backed { 0 < blank.parts }
+{
+    let mut looks = Steps::<L>::new(blank);
+    let mut given = Given {
+        bank: Bank::new(alloc),
+        handles: Vec::new(alloc),
+    };
+    insert_all(&mut given, 4000, &mut looks)?;
+    let taken = take_thirds(&mut given, &mut looks);
+    insert_all(&mut given, 2000, &mut looks)?;
+    let found = found(&given, &mut looks);
+    Ok([taken, found, given.bank.len() as u64, given.bank.born()])
+}
+
+#[test]
+fn a_bank_of_thousands_keeps_what_it_should(rt: HostRuntime) -> Result<(), Fail> {
+    let told = thinned::<Brand>(rt.alloc(), Blank::new(1))?;
+    assert_eq!(rt; told, [1334, 4666, 4666, 6000]);
+    Ok(())
+}
+
+/// A batch of that many items, for which room is made at once.
+fn filled(alloc: Global, count: usize) -> Result<Batch<u8>, Memory> {
+    let mut batch = Batch::new(alloc);
+    batch.reserve(count)?;
+    for number in 0..count {
+        batch.reserve(1)?;
+        batch.push_reserved((number % 100) as u8);
+    }
+    Ok(batch)
+}
+
+/// How many items can be taken out, and how many are left then.
+fn popped(batch: &mut Batch<u8>, tries: usize) -> (usize, usize) {
+    let mut taken = 0usize;
+    for _ in 0..tries {
+        if batch.pop().is_some() {
+            taken = taken.saturating_add(1);
+        }
+    }
+    (taken, batch.as_slice().len())
+}
+
+#[test]
+fn a_batch_of_thousands_gives_all_back(rt: HostRuntime) -> Result<(), Fail> {
+    let mut batch = filled(rt.alloc(), 5000)?;
+    assert_eq!(rt; popped(&mut batch, 2000), (2000, 3000));
+    assert_eq!(rt; popped(&mut batch, 4000), (3000, 0));
+    Ok(())
+}

@@ -24,49 +24,6 @@ enum Call<'a> {
     Drop(usize),
 }
 
-/// Two parts, one below the other, are dropped, and then one more.
-const ROUND: [(Call<'static>, &str); 29] = [
-    (Call::Grow(0, "a", b'1'), "grown"),
-    (Call::Grow(1, "b", b'2'), "grown"),
-    (Call::Get(1), "1"),
-    (Call::Get(2), "2"),
-    (Call::Path(2), "root/a/b"),
-    (Call::Child(1, "b"), "2"),
-    (Call::Grow(0, "a", b'3'), "taken 3"),
-    (Call::Drop(1), "dropped 2, left 1"),
-    (Call::Get(1), ""),
-    (Call::Get(2), ""),
-    (Call::Change(2, b'5'), ""),
-    (Call::Path(2), ""),
-    (Call::Child(1, "b"), ""),
-    (Call::Child(0, "a"), ""),
-    (Call::Drop(1), ""),
-    (Call::Grow(2, "c", b'5'), "stale 5"),
-    (Call::Grow(0, "a", b'4'), "grown"),
-    (Call::Path(3), "root/a"),
-    (Call::Child(0, "a"), "3"),
-    (Call::Child(0, "b"), ""),
-    (Call::Change(3, b'6'), "4"),
-    (Call::Get(3), "6"),
-    (Call::Get(1), ""),
-    (Call::Get(2), ""),
-    (Call::Change(1, b'5'), ""),
-    (Call::Path(1), ""),
-    (Call::Drop(1), ""),
-    (Call::Grow(1, "c", b'5'), "stale 5"),
-    (Call::Drop(3), "dropped 1, left 1"),
-];
-
-/// The root is dropped with a part below it.
-const END: [(Call<'static>, &str); 6] = [
-    (Call::Grow(0, "a", b'1'), "grown"),
-    (Call::Drop(0), "dropped 2, left 0"),
-    (Call::Get(0), ""),
-    (Call::Get(1), ""),
-    (Call::Drop(0), ""),
-    (Call::Grow(0, "a", b'1'), "stale 1"),
-];
-
 /// A tree, and the handles of its parts in the order of growth.
 #[derive(Drop)]
 struct Given {
@@ -256,7 +213,7 @@ fn planted(alloc: Global) -> Result<Given, Memory> {
     Ok(Given { grove, handles })
 }
 
-/// Grows and drops over and over, and answers how many parts were born.
+/// Drops two parts, one below the other, and then one more, over and over. Answers how many parts were born.
 fn play_rounds<L: Ledger>(
     rt: &impl Abort,
     alloc: Global,
@@ -264,7 +221,38 @@ fn play_rounds<L: Ledger>(
     looks: &mut Steps<L>,
 ) -> Result<u64, Fail> {
     for _ in 0..1000 {
-        play(rt, alloc, given, &ROUND, looks)?;
+        let round = [
+            (Call::Grow(0, "a", b'1'), "grown"),
+            (Call::Grow(1, "b", b'2'), "grown"),
+            (Call::Get(1), "1"),
+            (Call::Get(2), "2"),
+            (Call::Path(2), "root/a/b"),
+            (Call::Child(1, "b"), "2"),
+            (Call::Grow(0, "a", b'3'), "taken 3"),
+            (Call::Drop(1), "dropped 2, left 1"),
+            (Call::Get(1), ""),
+            (Call::Get(2), ""),
+            (Call::Change(2, b'5'), ""),
+            (Call::Path(2), ""),
+            (Call::Child(1, "b"), ""),
+            (Call::Child(0, "a"), ""),
+            (Call::Drop(1), ""),
+            (Call::Grow(2, "c", b'5'), "stale 5"),
+            (Call::Grow(0, "a", b'4'), "grown"),
+            (Call::Path(3), "root/a"),
+            (Call::Child(0, "a"), "3"),
+            (Call::Child(0, "b"), ""),
+            (Call::Change(3, b'6'), "4"),
+            (Call::Get(3), "6"),
+            (Call::Get(1), ""),
+            (Call::Get(2), ""),
+            (Call::Change(1, b'5'), ""),
+            (Call::Path(1), ""),
+            (Call::Drop(1), ""),
+            (Call::Grow(1, "c", b'5'), "stale 5"),
+            (Call::Drop(3), "dropped 1, left 1"),
+        ];
+        play(rt, alloc, given, &round, looks)?;
     }
     Ok(given.grove.born())
 }
@@ -278,10 +266,134 @@ fn ends_with_its_root<L: Ledger>(rt: &impl Abort, alloc: Global, blank: Blank) -
     let mut looks = Steps::<L>::new(blank);
     let mut given = planted(alloc)?;
     assert_eq!(rt; play_rounds(rt, alloc, &mut given, &mut looks)?, 3001);
-    play(rt, alloc, &mut given, &END, &mut looks)
+    let end = [
+        (Call::Grow(0, "a", b'1'), "grown"),
+        (Call::Drop(0), "dropped 2, left 0"),
+        (Call::Get(0), ""),
+        (Call::Get(1), ""),
+        (Call::Drop(0), ""),
+        (Call::Grow(0, "a", b'1'), "stale 1"),
+    ];
+    play(rt, alloc, &mut given, &end, &mut looks)
 }
 
 #[test]
 fn a_dropped_part_stays_dropped(rt: HostRuntime) -> Result<(), Fail> {
     ends_with_its_root::<Brand>(&rt, rt.alloc(), Blank::new(1))
+}
+
+/// The name of the part of that number below its parent.
+fn indexed(alloc: Global, index: u64) -> Result<Name, Memory> {
+    Ok(Name {
+        stem: text(alloc, b"m")?,
+        index: Some(index),
+    })
+}
+
+/// Grows a part of that number.
+fn grow_indexed<L: Ledger>(
+    alloc: Global,
+    given: &mut Given,
+    parent: Handle,
+    index: u64,
+    looks: &mut Steps<L>,
+) -> Result<(), Memory> {
+    match grow(
+        &mut given.grove,
+        parent,
+        indexed(alloc, index)?,
+        b'v',
+        looks,
+    ) {
+        Ok(handle) => Ok(given.handles.push(handle)?),
+        Err(_) => Err(Memory),
+    }
+}
+
+/// Grows four parts below each part from that number on.
+fn grow_level<L: Ledger>(
+    alloc: Global,
+    given: &mut Given,
+    first: usize,
+    looks: &mut Steps<L>,
+) -> Result<(), Memory> {
+    for number in first..given.handles.len() {
+        let parent = handle_of(given, number);
+        for index in 0..4 {
+            grow_indexed(alloc, given, parent, index, looks)?;
+        }
+    }
+    Ok(())
+}
+
+/// A tree of five levels, in which each part above the last has four below it.
+fn grown<L: Ledger>(alloc: Global, looks: &mut Steps<L>) -> Result<Given, Memory> {
+    let mut given = planted(alloc)?;
+    for first in [0, 1, 5, 21] {
+        grow_level(alloc, &mut given, first, looks)?;
+    }
+    Ok(given)
+}
+
+/// How many handles find a path, and how many names these have.
+fn walked<L: Ledger>(given: &Given, looks: &mut Steps<L>) -> Result<(u64, u64), Memory> {
+    let mut found = 0u64;
+    let mut names = 0u64;
+    for handle in &given.handles {
+        if let Some(path) = given.grove.path_of(*handle, looks)? {
+            found = found.saturating_add(1);
+            names = names.saturating_add(path.names.len() as u64);
+        }
+    }
+    Ok((found, names))
+}
+
+/// How many parts a drop takes out, and how many are left.
+fn dropped<L: Ledger>(
+    given: &mut Given,
+    number: usize,
+    looks: &mut Steps<L>,
+) -> (Option<u64>, u64) {
+    let handle = handle_of(given, number);
+    let count = given.grove.drop_subtree(handle, looks);
+    (count, given.grove.live())
+}
+
+/// The path of the last part of a large tree, and what walks and drops tell of it.
+fn told<L: Ledger>(
+    alloc: Global,
+    given: &mut Given,
+    looks: &mut Steps<L>,
+) -> Result<([(u64, u64); 3], [(Option<u64>, u64); 3]), Memory> {
+    let whole = walked(given, looks)?;
+    let middle = dropped(given, 1, looks);
+    let rest = walked(given, looks)?;
+    let again = dropped(given, 1, looks);
+    let root = handle_of(given, 0);
+    grow_indexed(alloc, given, root, 0, looks)?;
+    let more = walked(given, looks)?;
+    let all = dropped(given, 0, looks);
+    Ok(([whole, rest, more], [middle, again, all]))
+}
+
+/// A tree of hundreds is grown, walked, and dropped from its middle and from its root.
+fn hundreds_are_dropped<L: Ledger>(rt: &impl Abort, alloc: Global, blank: Blank) -> Result<(), Fail>
+    requires name { blank.name ≡ L.name }
+    requires parts { blank.parts ≡ L.parts }
+    requires backed { 0 < blank.parts }
+{
+    let mut looks = Steps::<L>::new(blank);
+    let mut given = grown(alloc, &mut looks)?;
+    let last = handle_of(&given, 340);
+    let path = path_text(alloc, &given.grove, last, &mut looks)?;
+    assert_eq!(rt; path.as_slice(), b"root/m[3]/m[3]/m[3]/m[3]".as_slice());
+    let (walks, drops) = told(alloc, &mut given, &mut looks)?;
+    assert_eq!(rt; walks, [(341, 1593), (256, 1195), (257, 1197)]);
+    assert_eq!(rt; drops, [(Some(85), 256), (None, 256), (Some(257), 0)]);
+    Ok(())
+}
+
+#[test]
+fn a_tree_of_hundreds_is_walked_and_dropped(rt: HostRuntime) -> Result<(), Fail> {
+    hundreds_are_dropped::<Brand>(&rt, rt.alloc(), Blank::new(1))
 }

@@ -130,3 +130,73 @@ fn a_queue_is_a_sorted_list(rt: HostRuntime) -> Result<(), Fail> {
     }
     Ok(())
 }
+
+/// Some thousand pairs, of which many have one time.
+fn many_pairs(alloc: Global) -> Result<Vec<Pair>, Memory> {
+    let mut pairs = Vec::new(alloc);
+    let mut seed = 1u64;
+    for birth in 0..2000u64 {
+        seed = next_random(seed);
+        let slot = (seed >> 50) as usize;
+        pairs.push(((seed >> 40) % 300, Handle { birth, slot }))?;
+    }
+    Ok(pairs)
+}
+
+/// Puts all pairs in.
+fn put_all(queue: &mut Queue, pairs: &[Pair]) -> Result<(), Memory> {
+    for pair in pairs {
+        put(queue, *pair)?;
+    }
+    Ok(())
+}
+
+/// Takes that many pairs one by one.
+fn take_some(queue: &mut Queue, count: usize, taken: &mut Vec<Pair>) -> Result<(), Memory> {
+    for _ in 0..count {
+        if let Some(pair) = take_first(queue) {
+            taken.push(pair)?;
+        }
+    }
+    Ok(())
+}
+
+/// Takes the pairs of the least time.
+fn take_time(
+    queue: &mut Queue,
+    due: &mut Batch<Handle>,
+    taken: &mut Vec<Pair>,
+) -> Result<(), Memory> {
+    due.clear();
+    if let Some(time) = take_least(queue, due)? {
+        for handle in due.as_slice() {
+            taken.push((time, *handle))?;
+        }
+    }
+    Ok(())
+}
+
+/// What a queue gives that had these pairs twice and keeps those whose births are odd: the first hundred one by one, and then time by time.
+fn drained(alloc: Global, pairs: &[Pair]) -> Result<Vec<Pair>, Memory> {
+    let mut queue = queue_of(alloc, pairs)?;
+    put_all(&mut queue, pairs)?;
+    queue.compact(&|_time: u64, handle: Handle| handle.birth % 2 == 1);
+    let mut taken = Vec::new(alloc);
+    take_some(&mut queue, 100, &mut taken)?;
+    let mut due = Batch::new(alloc);
+    for _ in 0..queue.len() {
+        take_time(&mut queue, &mut due, &mut taken)?;
+    }
+    Ok(taken)
+}
+
+#[test]
+fn a_queue_of_thousands_is_a_sorted_list(rt: HostRuntime) -> Result<(), Fail> {
+    let mut pairs = many_pairs(rt.alloc())?;
+    let taken = drained(rt.alloc(), pairs.as_slice())?;
+    pairs.retain(|pair| pair.1.birth % 2 == 1);
+    pairs.sort_unstable();
+    assert_eq!(rt; taken.len(), 1000);
+    assert_eq!(rt; taken.as_slice(), pairs.as_slice());
+    Ok(())
+}

@@ -1,9 +1,12 @@
 use Rattle.std.proofs.Common.{is_some, sym, ap, subst, ◌∙◌, refl, arith}
 use Rattle.std.specs.FinMap as map
-use Rattle.dsde_grove.specs.Grove.{spot, DropsSubtree}
-use Rattle.dsde_grove.specs.Inside.{grove_of}
-use Rattle.dsde_grove.proofs.Parts.{get-found, live-found, none_of, len-parts_of}
+use Rattle.dsde_grove.specs.Grove.{spot, IsTree, DropsSubtree}
+use Rattle.std.specs.Option.{option_map}
+use Rattle.dsde_grove.specs.Inside.{grove_of, spot_in}
+use Rattle.dsde_grove.proofs.Parts.{get-found, spot-found, live-found, none_of, len-parts_of}
 use Rattle.dsde_grove.proofs.Pruned.{pruned-any, len-unlinked, next-unlinked, parent_stays, tree-pruned, drops-pruned}
+use Rattle.dsde_grove.proofs.ShownTrees.{tree-shown}
+use Rattle.dsde_grove.proofs.Shown.{emptied, gone_under, gone_before}
 use Rattle.dsde_grove.proofs.grove.Grove.drop_subtree.Goals as goal
 
 pub returns-in-None-clause-none : goal.returns-in-None-clause-none
@@ -45,10 +48,41 @@ returns-clause-dropped g c =
     let live = get-found bank c.args.handle part (sym c.in-Some.ensures.value) in
     let pruned = pruned-any bank c.take_all.new.bank c.unlink.new.bank bank.next_birth c.self.invariant.tree c.args.handle part live c.take_all.ensures.taken c.unlink.ensures.unlinked in
     let next = next-unlinked c.take_all.new.bank c.unlink.new.bank c.args.handle part.parent c.unlink.ensures.unlinked ∙ c.take_all.ensures.taken.next in
-    subst (λ v. DropsSubtree v (grove_of c.unlink.new.bank) c.args.handle) c.self.view_is (drops-pruned bank c.unlink.new.bank bank.next_birth c.args.handle c.self.invariant.tree pruned next)
+    subst (λ v. DropsSubtree v (grove_of c.unlink.new.bank) c.args.handle) c.self.view_is (drops-pruned bank c.unlink.new.bank bank.next_birth c.args.handle (spot_in bank.held c.args.handle.birth (c.args.handle.slot, part)) c.self.invariant.tree (tree-shown bank c.self.invariant.tree)
+    (spot-found bank c.args.handle ∙ ap (option_map (λ p. spot_in bank.held c.args.handle.birth (c.args.handle.slot, p))) (sym c.in-Some.ensures.value)) pruned next)
 
 pub returns-clause-count : goal.returns-clause-count
 returns-clause-count g c =
     let bank = c.self.inside.bank in
     let shorter = len-unlinked c.take_all.new.bank c.unlink.new.bank c.args.handle c.in-Some.part.now.parent c.unlink.ensures.unlinked in
     omega (arith, shorter, c.take_all.ensures.taken.len, len-parts_of c.unlink.new.bank.held, len-parts_of bank.held, ap (λ v. map.len v.parts) c.self.view_is, c.len.ensures, c.len-before.ensures)
+
+pub returns-in-None-clause-tree : goal.returns-in-None-clause-tree
+returns-in-None-clause-tree g c = subst IsTree c.self.view_is (tree-shown c.self.inside.bank c.self.invariant.tree)
+
+pub returns-clause-tree : goal.returns-clause-tree
+returns-clause-tree g c =
+    let bank = c.self.inside.bank in
+    let part = c.in-Some.part.now in
+    let live = get-found bank c.args.handle part (sym c.in-Some.ensures.value) in
+    let pruned = pruned-any bank c.take_all.new.bank c.unlink.new.bank bank.next_birth c.self.invariant.tree c.args.handle part live c.take_all.ensures.taken c.unlink.ensures.unlinked in
+    let next = next-unlinked c.take_all.new.bank c.unlink.new.bank c.args.handle part.parent c.unlink.ensures.unlinked ∙ c.take_all.ensures.taken.next in
+    tree-shown c.unlink.new.bank (rw next (tree-pruned bank.held c.unlink.new.bank.held bank.next_birth c.args.handle.birth c.self.invariant.tree pruned))
+
+pub returns-clause-gone : goal.returns-clause-gone
+returns-clause-gone g c other above =
+    let tree = subst IsTree c.self.view_is (tree-shown c.self.inside.bank c.self.invariant.tree) in
+    let drops = returns-clause-dropped g c in
+    gone_under c.args.self.now tree _ c.args.handle drops.part drops.live drops.gone drops.kept drops.next other above
+
+pub returns-clause-stay_gone : goal.returns-clause-stay_gone
+returns-clause-stay_gone g c other was =
+    let tree = subst IsTree c.self.view_is (tree-shown c.self.inside.bank c.self.invariant.tree) in
+    let drops = returns-clause-dropped g c in
+    gone_before c.args.self.now tree _ c.args.handle drops.part drops.live drops.gone drops.kept drops.next other was
+
+pub returns-clause-emptied : goal.returns-clause-emptied
+returns-clause-emptied g c root =
+    let tree = subst IsTree c.self.view_is (tree-shown c.self.inside.bank c.self.invariant.tree) in
+    let drops = returns-clause-dropped g c in
+    emptied c.args.self.now tree (grove_of c.unlink.new.bank) c.args.handle drops.part drops.live drops.gone drops.kept root

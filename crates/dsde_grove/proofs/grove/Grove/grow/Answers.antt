@@ -2,12 +2,14 @@ use Rattle.std.proofs.Common.{◌≡◌, ◌≢◌, ◌++◌, ◌∷◌, [], Som
 use Rattle.std.specs.Option.{option_map}
 use Rattle.std.specs.FinMap as map
 use Rattle.dsde_bank.proofs.Births.{get-insert_other}
-use Rattle.dsde_grove.specs.Grove.{spot, IsKid}
-use Rattle.dsde_grove.specs.Inside.{IsTree, ChangesKids, spot_in}
+use Rattle.dsde_grove.specs.Grove.{spot, IsKid, IsTree}
+use Rattle.dsde_grove.specs.Inside.{IsLinked, ChangesKids, spot_in}
 use Rattle.dsde_grove.proofs.Parts.{live-found, found-get, spot-found}
 use Rattle.dsde_grove.proofs.Trees.{tree-similar, similar-changes, path-similar, parts-changes}
 use Rattle.dsde_grove.proofs.Kids.{listing, no_kid, stale_taken, memory_taken}
 use Rattle.dsde_grove.proofs.Grown.{tree-grown, parts-grown, still_free, len-placed}
+use Rattle.dsde_grove.proofs.ShownTrees.{tree-shown}
+use Rattle.dsde_grove.proofs.Shown.{none_next, gone_grown, gone_same}
 use Rattle.dsde_grove.proofs.grove.Grove.grow.Goals as goal
 
 pub returns-in-None-clause-taken : goal.returns-in-None-clause-taken
@@ -38,7 +40,7 @@ invariant_of-self g c =
     let one = c.make_room.new.bank in
     let kept = c.make_room.ensures.kept in
     record {
-      tree = subst (IsTree one.held) (sym kept.next) (tree-similar zero.held one.held zero.next_birth c.self.invariant.tree (similar-changes zero one c.args.parent kept));
+      tree = subst (IsLinked one.held) (sym kept.next) (tree-similar zero.held one.held zero.next_birth c.self.invariant.tree (similar-changes zero one c.args.parent kept));
       idle = c.make_room.ensures.work_kept ∙ c.self.invariant.idle;
       room = omega (arith, kept.len, c.make_room.ensures.work_not_less, c.self.invariant.room);
     }
@@ -70,14 +72,14 @@ invariant_of-self-2 g c =
     let put = c.insert_reserved-handle.ensures in
     let kept = c.make_room.ensures.kept in
     let next : handle.birth ≡ zero.next_birth = put.birth ∙ kept.next in
-    let tree : IsTree one.held handle.birth = subst (IsTree one.held) (sym next) (tree-similar zero.held one.held zero.next_birth c.self.invariant.tree (similar-changes zero one c.args.parent kept)) in
+    let tree : IsLinked one.held handle.birth = subst (IsLinked one.held) (sym next) (tree-similar zero.held one.held zero.next_birth c.self.invariant.tree (similar-changes zero one c.args.parent kept)) in
     let apart : c.args.parent.birth ≢ handle.birth = omega (arith, c.self.invariant.tree.given c.args.parent.birth _ kept.was, next) in
     let linked : ChangesKids two three c.args.parent (λ kids. kids ++ listing c.args.name handle ∷ []) = subst (λ n. ChangesKids two three c.args.parent (λ kids. kids ++ listing n handle ∷ [])) c.in-Ok.ensures c.link.ensures.linked in
     let free = still_free zero one two three zero.next_birth handle.birth handle.slot c.args.parent c.args.name _ (λ kids. kids ++ listing c.args.name handle ∷ []) c.self.invariant.tree kept put.held apart linked
     (λ kid is. no_kid (c.in-Some-None.field-0) kid c.in-Some-None.field-0-is ((c.in-Some-None.ensures.child kid).1 (subst (λ v. IsKid v c.args.parent c.args.name kid) c.self.view_is is))) in
     let longer = len-placed one two handle.birth handle.birth _ tree put.held in
     record {
-      tree = subst (IsTree three.held) (omega (arith, linked.next, put.next, put.birth)) (tree-grown one.held handle.birth handle.slot c.args.parent _ two three tree put.held linked refl c.new.ensures.items apart free);
+      tree = subst (IsLinked three.held) (omega (arith, linked.next, put.next, put.birth)) (tree-grown one.held handle.birth handle.slot c.args.parent _ two three tree put.held linked refl c.new.ensures.items apart free);
       idle = c.make_room.ensures.work_kept ∙ c.self.invariant.idle;
       room = omega (arith, linked.len, longer, kept.len, c.in-Ok-make_room.ensures.work_room);
     }
@@ -92,7 +94,7 @@ returns-clause-grown g c =
     let put = c.insert_reserved-handle.ensures in
     let kept = c.make_room.ensures.kept in
     let next : handle.birth ≡ zero.next_birth = put.birth ∙ kept.next in
-    let tree : IsTree one.held handle.birth = subst (IsTree one.held) (sym next) (tree-similar zero.held one.held zero.next_birth c.self.invariant.tree (similar-changes zero one c.args.parent kept)) in
+    let tree : IsLinked one.held handle.birth = subst (IsLinked one.held) (sym next) (tree-similar zero.held one.held zero.next_birth c.self.invariant.tree (similar-changes zero one c.args.parent kept)) in
     let apart : c.args.parent.birth ≢ handle.birth = omega (arith, c.self.invariant.tree.given c.args.parent.birth _ kept.was, next) in
     let linked : ChangesKids two three c.args.parent (λ kids. kids ++ listing c.args.name handle ∷ []) = subst (λ n. ChangesKids two three c.args.parent (λ kids. kids ++ listing n handle ∷ [])) c.in-Ok.ensures c.link.ensures.linked in
     let free = still_free zero one two three zero.next_birth handle.birth handle.slot c.args.parent c.args.name _ (λ kids. kids ++ listing c.args.name handle ∷ []) c.self.invariant.tree kept put.held apart linked
@@ -111,3 +113,47 @@ returns-clause-grown g c =
       });
       next = omega (arith, linked.next, put.next, kept.next, ap (λ v. v.next_birth) c.self.view_is);
     }
+
+pub returns-in-None-clause-tree : goal.returns-in-None-clause-tree
+returns-in-None-clause-tree g c = subst IsTree c.self.view_is (tree-shown c.self.inside.bank c.self.invariant.tree)
+
+pub returns-in-Some-Some-clause-tree : goal.returns-in-Some-Some-clause-tree
+returns-in-Some-Some-clause-tree g c = subst IsTree c.self.view_is (tree-shown c.self.inside.bank c.self.invariant.tree)
+
+pub returns-in_default-clause-tree : goal.returns-in_default-clause-tree
+returns-in_default-clause-tree g c = subst IsTree c.self.view_is (tree-shown c.self.inside.bank c.self.invariant.tree)
+
+pub returns-in_default-make_room-clause-tree : goal.returns-in_default-make_room-clause-tree
+returns-in_default-make_room-clause-tree g c =
+    let zero = c.self.inside.bank in
+    let one = c.make_room.new.bank in
+    let kept = c.make_room.ensures.kept in
+    tree-shown one (subst (IsLinked one.held) (sym kept.next) (tree-similar zero.held one.held zero.next_birth c.self.invariant.tree (similar-changes zero one c.args.parent kept)))
+
+pub returns-in_default-make_room-clause-gone : goal.returns-in_default-make_room-clause-gone
+returns-in_default-make_room-clause-gone g c other was = gone_same c.args.self.now _ (returns-in_default-make_room-clause-refused g c) other was
+
+pub returns-clause-tree : goal.returns-clause-tree
+returns-clause-tree g c =
+    let zero = c.self.inside.bank in
+    let one = c.make_room.new.bank in
+    let two = c.insert_reserved-handle.new.self in
+    let three = c.link.new.bank in
+    let handle = c.insert_reserved-handle.result in
+    let put = c.insert_reserved-handle.ensures in
+    let kept = c.make_room.ensures.kept in
+    let next : handle.birth ≡ zero.next_birth = put.birth ∙ kept.next in
+    let tree : IsLinked one.held handle.birth = subst (IsLinked one.held) (sym next) (tree-similar zero.held one.held zero.next_birth c.self.invariant.tree (similar-changes zero one c.args.parent kept)) in
+    let apart : c.args.parent.birth ≢ handle.birth = omega (arith, c.self.invariant.tree.given c.args.parent.birth _ kept.was, next) in
+    let linked : ChangesKids two three c.args.parent (λ kids. kids ++ listing c.args.name handle ∷ []) = subst (λ n. ChangesKids two three c.args.parent (λ kids. kids ++ listing n handle ∷ [])) c.in-Ok.ensures c.link.ensures.linked in
+    let free = still_free zero one two three zero.next_birth handle.birth handle.slot c.args.parent c.args.name _ (λ kids. kids ++ listing c.args.name handle ∷ []) c.self.invariant.tree kept put.held apart linked
+    (λ kid is. no_kid (c.in-Some-None.field-0) kid c.in-Some-None.field-0-is ((c.in-Some-None.ensures.child kid).1 (subst (λ v. IsKid v c.args.parent c.args.name kid) c.self.view_is is))) in
+    tree-shown three (subst (IsLinked three.held) (omega (arith, linked.next, put.next, put.birth)) (tree-grown one.held handle.birth handle.slot c.args.parent _ two three tree put.held linked refl c.new.ensures.items apart free))
+
+pub returns-clause-fresh : goal.returns-clause-fresh
+returns-clause-fresh g c =
+    let tree = subst IsTree c.self.view_is (tree-shown c.self.inside.bank c.self.invariant.tree) in
+    ap (map.get c.args.self.now.parts) ((returns-clause-grown g c).birth) ∙ none_next c.args.self.now tree
+
+pub returns-clause-gone : goal.returns-clause-gone
+returns-clause-gone g c other was = gone_grown c.args.self.now _ c.args.parent _ c.args.name c.args.value (returns-clause-grown g c) other was

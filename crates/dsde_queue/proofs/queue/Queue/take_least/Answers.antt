@@ -1,6 +1,7 @@
-use Rattle.std.proofs.Common.{◌++◌, length, sym, ap, ◌∙◌, append-nil, arith}
-use Rattle.dsde_queue.specs.Queue.{handles}
-use Rattle.dsde_queue.proofs.Due.{IsTaking-start, due_of-first, later_than_due-first, none_left, one_due}
+use Rattle.std.proofs.Common.{◌++◌, ◌<◌, All, length, sym, ap, subst, ◌∙◌, append-nil, arith}
+use Rattle.dsde_queue.specs.Queue.{handles, IsOrdered}
+use Rattle.dsde_queue.proofs.Order.{Pair}
+use Rattle.dsde_queue.proofs.Due.{IsTaking-start, due_of-first, later_than_due-first, none_left, left_later, one_due}
 use Rattle.dsde_queue.proofs.queue.Queue.take_least.Goals as goal
 
 pub loop-handle-init : goal.loop-handle-init
@@ -41,3 +42,11 @@ returns-clause-due_room c =
     let left = none_left _ c.loop-handle.self.pairs c.in_default.ensures.ordered inv.none_earlier c.in_default.ensures.taken.0 in
     let due = due_of-first c.args.self.now.pairs _ _ (sym c.in_ok-time.ensures.first) in
     omega (arith, ap length left.0, ap length due, inv.due_room)
+
+pub returns-clause-left : goal.returns-clause-left
+returns-clause-left c = subst IsOrdered (sym (ap (λ q. q.pairs) c.in_default.ensures.taken.1)) c.in_default.ensures.ordered
+
+pub returns-clause-later : goal.returns-clause-later
+returns-clause-later c =
+    subst (All (λ (pair : Pair). c.in_ok-time.time < pair.0)) (sym (ap (λ q. q.pairs) c.in_default.ensures.taken.1))
+    (left_later _ c.loop-handle.self.pairs c.in_default.ensures.ordered c.loop-handle.invariant.none_earlier c.in_default.ensures.taken.0)
