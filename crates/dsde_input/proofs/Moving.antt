@@ -1,5 +1,5 @@
 -- Bytes that move from a source to a reader.
-use Rattle.std.proofs.Common.{◌≡◌, ℕ, ◌-◌, false, ◌==◌, List, [], ◌∷◌, ◌++◌, length, get_or, take, drop, refl, sym, ◌∙◌, ap, subst, arith, append_assoc}
+use Rattle.std.proofs.Common.{◌≡◌, ℕ, ◌-◌, false, ◌==◌, List, [], ◌∷◌, ◌++◌, ◌≤◌, length, get_or, take, drop, refl, sym, ◌∙◌, ap, subst, arith, append_assoc}
 use Rattle.std.specs.Prelude.{true, Option, Some, None, Result, Ok, Err, IfOk, IfSome, OnSome, IsSomeAnd, MatchOption}
 use Rattle.std.proofs.Math.Seq.{take-length, drop-append_seam}
 use Rattle.std.proofs.lemmas.List.{take-take, length-take, append-nil, take-append-drop, drop-append-le}
@@ -66,15 +66,18 @@ held_more old mid left rest moves =
     ap (λ front. front ++ drop (length old.held) mid.held) (sym moves.front) ∙ take-append-drop (length old.held) mid.held
 
 -- What moved is of one line.
-pub TakesOfLine-moved : (old mid : Reader) (left rest : Option (List ℕ)) → Moves old mid left rest → IsOneLine mid.held →
+pub TakesOfLine-moved : (old mid : Reader) (left rest : Option (List ℕ)) → Moves old mid left rest → IsOneLine mid.held → length mid.held ≤ 65537 →
     IfSome left (λ before. IsSomeAnd rest (λ after. TakesOfLine old.held before after))
-TakesOfLine-moved old mid None rest moves one = tt
-TakesOfLine-moved old mid (Some before) None moves one = absurd moves.told
-TakesOfLine-moved old mid (Some before) (Some after) moves one = record {
-  piece = drop (length old.held) mid.held;
-  split = moves.taken;
-  one = subst IsOneLine (sym (held_more old mid (Some before) (Some after) moves)) one;
-}
+TakesOfLine-moved old mid None rest moves one short = tt
+TakesOfLine-moved old mid (Some before) None moves one short = absurd moves.told
+TakesOfLine-moved old mid (Some before) (Some after) moves one short =
+    let held = held_more old mid (Some before) (Some after) moves in
+    record {
+      piece = drop (length old.held) mid.held;
+      split = moves.taken;
+      one = subst IsOneLine (sym held) one;
+      short = omega (arith, ap length held);
+    }
 
 -- the bytes of one line, behind which nothing is missing
 line_whole : (held : List ℕ) → IsOneLine held → ((left : List ℕ) → left ≡ behind_line (held ++ left)) → Fed held

@@ -79,11 +79,13 @@ pub record Moves (old new : Reader) (left rest : Option (List ℕ)) : Type 0 whe
   pub told : IfSome left (λ before. IsSomeAnd rest (λ after. to_come new after ≡ to_come old before))
   pub taken : IfSome left (λ before. IsSomeAnd rest (λ after. before ≡ drop (length old.held) new.held ++ after))
 
--- The bytes taken are of the line that was begun with those held: none is behind its line feed.
+-- The bytes taken are of the line that was begun with those held: none is behind its line feed,
+-- and of a line that is too long none is behind the first byte too many.
 pub record TakesOfLine (held before after : List ℕ) : Type 0 where
   pub piece : List ℕ
   pub split : before ≡ piece ++ after
   pub one : IsOneLine (held ++ piece)
+  pub short : length (held ++ piece) ≤ 65537
 
 -- The bytes taken are the rest of the line that was begun with those held, with its line feed.
 pub record TakesLine (held before after : List ℕ) : Type 0 where

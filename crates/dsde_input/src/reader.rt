@@ -1,4 +1,4 @@
-ghost use Rattle.std.specs.Prelude.{◌≡◌, ◌<◌, ◌≤◌, true, false, List, ℕ, Some, None, [], IfOk, IfErr, OnOk, OnErr, IsErrOf, IfSome, IsSomeAnd, OnSome, MatchOption};
+ghost use Rattle.std.specs.Prelude.{◌≡◌, ◌<◌, ◌≤◌, true, false, List, ℕ, Some, None, [], length, IfOk, IfErr, OnOk, OnErr, IsErrOf, IfSome, IsSomeAnd, OnSome, MatchOption};
 ghost use Rattle.dsde_io.specs.Fault.{Rose};
 ghost use Rattle.dsde_input.specs.Lines.{behind_line};
 ghost use Rattle.dsde_input.specs.Record.{ArePorts, IsTime};
@@ -86,7 +86,8 @@ impl InputReader {
         // A record's time is one of a run.
         ensures early { IfOk result (λ found. IfSome found (λ arrival. IsTime arrival.time)) }
 
-        // No byte is taken that the wanted line does not need.
+        // No byte is taken that the wanted line does not need: a line that is too long is refused
+        // as soon as 65,537 of its bytes were seen.
         ensures of_line { IfSome (R.left source.old) (λ before. IsSomeAnd (R.left source.new) (λ after. TakesOfLine self.old.held before after)) }
         ensures line { IfOk result (λ found. OnSome found (self.new.ended ≡ false
             → IfSome (R.left source.old) (λ before. IsSomeAnd (R.left source.new) (λ after. TakesLine self.old.held before after)))) }
@@ -114,6 +115,7 @@ impl InputReader {
         ensures whole { OnOk result (has_line self.new ≡ true) }
         ensures wanted { OnErr result ((has_line self.old ≡ false) × (has_line self.new ≡ false)) }
         ensures one { IsOneLine self.new.held }
+        ensures short { length self.new.held ≤ 65537 }
         ensures cause { OnErr result (Rose (R.faults source.old) (R.faults source.new)) }
         ensures counted { R.faults source.old ≤ R.faults source.new }
         ensures idle { has_line self.old ≡ true → (self.new ≡ self.old) × (source.new ≡ source.old) }
@@ -128,6 +130,7 @@ impl InputReader {
     fn has_line(&self) -> bool
         ensures answer { result ≡ has_line self.now }
         ensures one { IsOneLine self.now.held }
+        ensures short { length self.now.held ≤ 65537 }
     {
         self.ended || self.held.len() > LONGEST_LINE || self.held.last() == Some(&b'\n')
     }

@@ -2,7 +2,7 @@
 use Rattle.std.proofs.Common.{◌≡◌, ℕ, ◌+◌, ◌-◌, ◌<◌, ◌≤◌, List, ◌++◌, length, take, drop, sym, ◌∙◌, ap, append_assoc, take-add, length-drop, arith, rules}
 use Rattle.std.specs.Prelude.{Option, Some, None}
 use Rattle.std.proofs.lemmas.List.{take_all}
-use Rattle.dsde_io.specs.Bytes.{Gains, GainsFront}
+use Rattle.dsde_io.specs.Bytes.{Gains, GainsFront, Keeps}
 
 -- the bytes from a place on, as a slice has them
 rest_from : (xs : List ℕ) (n : ℕ) → take (length xs - n) (drop n xs) ≡ drop n xs
@@ -25,6 +25,6 @@ pub gains_all : (a b : Option (List ℕ)) (xs : List ℕ) (n : ℕ) → length x
 gains_all a b xs n long gained = rw (take_all n xs long) at gained
 
 -- A part from the front was gained.
-pub gains_front : (a b c : Option (List ℕ)) (xs : List ℕ) (n : ℕ) → n < length xs → Gains a b (take n xs) → c ≡ b → GainsFront a c xs
-gains_front None b c xs n part gained same = tt
-gains_front (Some all) b c xs n part gained same = (n, part, same ∙ gained)
+pub gains_front : (a b c : Option (List ℕ)) (xs : List ℕ) (n : ℕ) → n < length xs → Gains a b (take n xs) → Keeps b c → GainsFront a c xs
+gains_front None b c xs n part gained kept = tt
+gains_front (Some all) b c xs n part gained kept = (n, part, rw gained at kept)

@@ -6,3 +6,4 @@ pub mod MemoryShelf
 pub mod MemorySink
 pub mod MemorySource
 pub mod Stored
+pub mod Stream

@@ -1,6 +1,6 @@
 ghost use Rattle.std.specs.Prelude.{◌≡◌, ◌<◌, ◌≤◌, ℕ, List, Option, length, take, IfOk, OnOk, OnErr, IsErrOf};
 ghost use Rattle.dsde_io.specs.Fault.{Rose};
-ghost use Rattle.dsde_io.specs.Bytes.{Gains, GainsFront};
+ghost use Rattle.dsde_io.specs.Bytes.{Gains, GainsFront, Keeps};
 
 use dsde_values::Memory;
 
@@ -36,7 +36,7 @@ pub trait Sink {
         requires { 0 < length piece.now }
         ensures within { IfOk result (λ count. (0 < count) × (count ≤ length piece.now)) }
         ensures gained { IfOk result (λ count. Gains (written self.old) (written self.new) (take count piece.now)) }
-        ensures kept { OnErr result (written self.new ≡ written self.old) }
+        ensures kept { OnErr result (Keeps (written self.old) (written self.new)) }
         ensures cause { IsErrOf result SinkEnd.Failed → Rose (faults self.old) (faults self.new) }
         ensures counted { faults self.old ≤ faults self.new };
 }

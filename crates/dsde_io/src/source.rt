@@ -1,6 +1,6 @@
 ghost use Rattle.std.specs.Prelude.{◌≡◌, ◌<◌, ◌≤◌, ℕ, List, [], Option, length, take, IfOk, OnErr, IfSome};
 ghost use Rattle.dsde_io.specs.Fault.{Rose};
-ghost use Rattle.dsde_io.specs.Bytes.{Takes};
+ghost use Rattle.dsde_io.specs.Bytes.{Keeps, Takes};
 
 /// A read failed.
 #[derive(Clone, Copy, Debug, PartialEq, Eq)]
@@ -21,7 +21,7 @@ pub trait Source {
         ensures within { IfOk result (λ count. count ≤ length piece.old) }
         ensures taken { IfOk result (λ count. Takes (left self.old) (left self.new) (take count piece.new)) }
         ensures end { IfOk result (λ count. count ≡ 0 → IfSome (left self.old) (λ bytes. bytes ≡ [])) }
-        ensures kept { OnErr result (left self.new ≡ left self.old) }
+        ensures kept { OnErr result (Keeps (left self.old) (left self.new)) }
         ensures cause { OnErr result (Rose (faults self.old) (faults self.new)) }
         ensures counted { faults self.old ≤ faults self.new };
 }

@@ -9,7 +9,7 @@ returns-clause-records g c =
 pub returns-clause-of_line : goal.returns-clause-of_line
 returns-clause-of_line g c =
     TakesOfLine-moved c.args.self.now c.fill.new.self (g.R.Source.left c.args.source.now) (g.R.Source.left c.fill.new.source)
-    c.in_ok-fill.ensures.moves c.in_ok-fill.ensures.one
+    c.in_ok-fill.ensures.moves c.in_ok-fill.ensures.one c.in_ok-fill.ensures.short
 
 pub returns-clause-line : goal.returns-clause-line
 returns-clause-line g c =
