@@ -2,7 +2,7 @@ ghost use Rattle.std.specs.Prelude.{◌≡◌, ◌<◌, ◌≤◌, true, false, 
 ghost use Rattle.dsde_io.specs.Fault.{Rose};
 ghost use Rattle.dsde_input.specs.Lines.{behind_line};
 ghost use Rattle.dsde_input.specs.Record.{ArePorts, IsTime};
-ghost use Rattle.dsde_input.specs.Reader.{fresh, to_come, records, Tells, has_line, reads_left, IsOffence, Moves, given, IsOneLine, TakesOfLine, TakesLine};
+ghost use Rattle.dsde_input.specs.Reader.{fresh, to_come, records, Tells, has_line, reads_left, IsOffence, Moves, given, IsOneLine, TakesOfLine, TakesLine, SeesEnd};
 
 use crate::InputEnd;
 use crate::line::{LONGEST_LINE, line_record, without_last};
@@ -90,6 +90,9 @@ impl InputReader {
         ensures of_line { IfSome (R.left source.old) (λ before. IsSomeAnd (R.left source.new) (λ after. TakesOfLine self.old.held before after)) }
         ensures line { IfOk result (λ found. OnSome found (self.new.ended ≡ false
             → IfSome (R.left source.old) (λ before. IsSomeAnd (R.left source.new) (λ after. TakesLine self.old.held before after)))) }
+
+        // The end of the input is seen only where no byte is left.
+        ensures over { IfOk result (λ _. SeesEnd self.old self.new (R.left source.old) (R.left source.new)) }
 
         // Nothing is lost where a read failed, or memory ran out.
         ensures fault_keeps { IsErrOf result InputEnd.ReadFault → Moves self.old self.new (R.left source.old) (R.left source.new) }
