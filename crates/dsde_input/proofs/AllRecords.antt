@@ -6,6 +6,7 @@ use Rattle.std.specs.List.{All, find, flat_map, range_with_len}
 use Rattle.std.proofs.lemmas.List.Elements.{All-nil, All-cons, All-head, All-tail}
 use Rattle.std.proofs.lemmas.Option.{slice_get_within}
 use Rattle.std.proofs.lemmas.Slice.Eq.{bytes_eq-Decides}
+use Rattle.dsde_values.specs.When.{IsMoment}
 use Rattle.dsde_values.specs.declared.arrival.Arrival.{Arrival}
 use Rattle.dsde_values.specs.declared.arrival.Item.{Item}
 use Rattle.dsde_values.specs.declared.types.Field.{Field}
@@ -15,7 +16,7 @@ use Rattle.dsde_values.specs.declared.types.Types.{Types}
 use Rattle.dsde_values.specs.declared.value.Value.{Value}
 use Rattle.dsde_values.specs.declared.value.Value.TheVariants as value
 use Rattle.dsde_values.specs.Value.{HasType, spelling}
-use Rattle.dsde_input.specs.Record.{ArePorts, IsTime, IsItem, AreItems, Spells, half, all_values, all_items, all_lists, all_records, record_of, record_text, port_name, time_text, item_text, later_item_text, items_text}
+use Rattle.dsde_input.specs.Record.{ArePorts, IsItem, AreItems, Spells, half, all_values, all_items, all_lists, all_records, record_of, record_text, port_name, time_text, item_text, later_item_text, items_text}
 use Rattle.dsde_input.proofs.Every.{Each, Each-map, Each-flat_map, Each-both, Each-range, Among, Among-left, Among-right, Among-map, Among-flat_map, Among-range, find-Each, find-Among, find-exact}
 use Rattle.dsde_input.proofs.Items.{port_fact}
 
@@ -106,7 +107,7 @@ module _ (ports : List Field) (types : Types) (lawful : ArePorts ports) where
 
   module _ (number : ℕ) (line : List ℕ) where
     IsLawful : Arrival → Type 0
-    IsLawful arrival = IsTime arrival.time × AreItems ports types arrival.items × (arrival.line ≡ number)
+    IsLawful arrival = IsMoment arrival.time × AreItems ports types arrival.items × (arrival.line ≡ number)
 
     test : Arrival → Bool
     test arrival = bytes_eq (record_text ports types arrival) line

@@ -1,5 +1,5 @@
 -- Bytes that move from a source to a reader.
-use Rattle.std.proofs.Common.{◌≡◌, ℕ, ◌-◌, false, ◌==◌, List, [], ◌∷◌, ◌++◌, ◌≤◌, length, get_or, take, drop, refl, sym, ◌∙◌, ap, subst, arith, append_assoc}
+use Rattle.std.proofs.Common.{◌≡◌, ℕ, ◌-◌, false, ◌==◌, List, [], ◌∷◌, ◌++◌, ◌≤◌, length, get_or, take, drop, refl, sym, ◌∙◌, ap, subst, arith, append_assoc, length-append}
 use Rattle.std.specs.Prelude.{true, Option, Some, None, Result, Ok, Err, IfOk, IfSome, OnSome, IsSomeAnd, MatchOption}
 use Rattle.std.proofs.Math.Seq.{take-length, drop-append_seam}
 use Rattle.std.proofs.lemmas.List.{take-take, length-take, append-nil, take-append-drop, drop-append-le}
@@ -7,7 +7,7 @@ use Rattle.dsde_values.specs.declared.arrival.Arrival.{Arrival}
 use Rattle.dsde_values.specs.declared.types.Field.{Field}
 use Rattle.dsde_values.specs.declared.types.Types.{Types}
 use Rattle.dsde_input.specs.declared.end.InputEnd.{InputEnd}
-use Rattle.dsde_input.specs.Reader.{Reader, Moves, to_come, records, Tells, given, IsOneLine, TakesOfLine, TakesLine}
+use Rattle.dsde_input.specs.Reader.{Reader, Moves, to_come, records, Tells, given, IsOneLine, TakesOfLine, TakesLine, SeesEnd}
 use Rattle.dsde_input.specs.Lines.{behind_line}
 use Rattle.dsde_input.proofs.Cuts.{Lacks-append}
 use Rattle.dsde_input.proofs.FirstLine.{behind_line-last, Fed, fed_by}
@@ -131,3 +131,29 @@ line_answer old mid new left rest (Ok (Some arrival)) moves one is_given behind 
     TakesLine-moved old mid new left rest arrival moves one is_given behind
 line_answer old mid new left rest (Ok None) moves one is_given behind = tt
 line_answer old mid new left rest (Err end) moves one is_given behind = tt
+
+nothing : (bytes : List ℕ) → length bytes ≡ 0 → bytes ≡ []
+nothing [] size = refl
+nothing (byte ∷ bytes) size = absurd (omega (arith, size))
+
+held_at_end : (reader : Reader) (left : List ℕ) → reader.ended ≡ true → to_come reader left ≡ reader.held
+held_at_end reader left ended = rw ended refl
+
+-- Where the input's end was seen, all bytes moved.
+Moves-end : (old mid : Reader) (left rest : Option (List ℕ)) → Moves old mid left rest → SeesEnd old mid left rest
+Moves-end old mid None rest moves unended ended = tt
+Moves-end old mid (Some before) None moves unended ended = absurd moves.told
+Moves-end old mid (Some before) (Some after) moves unended ended =
+    let all : mid.held ≡ old.held ++ before = sym (held_at_end mid after ended) ∙ moves.told ∙ held_left old before unended in
+    let same : before ≡ before ++ after =
+    moves.taken ∙ ap (λ held. drop (length old.held) held ++ after) all ∙ ap (λ bytes. bytes ++ after) (drop-append_seam old.held before) in
+    nothing after (omega (arith, ap length same, length-append before after))
+
+-- What an answer says of the input's end.
+pub end_answer : (old mid new : Reader) (left rest : Option (List ℕ)) (answer : Result (Option Arrival) InputEnd) → Moves old mid left rest →
+    IfOk answer (λ found. MatchOption found ((new ≡ mid) × (mid.held ≡ []) × (mid.ended ≡ true)) (λ arrival. new ≡ given mid arrival)) →
+    IfOk answer (λ found. SeesEnd old new left rest)
+end_answer old mid new left rest (Ok (Some arrival)) moves is_given = λ unended ended.
+    Moves-end old mid left rest moves unended (sym (ap (λ r. r.ended) is_given) ∙ ended)
+end_answer old mid new left rest (Ok None) moves is_given = λ unended ended. Moves-end old mid left rest moves unended is_given.2
+end_answer old mid new left rest (Err end) moves is_given = tt

@@ -1,22 +1,23 @@
 -- A line's record, from its time and its items.
 use Rattle.std.proofs.Common.{◌≡◌, ℕ, List, ◌++◌, drop, refl, sym, ◌∙◌, ap}
 use Rattle.std.specs.Prelude.{Some, None}
+use Rattle.dsde_values.specs.When.{IsMoment}
 use Rattle.dsde_values.specs.declared.arrival.Arrival.{Arrival}
 use Rattle.dsde_values.specs.declared.arrival.Item.{Item}
 use Rattle.dsde_values.specs.declared.types.Field.{Field}
 use Rattle.dsde_values.specs.declared.types.Types.{Types}
-use Rattle.dsde_input.specs.Record.{ArePorts, IsTime, AreItems, time_text, items_text, record_of}
+use Rattle.dsde_input.specs.Record.{ArePorts, AreItems, time_text, items_text, record_of}
 use Rattle.dsde_input.specs.Reading.{Reads, Anything}
 use Rattle.dsde_input.proofs.AllRecords.{record_of-exact}
 
 module _ (ports : List Field) (types : Types) (lawful : ArePorts ports) (number : ℕ) (line : List ℕ) where
   -- A line without a time spells no record.
-  pub no_time : Reads IsTime time_text Anything line None → None ≡ record_of ports types number line
+  pub no_time : Reads IsMoment time_text Anything line None → None ≡ record_of ports types number line
   no_time none =
       record_of-exact ports types lawful number line None tt
       (λ arrival spells. absurd (none.only arrival.time (items_text ports types arrival.items) spells.early tt (sym spells.spelled)))
 
-  module _ (time size : ℕ) (found : Reads IsTime time_text Anything line (Some (time, size))) where
+  module _ (time size : ℕ) (found : Reads IsMoment time_text Anything line (Some (time, size))) where
     -- A line whose time no items follow spells no record.
     pub no_items : ((items : List Item) → AreItems ports types items → drop size line ≡ items_text ports types items → ⊥) → None ≡ record_of ports types number line
     no_items none =

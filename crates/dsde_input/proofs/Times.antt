@@ -6,8 +6,9 @@ use Rattle.std.specs.Str.Parse.{AllDigits}
 use Rattle.std.proofs.lemmas.Str.Parse.{digit_from_value}
 use Rattle.std.proofs.lemmas.Fmt.{decimal_is_IsNumeral, decimal_injective}
 use Rattle.std.proofs.lemmas.Bool.Decides.{nat_tests}
+use Rattle.dsde_values.specs.When.{IsMoment}
 use Rattle.dsde_input.specs.Lines.{Lacks}
-use Rattle.dsde_input.specs.Record.{IsTime, time_text}
+use Rattle.dsde_input.specs.Record.{time_text}
 use Rattle.dsde_input.specs.Reading.{Reads, Anything}
 use Rattle.dsde_input.proofs.Cuts.{IsCut, same_cut, no_cut}
 
@@ -24,14 +25,14 @@ time_then : (time : ℕ) (rest : List ℕ) → time_text time ++ rest ≡ decima
 time_then time rest = append_assoc (decimal time) (32 ∷ []) rest
 
 -- A line without a space has no time.
-pub no_time_uncut : (line : List ℕ) → Lacks 32 line → Reads IsTime time_text Anything line None
+pub no_time_uncut : (line : List ℕ) → Lacks 32 line → Reads IsMoment time_text Anything line None
 no_time_uncut line lacks = record {
   stands = tt;
   only = λ time rest early any same. no_cut 32 line (decimal time) rest lacks (same ∙ time_then time rest);
 }
 
 -- what stands before the first space, where a time is there
-front_is : (line : List ℕ) (size : ℕ) → IsCut 32 line size → (time : ℕ) (rest : List ℕ) → IsTime time → line ≡ time_text time ++ rest →
+front_is : (line : List ℕ) (size : ℕ) → IsCut 32 line size → (time : ℕ) (rest : List ℕ) → IsMoment time → line ≡ time_text time ++ rest →
     (take size line ≡ decimal time) × (drop (size + 1) line ≡ rest)
 front_is line size cut time rest early same =
     same_cut 32 (take size line) (drop (size + 1) line) (decimal time) rest
@@ -39,7 +40,7 @@ front_is line size cut time rest early same =
 
 -- What stands before the first space is no number.
 pub no_time : (line : List ℕ) (size : ℕ) → IsCut 32 line size → ((number : ℕ) → number < 2 ^ 64 → take size line ≢ decimal number) →
-    Reads IsTime time_text Anything line None
+    Reads IsMoment time_text Anything line None
 no_time line size cut none = record {
   stands = tt;
   only = λ time rest early any same. none time (omega arith) (front_is line size cut time rest early same).0;
@@ -47,7 +48,7 @@ no_time line size cut none = record {
 
 -- What stands before the first space is a number, which may be too large.
 pub some_time : (line : List ℕ) (size time : ℕ) → IsCut 32 line size → take size line ≡ decimal time → time < 2 ^ 64 →
-    (small : Bool) → leb time 9223372036854775807 ≡ small → Reads IsTime time_text Anything line (then_some small (time, size + 1))
+    (small : Bool) → leb time 9223372036854775807 ≡ small → Reads IsMoment time_text Anything line (then_some small (time, size + 1))
 some_time line size time cut is fits true small = record {
   stands = record {
     is = grind (arith, nat_tests);

@@ -1,5 +1,5 @@
 -- A reader of input, as contracts see it, and what a call does to the records to come.
-use Rattle.std.specs.Prelude.{ℕ, ◌≡◌, ◌≤◌, ◌-◌, ◌==◌, Bool, false, ◌||◌, nat_lt, if◌then◌else◌, List, [], ◌∷◌, ◌++◌, length, take, drop, slice_index, Option, Some, None, Result, Ok, Err, IfSome, IsSomeAnd}
+use Rattle.std.specs.Prelude.{ℕ, ◌≡◌, ◌≤◌, ◌-◌, ◌==◌, Bool, true, false, ◌||◌, nat_lt, if◌then◌else◌, List, [], ◌∷◌, ◌++◌, length, take, drop, slice_index, Option, Some, None, Result, Ok, Err, IfSome, IsSomeAnd}
 use Rattle.dsde_values.specs.declared.arrival.Arrival.{Arrival}
 use Rattle.dsde_values.specs.declared.types.Field.{Field}
 use Rattle.dsde_values.specs.declared.types.Types.{Types}
@@ -92,6 +92,11 @@ pub record TakesLine (held before after : List ℕ) : Type 0 where
   pub line : List ℕ
   pub split : held ++ before ≡ line ++ 10 ∷ after
   pub lacks : Lacks 10 line
+
+-- The input's end is seen in this call only where no byte is left.
+abbrev pub SeesEnd : Reader → Reader → Option (List ℕ) → Option (List ℕ) → Type 0
+SeesEnd old new left rest =
+    old.ended ≡ false → new.ended ≡ true → IfSome left (λ before. IsSomeAnd rest (λ after. after ≡ []))
 
 -- a reader after a record was given
 abbrev pub given : Reader → Arrival → Reader

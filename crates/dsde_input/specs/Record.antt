@@ -3,6 +3,7 @@ use Rattle.std.specs.Prelude.{ℕ, zero, suc, ◌≡◌, ◌≢◌, ◌<◌, ◌
 use Rattle.std.specs.Option.{option_map_or}
 use Rattle.std.specs.Str.{bytes_eq}
 use Rattle.std.specs.List.{All, AllPairs, flat_map, find, range_with_len}
+use Rattle.dsde_values.specs.When.{IsMoment}
 use Rattle.dsde_values.specs.declared.arrival.Arrival.{Arrival}
 use Rattle.dsde_values.specs.declared.arrival.Item.{Item}
 use Rattle.dsde_values.specs.declared.types.Field.{Field}
@@ -39,9 +40,6 @@ items_text ports types (item ∷ items) = item_text ports types item ++ flat_map
 abbrev pub time_text : ℕ → List ℕ
 time_text time = decimal time ++ 32 ∷ []
 
-abbrev pub IsTime : ℕ → Type 0
-IsTime time = time < 2 ^ 63
-
 -- the one line of a record: its time, a space, and its items
 abbrev pub record_text : List Field → Types → Arrival → List ℕ
 record_text ports types arrival = time_text arrival.time ++ items_text ports types arrival.items
@@ -59,7 +57,7 @@ pub record AreItems (ports : List Field) (types : Types) (items : List Item) : T
 
 -- A line of this number spells the record.
 pub record Spells (ports : List Field) (types : Types) (number : ℕ) (line : List ℕ) (arrival : Arrival) : Type 0 where
-  pub early : IsTime arrival.time
+  pub early : IsMoment arrival.time
   pub items : AreItems ports types arrival.items
   pub numbered : arrival.line ≡ number
   pub spelled : record_text ports types arrival ≡ line

@@ -1,6 +1,7 @@
 ghost use Rattle.std.specs.Prelude.{◌≡◌, IfOk};
+ghost use Rattle.dsde_values.specs.When.{IsMoment};
 ghost use Rattle.dsde_input.specs.Lines.{without_last};
-ghost use Rattle.dsde_input.specs.Record.{ArePorts, IsTime};
+ghost use Rattle.dsde_input.specs.Record.{ArePorts};
 ghost use Rattle.dsde_input.specs.Records.{line_record};
 
 use crate::InputEnd;
@@ -22,7 +23,7 @@ pub fn line_record(
 ) -> Result<Result<Arrival, InputEnd>, Memory>
     requires { ArePorts ports.now }
     ensures value { IfOk result (λ found. found ≡ line_record ports.now types.now number least line.now) }
-    ensures early { IfOk result (λ found. IfOk found (λ arrival. IsTime arrival.time)) }
+    ensures early { IfOk result (λ found. IfOk found (λ arrival. IsMoment arrival.time)) }
 {
     if line.len() > LONGEST_LINE {
         return Ok(Err(InputEnd::LineTooLong(number)));

@@ -1,9 +1,10 @@
 ghost use Rattle.std.specs.Prelude.{◌≡◌, ◌==◌, List, IfOk, IfSome};
 ghost use Rattle.std.specs.List.{position};
 ghost use Rattle.std.specs.Str.{bytes_eq};
+ghost use Rattle.dsde_values.specs.When.{IsMoment};
 ghost use Rattle.dsde_values.specs.declared.arrival.Item.{Item};
 ghost use Rattle.dsde_input.specs.Reading.{Reads, Anything, NoWord};
-ghost use Rattle.dsde_input.specs.Record.{ArePorts, IsTime, IsItem, AreItems, time_text, item_text, later_item_text, items_text, record_of};
+ghost use Rattle.dsde_input.specs.Record.{ArePorts, IsItem, AreItems, time_text, item_text, later_item_text, items_text, record_of};
 
 use dsde_values::{
     Arrival, Field, Item, LAST_MOMENT, Memory, ReadValue, Seq, Types, decimal_of, read_value,
@@ -20,7 +21,7 @@ pub fn read_record(
 ) -> Result<Option<Arrival>, Memory>
     requires { ArePorts ports.now }
     ensures value { IfOk result (λ found. found ≡ record_of ports.now types.now number line.now) }
-    ensures early { IfOk result (λ found. IfSome found (λ arrival. IsTime arrival.time)) }
+    ensures early { IfOk result (λ found. IfSome found (λ arrival. IsMoment arrival.time)) }
 {
     let Some((time, size)) = read_time(line) else {
         return Ok(None);
@@ -37,7 +38,7 @@ pub fn read_record(
 
 /// The time at the front of a line with the space behind it, and how many bytes these have.
 fn read_time(line: &[u8]) -> Option<(u64, usize)>
-    ensures { Reads IsTime time_text Anything line.now result }
+    ensures { Reads IsMoment time_text Anything line.now result }
 {
     let size = space_at(line)?;
     let time = decimal_of(&line[..size])?;

@@ -1,8 +1,9 @@
 ghost use Rattle.std.specs.Prelude.{◌≡◌, ◌<◌, ◌≤◌, true, false, List, ℕ, Some, None, [], length, IfOk, IfErr, OnOk, OnErr, IsErrOf, IfSome, IsSomeAnd, OnSome, MatchOption};
+ghost use Rattle.dsde_values.specs.When.{IsMoment};
 ghost use Rattle.dsde_io.specs.Fault.{Rose};
 ghost use Rattle.dsde_input.specs.Lines.{behind_line};
-ghost use Rattle.dsde_input.specs.Record.{ArePorts, IsTime};
-ghost use Rattle.dsde_input.specs.Reader.{fresh, to_come, records, Tells, has_line, reads_left, IsOffence, Moves, given, IsOneLine, TakesOfLine, TakesLine};
+ghost use Rattle.dsde_input.specs.Record.{ArePorts};
+ghost use Rattle.dsde_input.specs.Reader.{fresh, to_come, records, Tells, has_line, reads_left, IsOffence, Moves, given, IsOneLine, TakesOfLine, TakesLine, SeesEnd};
 
 use crate::InputEnd;
 use crate::line::{LONGEST_LINE, line_record, without_last};
@@ -84,13 +85,16 @@ impl InputReader {
         ensures again { IfSome self.old.offence (λ offence. (result ≡ Err offence) × (self.new ≡ self.old) × (source.new ≡ source.old)) }
 
         // A record's time is one of a run.
-        ensures early { IfOk result (λ found. IfSome found (λ arrival. IsTime arrival.time)) }
+        ensures early { IfOk result (λ found. IfSome found (λ arrival. IsMoment arrival.time)) }
 
         // No byte is taken that the wanted line does not need: a line that is too long is refused
         // as soon as 65,537 of its bytes were seen.
         ensures of_line { IfSome (R.left source.old) (λ before. IsSomeAnd (R.left source.new) (λ after. TakesOfLine self.old.held before after)) }
         ensures line { IfOk result (λ found. OnSome found (self.new.ended ≡ false
             → IfSome (R.left source.old) (λ before. IsSomeAnd (R.left source.new) (λ after. TakesLine self.old.held before after)))) }
+
+        // The end of the input is seen only where no byte is left.
+        ensures over { IfOk result (λ _. SeesEnd self.old self.new (R.left source.old) (R.left source.new)) }
 
         // Nothing is lost where a read failed, or memory ran out.
         ensures fault_keeps { IsErrOf result InputEnd.ReadFault → Moves self.old self.new (R.left source.old) (R.left source.new) }
@@ -164,7 +168,7 @@ impl InputReader {
             (records ports.now types.now self.new (to_come self.new left)) result }
         ensures given { IfOk result (λ found. MatchOption found ((self.new ≡ self.old) × (self.old.held ≡ []) × (self.old.ended ≡ true)) (λ arrival. self.new ≡ given self.old arrival)) }
         ensures taken { IfOk result (λ found. OnSome found ((left : List ℕ) → to_come self.new left ≡ behind_line (to_come self.old left))) }
-        ensures early { IfOk result (λ found. IfSome found (λ arrival. IsTime arrival.time)) }
+        ensures early { IfOk result (λ found. IfSome found (λ arrival. IsMoment arrival.time)) }
         ensures stays { IfErr result (λ end. IsOffence end → self.new.offence ≡ Some end) }
         ensures memory { IsErrOf result InputEnd.Memory → self.new ≡ self.old }
         ensures no_fault { ¬ (IsErrOf result InputEnd.ReadFault) }

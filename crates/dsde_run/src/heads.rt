@@ -1,4 +1,5 @@
 ghost use Rattle.std.specs.Prelude.{◌≡◌, ◌<◌, ◌≤◌, ◌^◌, IfOk, IfErr, IfSome, OnOk, IsErrOf};
+ghost use Rattle.dsde_values.specs.When.{IsMoment};
 ghost use Rattle.dsde_io.specs.Fault.{Rose};
 ghost use Rattle.dsde_input.specs.Record.{ArePorts};
 ghost use Rattle.dsde_run.specs.Heads.{at_start, IsReady, Asked, Refused, passed};
@@ -41,11 +42,11 @@ impl Heads {
     pub fn ask<R: Source>(&mut self, source: &mut R) -> Result<(), InputEnd>
         requires ports { ArePorts self.old.ports }
         requires ready { IsReady self.old.reader }
-        requires early { IfSome self.old.head (λ arrival. arrival.time < 2 ^ 63) }
+        requires early { IfSome self.old.head (λ arrival. IsMoment arrival.time) }
         ensures asked { OnOk result (Told (R.left source.old) (R.left source.new) (Asked self.old.head self.new.head self.old self.new)) }
         ensures refused { IfErr result (λ why. Told (R.left source.old) (R.left source.new) (Refused self.old why)) }
         ensures ready { OnOk result (IsReady self.new.reader) }
-        ensures early { OnOk result (IfSome self.new.head (λ arrival. arrival.time < 2 ^ 63)) }
+        ensures early { OnOk result (IfSome self.new.head (λ arrival. IsMoment arrival.time)) }
         ensures ports { self.new.ports ≡ self.old.ports }
         ensures types { self.new.types ≡ self.old.types }
         ensures cause { IsErrOf result InputEnd.ReadFault → Rose (R.faults source.old) (R.faults source.new) }

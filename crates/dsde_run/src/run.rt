@@ -1,5 +1,6 @@
 ghost use Rattle.std.specs.Prelude.{ℕ, ◌≡◌, ◌+◌, ◌<◌, ◌≤◌, ◌^◌, ◌++◌, false, unwrap_or, OnOk, IfOk, IfSome, IsErrOf};
 ghost use Rattle.std.specs.Option.{option_copied};
+ghost use Rattle.dsde_values.specs.When.{IsMoment};
 ghost use Rattle.dsde_io.specs.Fault.{Rose};
 ghost use Rattle.dsde_input.specs.Record.{ArePorts};
 ghost use Rattle.dsde_sim.specs.Engine.{HasFewPorts};
@@ -142,7 +143,7 @@ fn turn(
     requires model { plain.old.model ≡ model.now }
     requires fresh { plain.old.spent ≡ false }
     requires turns { plain.old.turn < 2 ^ 63 }
-    requires head { IfSome (option_copied head) (λ arrival. arrival.time < 2 ^ 63) }
+    requires head { IfSome (option_copied head) (λ arrival. IsMoment arrival.time) }
     ensures turns { IfOk result (Turns model.now plain.old (option_copied head.entry) plain.new text.old text.new) }
     ensures readies { IfOk result (Readies plain.old plain.new) }
 {

@@ -1,5 +1,6 @@
 -- An engine, as contracts see it: a model at work.
 use Rattle.std.specs.Prelude.{ℕ, ◌<◌, ◌^◌, Bool, length}
+use Rattle.dsde_values.specs.When.{IsMoment}
 use Rattle.dsde_first.specs.declared.first.FirstModel.{FirstModel}
 use Rattle.dsde_values.specs.declared.when.When.{When}
 use Rattle.dsde_values.specs.declared.when.When.TheVariants.{At, Never}
@@ -19,7 +20,7 @@ pub record Engine : Type 0 where
 
 -- not past the last moment of a run
 abbrev pub IsInTime : When → Type 0
-IsInTime (At time) = time < 2 ^ 63
+IsInTime (At time) = IsMoment time
 IsInTime Never = Unit {0}
 
 -- fewer ports in each direction than there are numbers of 32 bits

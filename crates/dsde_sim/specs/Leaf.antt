@@ -17,7 +17,6 @@ use Rattle.dsde_sim.specs.declared.fault.Site.{Site}
 use Rattle.dsde_sim.specs.declared.fault.Site.TheVariants.{Init, Advance, Output, Internal, External, Confluent}
 use Rattle.dsde_sim.specs.declared.leaf.Sent.{Sent}
 use Rattle.dsde_sim.specs.declared.leaf.Leaf.{Leaf}
-use Rattle.dsde_sim.specs.declared.leaf.TheConstants.{MOST_VALUES}
 use Rattle.dsde_sim.specs.declared.mean.Input.{Input}
 use Rattle.dsde_sim.specs.Meaning.{◌>>=◌, no_input, fitting, sum_value, block}
 
@@ -71,7 +70,7 @@ sends model state (send ∷ later) =
 
 -- too many values came at one in port
 abbrev pub is_flooded : List (List ℤ) → Bool
-is_flooded got = list_any (λ values. nat_lt MOST_VALUES (length values)) got
+is_flooded got = list_any (λ values. nat_lt 65_536 (length values)) got
 
 -- a block that sees the input
 abbrev pub seeing : FirstModel → List ℤ → Input → List FirstSet → Result (List ℤ) FaultKind

@@ -1,5 +1,6 @@
 ghost use Rattle.std.specs.Prelude.{◌≡◌, ◌<◌, ◌≤◌, ◌^◌, ◌++◌, length, position, IfSome, IfOk};
 ghost use Rattle.std.specs.Str.{bytes_eq};
+ghost use Rattle.dsde_values.specs.When.{IsMoment};
 ghost use Rattle.dsde_sim.specs.Engine.{IsInTime};
 ghost use Rattle.dsde_sim.specs.Leaf.{init, due, settled, port_of, sends, is_flooded, seeing, internal, external, confluent, transition, has_come, kind_of, start_leaf, output_leaf, move_leaf, at_site, Gives};
 ghost use Rattle.dsde_sim.specs.Meaning.{block};
@@ -47,7 +48,7 @@ fn init(alloc: Global, states: &[FirstState]) -> Result<Seq<i64>, LeafEnd>
 /// When a leaf of this state that has an event at `time` is due next: never, where its model has no
 /// advance.
 fn due(alloc: Global, model: &FirstModel, state: &[i64], time: u64) -> Result<When, FaultKind>
-    requires { time < 2 ^ 63 }
+    requires { IsMoment time }
     ensures value { result ≡ due model.now state.now time }
     ensures in_time { IfOk result IsInTime }
 {
@@ -101,7 +102,7 @@ fn sends(alloc: Global, model: &FirstModel, state: &[i64]) -> Result<Seq<Sent>, 
 
 /// The leaf in this state after an event at `time`.
 fn settled(alloc: Global, model: &FirstModel, state: Seq<i64>, time: u64) -> Result<Leaf, LeafEnd>
-    requires { time < 2 ^ 63 }
+    requires { IsMoment time }
     ensures value { result ≡ at_site Site.Advance (settled model.now state time) }
     ensures in_time { IfOk result (λ leaf. IsInTime leaf.next) }
 {
@@ -117,7 +118,7 @@ fn settled(alloc: Global, model: &FirstModel, state: Seq<i64>, time: u64) -> Res
 
 /// A leaf that starts at `time`: its state variables in their order, then its advance.
 pub(crate) fn start_leaf(alloc: Global, model: &FirstModel, time: u64) -> Result<Leaf, LeafEnd>
-    requires { time < 2 ^ 63 }
+    requires { IsMoment time }
     ensures value { Gives (start_leaf model.now time) result }
     ensures in_time { IfOk result (λ leaf. IsInTime leaf.next) }
 {
@@ -168,7 +169,7 @@ pub(crate) fn move_leaf(
     time: u64,
     got: Seq<Seq<i64>>,
 ) -> Result<Leaf, LeafEnd>
-    requires { time < 2 ^ 63 }
+    requires { IsMoment time }
     ensures value { Gives (move_leaf model.now leaf.now kind time got) result }
     ensures in_time { IfOk result (λ leaf. IsInTime leaf.next) }
 {

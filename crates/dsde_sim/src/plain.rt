@@ -1,6 +1,7 @@
 ghost use Rattle.std.specs.Prelude.{◌≡◌, ◌<◌, ◌≤◌, ◌^◌, ◌++◌, false, length, take, is_err, Result, Ok, Err, IfOk, IfErr, IfSome, OnOk};
 ghost use Rattle.std.specs.Option.{option_copied};
 ghost use Rattle.std.specs.List.{flat_map, range_with_len};
+ghost use Rattle.dsde_values.specs.When.{IsMoment};
 ghost use Rattle.dsde_sim.specs.Engine.{HasFewPorts, IsInTime};
 ghost use Rattle.dsde_sim.specs.Turn.{start, advance, turn, turn_time, is_taken, items_at, output_phase, move_phase, take_move, outs, outs_at, whole, received, values_at, gets, gets_at, at_root, IsAtRoot, Tells, IsCut};
 
@@ -192,7 +193,7 @@ fn move_phase(
     got: Seq<Seq<i64>>,
     events: &mut Seq<Event>,
 ) -> Result<Leaf, TurnEnd>
-    requires time { time < 2 ^ 63 }
+    requires time { IsMoment time }
     requires ports { length got < 2 ^ 32 }
     requires in_time { IsInTime leaf.now.next }
     ensures told { Tells (move_phase model.now leaf.now time got) events.old events.new result }
@@ -214,7 +215,7 @@ fn take_move(
     got: Seq<Seq<i64>>,
     events: &mut Seq<Event>,
 ) -> Result<Leaf, TurnEnd>
-    requires time { time < 2 ^ 63 }
+    requires time { IsMoment time }
     requires ports { length got < 2 ^ 32 }
     ensures told { Tells (take_move model.now leaf.now kind time got) events.old events.new result }
     ensures in_time { IfOk result (λ moved. IsInTime moved.next) }
@@ -239,7 +240,7 @@ fn receive(
     events: &mut Seq<Event>,
 ) -> Result<Leaf, TurnEnd>
     requires ports { HasFewPorts model.now }
-    requires time { time < 2 ^ 63 }
+    requires time { IsMoment time }
     requires in_time { IsInTime leaf.now.next }
     ensures told { Tells (move_phase model.now leaf.now time (received (length model.now.ins) items.now)) events.old events.new result }
     ensures in_time { IfOk result (λ moved. IsInTime moved.next) }
@@ -259,7 +260,7 @@ fn turn(
     events: &mut Seq<Event>,
 ) -> Result<Leaf, TurnEnd>
     requires ports { HasFewPorts model.now }
-    requires time { time < 2 ^ 63 }
+    requires time { IsMoment time }
     requires in_time { IsInTime leaf.now.next }
     ensures told { Tells (turn model.now leaf.now number time items.now) events.old events.new result }
     ensures in_time { IfOk result (λ moved. IsInTime moved.next) }
@@ -341,7 +342,7 @@ impl<'p> Plain<'p> {
     ) -> Result<Step, TurnEnd>
         requires fresh { self.old.spent ≡ false }
         requires turns { self.old.turn < 2 ^ 63 }
-        requires head { IfSome (option_copied head) (λ arrival. arrival.time < 2 ^ 63) }
+        requires head { IfSome (option_copied head) (λ arrival. IsMoment arrival.time) }
         ensures ok { IfOk result (λ step. Tells (advance self.old (option_copied head.entry)) events.old events.new (Ok (step, self.new))) }
         ensures err { IfErr result (λ end. Tells (advance self.old (option_copied head.entry)) events.old events.new (Err end)) }
         ensures spent { self.new.spent ≡ is_err result }
