@@ -4,6 +4,10 @@
 //! standard input as its source, and standard output and error as its sinks.
 #![tactic(auto)]
 
+ghost use Rattle.std.specs.Prelude.{◌≡◌};
+ghost use Rattle.std.specs.Process.{exit_status};
+ghost use Rattle.dsde_cli.specs.Note.{number_of};
+
 use dsde_cli::{Status, dsde, report};
 use dsde_io::{FileShelf, StreamSink, StreamSource};
 use std::io::ErrorKind;
@@ -12,24 +16,29 @@ use std::rt::Env;
 use std::{env, io};
 
 fn main(rt: HostRuntime) -> ExitCode {
+    exit_code(run(&rt))
+}
+
+/// Does what the words after the program's name ask for.
+fn run(rt: &HostRuntime) -> Status {
     let alloc = rt.alloc();
     let mut notes = StreamSink::new(rt.stderr());
-    let words = match read_words(&rt) {
+    let words = match read_words(rt) {
         Ok(words) => words,
         Err(error) if error.kind() == ErrorKind::OutOfMemory => {
-            return exit_code(report(alloc, Status::Memory, &mut notes));
+            return report(alloc, Status::Memory, &mut notes);
         }
         // Words that are no text spell no command.
         Err(_) => Vec::new(alloc),
     };
-    exit_code(dsde(
+    dsde(
         alloc,
         words.as_slice(),
-        &mut FileShelf::new(&rt),
+        &mut FileShelf::new(rt),
         &mut StreamSource::new(rt.stdin()),
         &mut StreamSink::new(rt.stdout()),
         &mut notes,
-    ))
+    )
 }
 
 /// The words after the program's name.
@@ -41,6 +50,9 @@ fn read_words(rt: &(impl Env + AllocGlobal)) -> io::Result<Vec<String>> {
     Ok(words)
 }
 
-fn exit_code(status: Status) -> ExitCode {
+/// The program ends with the status's number.
+fn exit_code(status: Status) -> ExitCode
+    ensures { exit_status result ≡ number_of status }
+{
     ExitCode::from(status.number())
 }
