@@ -6,7 +6,7 @@ use Rattle.dsde_values.specs.declared.arrival.Arrival.{Arrival}
 use Rattle.dsde_input.specs.declared.end.InputEnd.{InputEnd}
 use Rattle.dsde_input.specs.declared.end.InputEnd.TheVariants as input_end
 use Rattle.dsde_input.specs.Records.{Records, end, bad, one}
-use Rattle.dsde_input.specs.Reader.{Reader, to_come, records, has_line, IsOffence, IsOneLine, Moves, TakesOfLine, TakesLine}
+use Rattle.dsde_input.specs.Reader.{Reader, to_come, records, has_line, IsOffence, IsOneLine, Moves, TakesOfLine, TakesLine, SeesEnd}
 use Rattle.dsde_input.specs.Reader as input
 use Rattle.dsde_run.specs.declared.heads.Heads.{Heads}
 use Rattle.dsde_run.specs.Heads.{IsReady, Takes, Gives, Asked, Refused, behind_head}
@@ -66,11 +66,13 @@ asked_heads heads reader found = record heads { reader = reader; head = found }
 gives : (heads : Heads) (reader : Reader) (arrival : Arrival) (before after : List ℕ) → IsReady heads.reader →
     behind_head heads before ≡ one arrival (behind_head (asked_heads heads reader (Some arrival)) after) →
     TakesOfLine heads.reader.held before after → (reader.ended ≡ false → TakesLine heads.reader.held before after) →
-    (has_line heads.reader ≡ true → Some after ≡ Some before) → Gives heads (asked_heads heads reader (Some arrival)) arrival before after
-gives heads reader arrival before after ready first of_line line idle = record {
+    (has_line heads.reader ≡ true → Some after ≡ Some before) → (heads.reader.ended ≡ false → reader.ended ≡ true → after ≡ []) →
+    Gives heads (asked_heads heads reader (Some arrival)) arrival before after
+gives heads reader arrival before after ready first of_line line idle over = record {
   takes = takes heads.reader before after ready of_line idle;
   first = first;
   unended = unended_by heads.reader.ended heads before refl ready (λ none. let both = sym first ∙ none in absurd (cc both));
+  last = over (unended_by heads.reader.ended heads before refl ready (λ none. let both = sym first ∙ none in absurd (cc both)));
   whole = λ unended.
       let all = line unended in
       let is_all : of_line.piece ≡ all.line ++ 10 ∷ [] = append_cancel_right of_line.piece (all.line ++ 10 ∷ []) after
@@ -86,16 +88,18 @@ pub asked : (heads : Heads) (reader : Reader) (found : Option Arrival) (left res
     OnSome found (reader.ended ≡ false → IfSome left (λ before. IsSomeAnd rest (λ after. TakesLine heads.reader.held before after))) →
     (found ≡ None → reader.ended ≡ true) →
     (has_line heads.reader ≡ true → rest ≡ left) →
+    SeesEnd heads.reader reader left rest →
     Told left rest (Asked None found heads (asked_heads heads reader found))
-asked heads reader found None rest ready tells of_line line over idle = tt
-asked heads reader found (Some before) None ready tells of_line line over idle = absurd of_line
-asked heads reader (Some arrival) (Some before) (Some after) ready tells of_line line over idle =
-    gives heads reader arrival before after ready tells of_line line idle
-asked heads reader None (Some before) (Some after) ready tells of_line line over idle = record {
+asked heads reader found None rest ready tells of_line line over idle sees = tt
+asked heads reader found (Some before) None ready tells of_line line over idle sees = absurd of_line
+asked heads reader (Some arrival) (Some before) (Some after) ready tells of_line line over idle sees =
+    gives heads reader arrival before after ready tells of_line line idle sees
+asked heads reader None (Some before) (Some after) ready tells of_line line over idle sees = record {
   takes = takes heads.reader before after ready of_line idle;
   before_end = tells.0;
   at_end = tells.1;
   over = over refl;
+  read_out = λ unended. sees unended (over refl);
 }
 
 -- an offence is the first of what is to come

@@ -34,7 +34,7 @@ begins-preceded events part whole begins = record {
 }
 
 -- what comes behind a turn, by what the turn came to
-abbrev behind_turn : Engine → Option Arrival → (Bool → Engine → Run) → Result (Step × Engine) TurnEnd → Run
+abbrev pub behind_turn : Engine → Option Arrival → (Bool → Engine → Run) → Result (Step × Engine) TurnEnd → Run
 behind_turn engine head later answer = elim answer [
   | Ok answer ↦ elim answer.0 [
     | Turned took_input ↦ later took_input answer.1

@@ -1,7 +1,9 @@
 pub mod Asking
 pub mod Cutting
 pub mod Feeds
+pub mod Fronts
 pub mod Ports
+pub mod Quiet
 pub mod RunLemmas
 pub mod Standing
 pub mod Starting

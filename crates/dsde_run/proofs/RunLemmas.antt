@@ -68,13 +68,37 @@ Tells-ended model whole how turns time old new is written = record {
   end = ap (λ run. run.end) is;
 }
 
+-- what is written of a run before a step, and what is written of it in the end
+pub GoesOn-text : {model : FirstModel} {whole rest : Run} {old new : List ℕ} → GoesOn model whole rest old new →
+    old ++ trace_text model whole.events ≡ new ++ trace_text model rest.events
+GoesOn-text {model} {whole} {rest} {old} {new} goes =
+    ap (λ text. old ++ text) goes.text
+    ∙ sym (append_assoc old goes.piece (trace_text model rest.events))
+    ∙ ap (λ text. text ++ trace_text model rest.events) (sym goes.gained)
+
+-- the text of events that were told, and of the rest of a run
+pub text-told : (model : FirstModel) (events told : List Event) (rest whole : Run) → whole ≡ preceded events rest → told ≡ events →
+    trace_text model whole.events ≡ trace_text model told ++ trace_text model rest.events
+text-told model events told rest whole is all =
+    ap (λ run. trace_text model run.events) is
+    ∙ flat_map-append (event_text model) events rest.events
+    ∙ ap (λ events. trace_text model events ++ trace_text model rest.events) (sym all)
+
 -- one step of a run, and the next
 pub GoesOn-then : (model : FirstModel) (first second third : Run) (old mid new : List ℕ) → GoesOn model first second old mid → GoesOn model second third mid new → GoesOn model first third old new
-GoesOn-then model first second third old mid new here there = record { text = here.text ∙ there.text; end = here.end ∙ there.end }
+GoesOn-then model first second third old mid new here there = record {
+  piece = here.piece ++ there.piece;
+  gained = there.gained ∙ ap (λ text. text ++ there.piece) here.gained ∙ append_assoc old here.piece there.piece;
+  text =
+      here.text
+      ∙ ap (λ text. here.piece ++ text) there.text
+      ∙ sym (append_assoc here.piece there.piece (trace_text model third.events));
+  end = here.end ∙ there.end;
+}
 
 -- a step of a run, and its end
 pub Tells-behind : (model : FirstModel) (one two : Run) (how : Finish) (old mid new : List ℕ) → GoesOn model one two old mid → Tells model two mid new how → Tells model one old new how
-Tells-behind model one two how old mid new first tells = record { text = tells.text ∙ sym first.text; end = first.end ∙ tells.end }
+Tells-behind model one two how old mid new first tells = record { text = tells.text ∙ sym (GoesOn-text first); end = first.end ∙ tells.end }
 
 -- one turn, and what comes later
 pub GoesOn-turned : (model : FirstModel) (before after : Engine) (head : Option Arrival) (result : Result Step TurnEnd) (step : Step) (took_input : Bool)
@@ -88,10 +112,11 @@ GoesOn-turned model before after head result step took_input begun told old new 
     (IfOk-at_ok (λ step. turn.Tells (advance before head) begun told (Ok (step, after))) is_ok told_it) in
     let at_end : (advance before head).end ≡ Ok (Turned took_input, after) = tells.1 ∙ ap (λ step. Ok (step, after)) is_turned in
     record {
+      piece = trace_text model told;
+      gained = written;
       text =
-          ap (λ run. old ++ trace_text model run.events) (turn_on-turned before after head took_input later at_end)
-          ∙ text-preceded model (advance before head).events (later took_input after) old new
-          (written ∙ ap (λ events. old ++ trace_text model events) tells.0);
+          text-told model (advance before head).events told (later took_input after) (turn_on before head later)
+          (turn_on-turned before after head took_input later at_end) tells.0;
       end = ap (λ run. run.end) (turn_on-turned before after head took_input later at_end);
     }
 
@@ -112,10 +137,9 @@ Tells-quiet model before after head result step answer turns time begun told old
     Tells-ended model (ended how.Quiet before.turn before.time) how.Quiet before.turn before.time mid new refl
     (finished ∙ ap (λ turns. mid ++ end_text how.Quiet turns time) is_turns ∙ ap (λ time. mid ++ end_text how.Quiet before.turn time) is_time) in
     let goes : GoesOn model (turn_on before head later) (ended how.Quiet before.turn before.time) old mid = record {
-      text =
-          ap (λ run. old ++ trace_text model run.events) whole
-          ∙ text-preceded model (advance before head).events (ended how.Quiet before.turn before.time) old mid
-          (written ∙ ap (λ events. old ++ trace_text model events) tells.0);
+      piece = trace_text model told;
+      gained = written;
+      text = text-told model (advance before head).events told (ended how.Quiet before.turn before.time) (turn_on before head later) whole tells.0;
       end = ap (λ run. run.end) whole;
     } in
     subst (Tells model (turn_on before head later) old new) (sym is_answer)

@@ -1,5 +1,5 @@
 -- A run before a turn, and what each step does to it.
-use Rattle.std.proofs.Common.{◌≡◌, ◌≢◌, ℕ, suc, ◌+◌, Bool, true, false, cond, List, [], ◌∷◌, ◌++◌, length, refl, sym, ◌∙◌, ap, arith, append_assoc, length-append}
+use Rattle.std.proofs.Common.{◌≡◌, ◌≢◌, ℕ, suc, ◌+◌, Bool, true, false, cond, List, [], ◌∷◌, ◌++◌, length, refl, sym, subst, ◌∙◌, ap, arith, append_assoc, length-append}
 use Rattle.std.specs.Prelude.{Option, Some, None, IfSome}
 use Rattle.std.proofs.lemmas.List.{append-nil}
 use Rattle.dsde_first.specs.declared.first.FirstModel.{FirstModel}
@@ -13,12 +13,13 @@ use Rattle.dsde_sim.specs.Text.{trace_text}
 use Rattle.dsde_run.specs.declared.heads.Heads.{Heads}
 use Rattle.dsde_run.specs.declared.run.After.TheVariants.{Turned, Ended}
 use Rattle.dsde_run.specs.Heads.{IsReady, Gives, Ends, Asked, Refused, with_head, behind_head, passed}
-use Rattle.dsde_run.specs.Reading.{Told, feeds, front, cut_after, TakesWanted, IsCutShort}
+use Rattle.dsde_run.specs.Reading.{Told, feeds, front, cut_after, TakesWanted, IsCutShort, IsFront}
 use Rattle.dsde_run.specs.Run.{Run, go, turn_on, offended}
 use Rattle.dsde_run.specs.Steps.{Tells, GoesOn, Turns, Stops, ahead, Stands}
 use Rattle.dsde_run.proofs.Asking.{none_to_come}
 use Rattle.dsde_run.proofs.Feeds.{feeds-append, front-append}
-use Rattle.dsde_run.proofs.RunLemmas.{GoesOn-then, Tells-behind, Tells-ended}
+use Rattle.dsde_run.proofs.Fronts.{IsFront-gone, IsFront-behind}
+use Rattle.dsde_run.proofs.RunLemmas.{GoesOn-text, GoesOn-then, Tells-behind, Tells-ended}
 
 -- one record more
 ahead-more : (given : List Arrival) (arrival : Arrival) (later : Records) → ahead (given ++ arrival ∷ []) later ≡ ahead given (one arrival later)
@@ -43,6 +44,12 @@ Told-weaker None rest first weaker = tt
 Told-weaker (Some before) None first weaker = absurd first
 Told-weaker (Some before) (Some after) first weaker = weaker before after first
 
+pub Told-both : (left rest : Option (List ℕ)) {P Q R : List ℕ → List ℕ → Type 0} → Told left rest P → Told left rest Q →
+    ((before after : List ℕ) → P before after → Q before after → R before after) → Told left rest R
+Told-both None rest first second both = tt
+Told-both (Some before) None first second both = absurd first
+Told-both (Some before) (Some after) first second both = both before after first second
+
 -- What holds where nothing was taken.
 pub Told-same : (left : Option (List ℕ)) (P : List ℕ → List ℕ → Type 0) → ((bytes : List ℕ) → P bytes bytes) → Told left left P
 Told-same None P same = tt
@@ -63,7 +70,7 @@ module _ (model : FirstModel) (tells : Records → Run) where
     known = refl;
     whole = λ unended. refl;
     wanted = λ some. absurd (some refl);
-    goes = λ later over. rw none (record { text = refl; end = refl });
+    goes = λ later over. rw none (record { piece = []; gained = sym (append-nil text); text = refl; end = refl });
   }
 
   module _ (rest : Records → Run) (cuts : (rest (bad ReadFault)).end ≡ None) (all : Records) (heads : Heads) (old text before mid : List ℕ)
@@ -167,7 +174,7 @@ module _ (model : FirstModel) (tells : Records → Run) where
           taken = stands.taken ++ refused.takes.piece;
           split = split_more refused.takes.piece after refused.takes.split;
           text =
-              same ∙ sym (append-nil text) ∙ ap (λ events. text ++ trace_text model events) (sym nothing) ∙ sym goes.text
+              same ∙ sym (append-nil text) ∙ ap (λ events. text ++ trace_text model events) (sym nothing) ∙ sym (GoesOn-text goes)
               ∙ ap (λ records. old ++ trace_text model (tells records).events) (sym whole);
           cut = ap (λ records. (tells records).end) whole ∙ goes.end ∙ cuts;
         }
@@ -189,6 +196,14 @@ module _ (model : FirstModel) (tells : Records → Run) where
       GoesOn model (tells all) (rest (with_head heads.head (behind_head heads after))) old text
   all-stands rest all heads old text before after stands ready =
       rw (← stands.known) at (stands.goes (behind_head heads after) (none_to_come heads after ready))
+
+  -- What was written is a front of what the run tells.
+  pub front-stands : (rest : Records → Run) (all : Records) (heads : Heads) (old text new before after : List ℕ) → Stands model tells rest all heads old text before after → IsReady heads.reader →
+      new ≡ text → IsFront old new (trace_text model (tells all).events)
+  front-stands rest all heads old text new before after stands ready same =
+      subst (λ new. IsFront old new (trace_text model (tells all).events)) (sym same)
+      (IsFront-gone model (tells all) (rest (with_head heads.head (behind_head heads after))) old text
+      (all-stands rest all heads old text before after stands ready))
 
   -- It ends at its bound.
   pub tells-bound : (rest : Records → Run) (all : Records) (heads : Heads) (how : Finish) (old text new before after : List ℕ) → Stands model tells rest all heads old text before after → IsReady heads.reader →
@@ -235,6 +250,16 @@ module _ (model : FirstModel) (tells : Records → Run) where
           GoesOn-then model (tells (ahead stands.given later)) (turn_on engine heads.head (later_on heads.head later))
           (go turns (with_head (cond took_input None heads.head) later) after_engine) old text new first second;
     }
+
+    -- Memory ran out in a turn.
+    pub front-turned : (all : Records) (old text new before after : List ℕ) →
+        Stands model tells (λ records. go (suc turns) records engine) all heads old text before after → IsReady heads.reader → (heads.head ≡ None → heads.reader.ended ≡ true) →
+        ((later : Bool → Engine → Run) → IsFront text new (trace_text model (turn_on engine heads.head later).events)) → IsFront old new (trace_text model (tells all).events)
+    front-turned all old text new before after stands ready over front =
+        let none : heads.head ≡ None → behind_head heads after ≡ end = λ none. none_to_come heads after ready (over none) in
+        let first = rw (go-turn_on heads.head (behind_head heads after) none) at (all-stands (λ records. go (suc turns) records engine) all heads old text before after stands ready) in
+        IsFront-behind model (tells all) (turn_on engine heads.head (later_on heads.head (behind_head heads after))) old text new first
+        (front (later_on heads.head (behind_head heads after)))
 
     -- The run ended with a turn.
     pub tells-ended : (all : Records) (after_engine : Engine) (how : Finish) (old text new before after : List ℕ) →

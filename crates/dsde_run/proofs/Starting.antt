@@ -11,7 +11,7 @@ use Rattle.dsde_sim.specs.Turn as turn
 use Rattle.dsde_run.specs.Reading.{Told, TakesWanted, IsCutShort}
 use Rattle.dsde_run.specs.Run.{Run, run, go}
 use Rattle.dsde_run.specs.Steps.{GoesOn}
-use Rattle.dsde_run.proofs.RunLemmas.{run-started, text-preceded}
+use Rattle.dsde_run.proofs.RunLemmas.{GoesOn-text, run-started, text-told}
 
 -- the start of a run comes before its turns
 pub GoesOn-start : (model : FirstModel) (turns : ℕ) (engine : Engine) (begun told : List Event) (old new : List ℕ) →
@@ -21,9 +21,9 @@ GoesOn-start model turns engine begun told old new empty tells written records =
     let all : told ≡ (start model).events = tells.0 ∙ ap (λ events. events ++ (start model).events) empty in
     let whole = run-started model records turns engine tells.1 in
     record {
-      text =
-          ap (λ run. old ++ trace_text model run.events) whole
-          ∙ text-preceded model (start model).events (go turns records engine) old new (written ∙ ap (λ events. old ++ trace_text model events) all);
+      piece = trace_text model told;
+      gained = written;
+      text = text-told model (start model).events told (go turns records engine) (run model records turns) whole all;
       end = ap (λ run. run.end) whole;
     }
 
@@ -34,7 +34,7 @@ pub IsCutShort-behind : (model : FirstModel) (tells rest : Records → Run) (rec
 IsCutShort-behind model tells rest records old mid new before after goes short = record {
   taken = short.taken;
   split = short.split;
-  text = short.text ∙ sym (goes _).text;
+  text = short.text ∙ sym (GoesOn-text (goes _));
   cut = (goes _).end ∙ short.cut;
 }
 

@@ -41,6 +41,7 @@ pub record Gives (old new : Heads) (arrival : Arrival) (before after : List ℕ)
   pub first : behind_head old before ≡ one arrival (behind_head new after)
   pub unended : old.reader.ended ≡ false
   pub whole : new.reader.ended ≡ false → feeds takes.piece ≡ 1
+  pub last : new.reader.ended ≡ true → after ≡ []
 
 -- The input is at its end.
 pub record Ends (old new : Heads) (before after : List ℕ) : Type 0 where
@@ -48,6 +49,7 @@ pub record Ends (old new : Heads) (before after : List ℕ) : Type 0 where
   pub before_end : behind_head old before ≡ end
   pub at_end : behind_head new after ≡ end
   pub over : new.reader.ended ≡ true
+  pub read_out : old.reader.ended ≡ false → after ≡ []
 
 -- The head that was asked for is there, or the input is at its end.
 abbrev pub Asked : Option Arrival → Option Arrival → Heads → Heads → List ℕ → List ℕ → Type 0

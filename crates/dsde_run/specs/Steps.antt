@@ -22,7 +22,9 @@ pub record Tells (model : FirstModel) (run : Run) (old new : List ℕ) (how : Fi
 
 -- The text gained what a run tells before the rest of it.
 pub record GoesOn (model : FirstModel) (whole rest : Run) (old new : List ℕ) : Type 0 where
-  pub text : old ++ trace_text model whole.events ≡ new ++ trace_text model rest.events
+  pub piece : List ℕ
+  pub gained : new ≡ old ++ piece
+  pub text : trace_text model whole.events ≡ piece ++ trace_text model rest.events
   pub end : whole.end ≡ rest.end
 
 -- One turn is done, or the run ended with it, whatever comes later.

@@ -1,14 +1,14 @@
-ghost use Rattle.std.specs.Prelude.{ℕ, ◌≡◌, ◌+◌, ◌<◌, ◌≤◌, ◌^◌, ◌++◌, false, unwrap_or, OnOk, IfOk, IfSome, IsErrOf};
+ghost use Rattle.std.specs.Prelude.{ℕ, ◌≡◌, ◌+◌, ◌<◌, ◌≤◌, ◌^◌, [], ◌++◌, Bool, false, unwrap_or, OnOk, IfOk, OnErr, IfSome, IsErrOf};
 ghost use Rattle.std.specs.Option.{option_copied};
 ghost use Rattle.dsde_values.specs.When.{IsMoment};
 ghost use Rattle.dsde_io.specs.Fault.{Rose};
 ghost use Rattle.dsde_input.specs.Record.{ArePorts};
-ghost use Rattle.dsde_sim.specs.Engine.{HasFewPorts};
+ghost use Rattle.dsde_sim.specs.Engine.{Engine, HasFewPorts};
 ghost use Rattle.dsde_sim.specs.Text.{end_text, trace_text};
 ghost use Rattle.dsde_first.specs.First.{IsFirst};
 ghost use Rattle.dsde_run.specs.Heads.{IsReady, behind_head};
 ghost use Rattle.dsde_run.specs.Reading.{Told, TakesWanted, IsCutShort, IsFront};
-ghost use Rattle.dsde_run.specs.Run.{run, go, faulted, ended, records_in};
+ghost use Rattle.dsde_run.specs.Run.{Run, run, go, turn_on, faulted, ended, records_in};
 ghost use Rattle.dsde_run.specs.Steps.{Tells, Turns, Readies, Stops};
 
 use crate::heads::Heads;
@@ -50,7 +50,8 @@ enum After {
 ///
 /// Answers how the run ended, whose line is the last. `ReadFault` comes where a read failed before
 /// all was there of a line that a turn wants: then the lines before that turn were appended.
-/// Without memory some of the text was appended. No byte of the input is taken that no turn wants.
+/// Without memory some of the text was appended, from its front. No byte of the input is taken that
+/// no turn wants, and where the run falls quiet, none is left.
 pub fn run_model<R: Source>(
     alloc: Global,
     model: &FirstModel,
@@ -67,10 +68,11 @@ pub fn run_model<R: Source>(
         Tells model.now (run model.now (records_in model.now bytes) turns) text.old text.new how)) }
     ensures cut { IsErrOf result Cut.ReadFault → Told (R.left source.old) (R.left source.new) (λ before.
         IsCutShort model.now (λ records. run model.now records turns) (records_in model.now before) text.old text.new before) }
-    ensures front { IsErrOf result Cut.ReadFault → IfSome (R.left source.old) (λ bytes.
-        IsFront text.old text.new (trace_text model.now (run model.now (records_in model.now bytes) turns).events)) }
+    ensures front { OnErr result (IfSome (R.left source.old) (λ bytes.
+        IsFront text.old text.new (trace_text model.now (run model.now (records_in model.now bytes) turns).events))) }
     ensures taken { Told (R.left source.old) (R.left source.new) (λ before.
         TakesWanted (λ records. run model.now records turns) (records_in model.now before) before) }
+    ensures quiet { result ≡ Ok Finish.Quiet → Told (R.left source.old) (R.left source.new) (λ _ after. after ≡ []) }
 
     ensures cause { IsErrOf result Cut.ReadFault → Rose (R.faults source.old) (R.faults source.new) }
     ensures counted { R.faults source.old ≤ R.faults source.new }
@@ -113,8 +115,12 @@ fn go<R: Source>(
         Tells model.now (go turns (behind_head heads before) plain.entry) text.old text.new how)) }
     ensures cut { IsErrOf result Cut.ReadFault → Told (R.left source.old) (R.left source.new) (λ before.
         IsCutShort model.now (λ records. go turns records plain.entry) (behind_head heads before) text.old text.new before) }
+    ensures front { IsErrOf result Cut.Memory → Told (R.left source.old) (R.left source.new) (λ before _.
+        IsFront text.old text.new (trace_text model.now (go turns (behind_head heads before) plain.entry).events)) }
     ensures taken { Told (R.left source.old) (R.left source.new) (λ before.
         TakesWanted (λ records. go turns records plain.entry) (behind_head heads before) before) }
+    ensures quiet { heads.reader.ended ≡ false → result ≡ Ok Finish.Quiet
+        → Told (R.left source.old) (R.left source.new) (λ _ after. after ≡ []) }
 
     ensures cause { IsErrOf result Cut.ReadFault → Rose (R.faults source.old) (R.faults source.new) }
     ensures counted { R.faults source.old ≤ R.faults source.new }
@@ -146,6 +152,8 @@ fn turn(
     requires head { IfSome (option_copied head) (λ arrival. IsMoment arrival.time) }
     ensures turns { IfOk result (Turns model.now plain.old (option_copied head.entry) plain.new text.old text.new) }
     ensures readies { IfOk result (Readies plain.old plain.new) }
+    ensures front { OnErr result ((later : Bool → Engine → Run) →
+        IsFront text.old text.new (trace_text model.now (turn_on plain.old (option_copied head.entry) later).events)) }
 {
     let done = plain.turn();
     let last = plain.time();
@@ -185,6 +193,7 @@ fn finish_of(end: TurnEnd) -> Result<Finish, Memory>
 fn stop(why: InputEnd, turns: u64, time: u64, text: &mut Text) -> Result<Finish, Cut>
     ensures ok { IfOk result (Stops why turns time text.old text.new) }
     ensures cut { IsErrOf result Cut.ReadFault → (why ≡ InputEnd.ReadFault) × (text.new ≡ text.old) }
+    ensures kept { OnErr result (text.new ≡ text.old) }
 {
     let (kind, line) = match why {
         InputEnd::BadLine(line) => (InputKind::BadLine, line),
@@ -198,14 +207,17 @@ fn stop(why: InputEnd, turns: u64, time: u64, text: &mut Text) -> Result<Finish,
 
 /// Appends the last line of a trace, and hands back how the run ended.
 fn finish(how: Finish, turns: u64, time: u64, text: &mut Text) -> Result<Finish, Memory>
-    ensures { IfOk result (λ answer. (answer ≡ how) × (text.new ≡ text.old ++ end_text how turns time)) }
+    ensures ok { IfOk result (λ answer. (answer ≡ how) × (text.new ≡ text.old ++ end_text how turns time)) }
+    ensures err { OnErr result (text.new ≡ text.old) }
 {
     write_end(&how, turns, time, text)?;
     Ok(how)
 }
 
+/// Appends the lines of events. Without memory those of the first of them are appended.
 fn write_events(events: &[Event], model: &FirstModel, text: &mut Text) -> Result<(), Memory>
-    ensures { OnOk result (text.new ≡ text.old ++ trace_text model.now events.now) }
+    ensures ok { OnOk result (text.new ≡ text.old ++ trace_text model.now events.now) }
+    ensures front { OnErr result (IsFront text.old text.new (trace_text model.now events.now)) }
 {
     for event in events {
         write_event(event, model, text)?;

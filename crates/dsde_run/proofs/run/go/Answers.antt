@@ -1,15 +1,18 @@
-use Rattle.std.proofs.Common.{◌≡◌, ◌+◌, ◌-◌, ◌++◌, ◌<◌, ◌^◌, zero, suc, refl, ap, sym, subst, ◌∙◌, arith}
-use Rattle.std.specs.Prelude.{IfSome}
+use Rattle.std.proofs.Common.{◌≡◌, ◌+◌, ◌-◌, [], ◌++◌, ◌<◌, ◌^◌, true, false, None, Ok, zero, suc, refl, ap, sym, subst, ◌∙◌, arith}
+use Rattle.std.specs.Prelude.{IfSome, IfOk}
 use Rattle.std.proofs.lemmas.Result.{IfOk-weaker}
 use Rattle.dsde_sim.specs.declared.event.Finish.TheVariants as how
-use Rattle.dsde_sim.specs.Text.{end_text}
+use Rattle.dsde_sim.specs.Text.{end_text, trace_text}
 use Rattle.dsde_run.specs.Heads.{IsReady, Refused, behind_head, passed}
-use Rattle.dsde_run.specs.Reading.{Told}
-use Rattle.dsde_run.specs.Run.{go, ended, offended}
+use Rattle.dsde_run.specs.Reading.{Told, IsFront}
+use Rattle.dsde_run.specs.Run.{go, turn_on, ended, offended}
 use Rattle.dsde_run.specs.declared.run.After.TheVariants.{Turned, Ended}
-use Rattle.dsde_run.specs.Steps.{Stands, Turns, IsNext}
+use Rattle.dsde_run.specs.declared.run.Cut.TheVariants as cut
+use Rattle.dsde_run.specs.Steps.{Stands, Stops, Turns, IsNext}
+use Rattle.dsde_run.proofs.Fronts.{kept_at}
+use Rattle.dsde_run.proofs.Quiet.{offence-not_quiet, ended-not_asked, told-read_out}
 use Rattle.dsde_run.proofs.RunLemmas.{Tells-ended}
-use Rattle.dsde_run.proofs.Standing.{Told-then, Told-weaker, Told-same, stands-first, stands-turned, taken-refused, tells-refused, cut-refused, taken-stands, tells-bound, tells-ended, told-asked, early-passed}
+use Rattle.dsde_run.proofs.Standing.{Told-then, Told-weaker, Told-both, Told-same, stands-first, stands-turned, taken-refused, tells-refused, cut-refused, taken-stands, tells-bound, tells-ended, told-asked, early-passed, front-stands, front-turned}
 use Rattle.dsde_run.proofs.run.go.Goals as goal
 
 pub loop-turn-init : goal.loop-turn-init
@@ -22,6 +25,9 @@ loop-turn-init g c =
           subst (λ left. Stands c.args.model.now (λ records. go c.args.turns records c.args.plain) (λ records. go left records c.args.plain)
           (behind_head c.args.heads bytes) c.args.heads c.args.text.now c.args.text.now bytes bytes) (sym none)
           (stands-first c.args.model.now (λ records. go c.args.turns records c.args.plain) c.args.heads c.args.text.now bytes c.requires.unasked));
+      over = Told-same (g.R.Source.left c.args.source.now)
+          (λ before after. c.args.heads.reader.ended ≡ false → c.args.heads.reader.ended ≡ true → after ≡ [])
+          (λ bytes unended ended. absurd (let two = sym unended ∙ ended in cc two));
       ready = c.requires.ready;
       early = subst (λ head. IfSome head (λ arrival. arrival.time < 2 ^ 63)) (sym c.requires.unasked) tt;
       ports = refl;
@@ -135,6 +141,11 @@ loop-turn-preserved g c =
           stands-turned c.args.model.now (λ records. go c.args.turns records c.args.plain) later c.loop-turn.plain c.ask.new.self
           (behind_head c.args.heads before) c.turn-in-loop-turn.new.plain took c.args.text.now c.loop-turn.text c.turn-in-loop-turn.new.text before after
           both.0 both.1 turned));
+      over = subst (λ heads. Told (g.R.Source.left c.args.source.now) (g.R.Source.left c.ask.new.source) (λ before after.
+          c.args.heads.reader.ended ≡ false → heads.reader.ended ≡ true → after ≡ [])) (sym heads)
+          (told-read_out (c.args.heads.reader.ended ≡ false) c.loop-turn.heads c.ask.new.self
+          (g.R.Source.left c.args.source.now) (g.R.Source.left c.loop-turn.source) (g.R.Source.left c.ask.new.source)
+          c.loop-turn.invariant.over c.in_default.ensures.asked);
       ready = subst (λ heads. IsReady heads.reader) (sym heads) c.in_default.ensures.ready;
       early = subst (λ heads. IfSome heads.head (λ arrival. arrival.time < 2 ^ 63)) (sym heads)
           (early-passed took c.ask.new.self.head (λ arrival. arrival.time < 2 ^ 63) c.in_default.ensures.early);
@@ -150,7 +161,7 @@ pub returns-clause-tells : goal.returns-clause-tells
 returns-clause-tells g c =
     let done : c.args.turns - c.loop-turn._turn ≡ 0 = omega arith in
     let plain = c.loop-turn.plain in
-    let finished = c.in_ok-finish.ensures in
+    let finished = c.in_ok-finish.ensures.ok in
     Told-weaker (g.R.Source.left c.args.source.now) (g.R.Source.left c.loop-turn.source) (rw done at c.loop-turn.invariant.stands)
     (λ before after stands.
     tells-bound c.args.model.now (λ records. go c.args.turns records c.args.plain) (λ records. go zero records plain)
@@ -163,3 +174,64 @@ returns-clause-tells g c =
     ∙ ap (λ how. c.loop-turn.text ++ end_text how c.turn-2.result c.time-2.result) (sym finished.0)
     ∙ ap (λ turns. c.loop-turn.text ++ end_text c.in_ok-finish.field-0 turns c.time-2.result) c.turn-2.ensures
     ∙ ap (λ time. c.loop-turn.text ++ end_text c.in_ok-finish.field-0 plain.turn time) c.time-2.ensures)))
+
+pub returns-in-Err-clause-front : goal.returns-in-Err-clause-front
+returns-in-Err-clause-front g c = λ is.
+    let later = c.args.turns - (c.loop-turn._turn + 1) in
+    let left : c.args.turns - c.loop-turn._turn ≡ suc (c.args.turns - (c.loop-turn._turn + 1)) = omega arith in
+    let kept : c.stop.new.text ≡ c.loop-turn.text = kept_at c.stop.result cut.Memory (c.stop.new.text ≡ c.loop-turn.text) is c.stop.ensures.kept in
+    Told-then (g.R.Source.left c.args.source.now) (g.R.Source.left c.loop-turn.source) (g.R.Source.left c.ask.new.source)
+    (rw left at c.loop-turn.invariant.stands) c.in-Err.ensures.refused
+    (λ before mid after stands refused.
+    front-stands c.args.model.now (λ records. go c.args.turns records c.args.plain) (λ records. go (suc later) records c.loop-turn.plain)
+    (behind_head c.args.heads before) c.loop-turn.heads c.args.text.now c.loop-turn.text c.stop.new.text before mid stands c.loop-turn.invariant.ready kept)
+
+pub returns-in_err-took_input-clause-front : goal.returns-in_err-took_input-clause-front
+returns-in_err-took_input-clause-front g c = λ is.
+    let later = c.args.turns - (c.loop-turn._turn + 1) in
+    let left : c.args.turns - c.loop-turn._turn ≡ suc (c.args.turns - (c.loop-turn._turn + 1)) = omega arith in
+    Told-weaker (g.R.Source.left c.args.source.now) (g.R.Source.left c.ask.new.source)
+    (told-asked c.args.model.now (λ records. go c.args.turns records c.args.plain) (λ records. go (suc later) records c.loop-turn.plain) refl
+    (behind_head c.args.heads) c.loop-turn.heads c.ask.new.self c.args.text.now c.loop-turn.text
+    (g.R.Source.left c.args.source.now) (g.R.Source.left c.loop-turn.source) (g.R.Source.left c.ask.new.source)
+    (rw left at c.loop-turn.invariant.stands) c.in_default.ensures.asked)
+    (λ before after both.
+    front-turned c.args.model.now (λ records. go c.args.turns records c.args.plain) later c.loop-turn.plain c.ask.new.self
+    (behind_head c.args.heads before) c.args.text.now c.loop-turn.text c.turn-in-loop-turn.new.text before after
+    both.0 c.in_default.ensures.ready both.1
+    (λ later.
+    subst (λ head. IsFront c.loop-turn.text c.turn-in-loop-turn.new.text (trace_text c.args.model.now (turn_on c.loop-turn.plain head later).events))
+    c.as_ref.ensures.value (c.in_err-took_input.ensures.front later)))
+
+pub returns-in_err-finish-clause-front : goal.returns-in_err-finish-clause-front
+returns-in_err-finish-clause-front g c = λ is.
+    let done : c.args.turns - c.loop-turn._turn ≡ 0 = omega arith in
+    Told-weaker (g.R.Source.left c.args.source.now) (g.R.Source.left c.loop-turn.source) (rw done at c.loop-turn.invariant.stands)
+    (λ before after stands.
+    front-stands c.args.model.now (λ records. go c.args.turns records c.args.plain) (λ records. go zero records c.loop-turn.plain)
+    (behind_head c.args.heads before) c.loop-turn.heads c.args.text.now c.loop-turn.text c.finish.new.text before after stands c.loop-turn.invariant.ready
+    c.in_err-finish.ensures.err)
+
+pub returns-in-Err-clause-quiet : goal.returns-in-Err-clause-quiet
+returns-in-Err-clause-quiet g c = λ unended is.
+    let stops = subst (λ result. IfOk result (Stops c.in-Err.why c.turn.result c.time.result c.loop-turn.text c.stop.new.text)) is c.stop.ensures.ok in
+    absurd (offence-not_quiet c.in-Err.why c.turn.result c.time.result how.Quiet stops.end refl)
+
+pub returns-in-Ended-clause-quiet : goal.returns-in-Ended-clause-quiet
+returns-in-Ended-clause-quiet g c = λ unended is.
+    let later = c.args.turns - (c.loop-turn._turn + 1) in
+    let left : c.args.turns - c.loop-turn._turn ≡ suc (c.args.turns - (c.loop-turn._turn + 1)) = omega arith in
+    let quiet : c.in-Ended.how ≡ how.Quiet = cc is in
+    let ended : Turns c.args.model.now c.loop-turn.plain c.ask.new.self.head c.turn-in-loop-turn.new.plain c.loop-turn.text c.turn-in-loop-turn.new.text (Ended how.Quiet) =
+    rw (c.as_ref.ensures.value, c.in-Ended.is, quiet) at c.in_ok-took_input.ensures.turns in
+    let none : c.ask.new.self.head ≡ None =
+    ended-not_asked c.args.model.now c.loop-turn.plain c.turn-in-loop-turn.new.plain c.ask.new.self.head c.loop-turn.text c.turn-in-loop-turn.new.text ended in
+    Told-both (g.R.Source.left c.args.source.now) (g.R.Source.left c.ask.new.source)
+    (told-asked c.args.model.now (λ records. go c.args.turns records c.args.plain) (λ records. go (suc later) records c.loop-turn.plain) refl
+    (behind_head c.args.heads) c.loop-turn.heads c.ask.new.self c.args.text.now c.loop-turn.text
+    (g.R.Source.left c.args.source.now) (g.R.Source.left c.loop-turn.source) (g.R.Source.left c.ask.new.source)
+    (rw left at c.loop-turn.invariant.stands) c.in_default.ensures.asked)
+    (told-read_out (c.args.heads.reader.ended ≡ false) c.loop-turn.heads c.ask.new.self
+    (g.R.Source.left c.args.source.now) (g.R.Source.left c.loop-turn.source) (g.R.Source.left c.ask.new.source)
+    c.loop-turn.invariant.over c.in_default.ensures.asked)
+    (λ before after both over. over unended (both.1 none))

@@ -1,14 +1,18 @@
-use Rattle.std.proofs.Common.{◌++◌, ap, subst, sym, ◌∙◌}
+use Rattle.std.proofs.Common.{◌≡◌, ◌++◌, ap, subst, sym, ◌∙◌}
+use Rattle.std.specs.Prelude.{IfSome}
 use Rattle.std.proofs.lemmas.Result.{IfOk-weaker}
 use Rattle.dsde_input.specs.Record.{ArePorts}
+use Rattle.dsde_sim.specs.declared.event.Finish.TheVariants as how
 use Rattle.dsde_sim.specs.Text.{end_text, trace_text}
 use Rattle.dsde_sim.specs.Turn.{start}
 use Rattle.dsde_run.specs.Heads.{behind_head}
-use Rattle.dsde_run.specs.Reading.{TakesWanted, IsCutShort}
+use Rattle.dsde_run.specs.Reading.{TakesWanted, IsCutShort, IsFront}
 use Rattle.dsde_run.specs.Run.{run, go, records_in, ended}
 use Rattle.dsde_run.specs.Steps.{Tells}
 use Rattle.dsde_run.proofs.Cutting.{IsFront-cut}
+use Rattle.dsde_run.proofs.Fronts.{OnErr-always, IsFront-all, IsFront-behind, IsFront-start, front_either}
 use Rattle.dsde_run.proofs.Ports.{are_ports}
+use Rattle.dsde_run.proofs.Quiet.{fault-not_quiet}
 use Rattle.dsde_run.proofs.RunLemmas.{Tells-behind, Tells-faulted, run-faulted}
 use Rattle.dsde_run.proofs.Standing.{Told-weaker}
 use Rattle.dsde_run.proofs.Starting.{GoesOn-start, IsCutShort-behind, TakesWanted-behind, IfSome-told, IfSome-always}
@@ -20,7 +24,7 @@ go-requires-clause-ports g c =
 
 pub returns-in-Ok-clause-tells : goal.returns-in-Ok-clause-tells
 returns-in-Ok-clause-tells g c =
-    let written = c.in_ok-write_events.ensures ∙ ap (λ events. c.args.text.now ++ trace_text c.args.model.now events) c.as_slice.ensures in
+    let written = c.in_ok-write_events.ensures.ok ∙ ap (λ events. c.args.text.now ++ trace_text c.args.model.now events) c.as_slice.ensures in
     IfOk-weaker c.go.result _ _
     (λ answer told.
     IfSome-told (g.R.Source.left c.args.source.now) (g.R.Source.left c.go.new.source) told
@@ -35,7 +39,7 @@ returns-in-Ok-clause-tells g c =
 
 pub returns-in-Ok-clause-cut : goal.returns-in-Ok-clause-cut
 returns-in-Ok-clause-cut g c = λ is.
-    let written = c.in_ok-write_events.ensures ∙ ap (λ events. c.args.text.now ++ trace_text c.args.model.now events) c.as_slice.ensures in
+    let written = c.in_ok-write_events.ensures.ok ∙ ap (λ events. c.args.text.now ++ trace_text c.args.model.now events) c.as_slice.ensures in
     Told-weaker (g.R.Source.left c.args.source.now) (g.R.Source.left c.go.new.source) (c.go.ensures.cut is)
     (λ before after short.
     IsCutShort-behind c.args.model.now (λ records. run c.args.model.now records c.args.turns) (λ records. go c.args.turns records c.in-Ok.plain)
@@ -46,8 +50,11 @@ returns-in-Ok-clause-cut g c = λ is.
     c.in_ok-new-in-Ok.ensures short))
 
 pub returns-in-Ok-clause-front : goal.returns-in-Ok-clause-front
-returns-in-Ok-clause-front g c = λ is.
-    let written = c.in_ok-write_events.ensures ∙ ap (λ events. c.args.text.now ++ trace_text c.args.model.now events) c.as_slice.ensures in
+returns-in-Ok-clause-front g c =
+    let written = c.in_ok-write_events.ensures.ok ∙ ap (λ events. c.args.text.now ++ trace_text c.args.model.now events) c.as_slice.ensures in
+    front_either c.go.result (g.R.Source.left c.args.source.now)
+    (λ bytes. IsFront c.args.text.now c.go.new.text (trace_text c.args.model.now (run c.args.model.now (records_in c.args.model.now bytes) c.args.turns).events))
+    (λ is.
     IfSome-told (g.R.Source.left c.args.source.now) (g.R.Source.left c.go.new.source) (c.go.ensures.cut is)
     (λ before after short.
     IsFront-cut c.args.model.now c.args.turns (records_in c.args.model.now before) c.args.text.now c.go.new.text before after
@@ -56,11 +63,76 @@ returns-in-Ok-clause-front g c = λ is.
     (GoesOn-start c.args.model.now c.args.turns c.in-Ok.plain c.new-events.result c.start-started.new.events c.args.text.now c.write_events.new.text
     c.new-events.ensures c.in-Ok.ensures written)
     (subst (λ heads. IsCutShort c.args.model.now (λ records. go c.args.turns records c.in-Ok.plain) (behind_head heads before) c.write_events.new.text c.go.new.text before after)
-    c.in_ok-new-in-Ok.ensures short)))
+    c.in_ok-new-in-Ok.ensures short))))
+    (λ is.
+    IfSome-told (g.R.Source.left c.args.source.now) (g.R.Source.left c.go.new.source) (c.go.ensures.front is)
+    (λ before after front.
+    IsFront-behind c.args.model.now (run c.args.model.now (records_in c.args.model.now before) c.args.turns) (go c.args.turns (records_in c.args.model.now before) c.in-Ok.plain)
+    c.args.text.now c.write_events.new.text c.go.new.text
+    (GoesOn-start c.args.model.now c.args.turns c.in-Ok.plain c.new-events.result c.start-started.new.events c.args.text.now c.write_events.new.text
+    c.new-events.ensures c.in-Ok.ensures written (records_in c.args.model.now before))
+    (subst (λ heads. IsFront c.write_events.new.text c.go.new.text (trace_text c.args.model.now (go c.args.turns (behind_head heads before) c.in-Ok.plain).events))
+    c.in_ok-new-in-Ok.ensures front)))
+
+pub returns-in_err-write_events-clause-front : goal.returns-in_err-write_events-clause-front
+returns-in_err-write_events-clause-front g c =
+    OnErr-always c.from_residual.result
+    (IfSome (g.R.Source.left c.args.source.now) (λ bytes.
+    IsFront c.args.text.now c.write_events.new.text (trace_text c.args.model.now (run c.args.model.now (records_in c.args.model.now bytes) c.args.turns).events)))
+    (IfSome-always (g.R.Source.left c.args.source.now) _
+    (λ bytes.
+    IsFront-start c.args.model.now (records_in c.args.model.now bytes) c.args.turns c.new-events.result c.start-started.new.events c.start-started.result
+    c.args.text.now c.write_events.new.text c.new-events.ensures c.start-started.ensures
+    (subst (λ events. IsFront c.args.text.now c.write_events.new.text (trace_text c.args.model.now events)) c.as_slice.ensures c.in_err-write_events.ensures.front)))
+
+pub returns-in_err-new-in-Ok-clause-front : goal.returns-in_err-new-in-Ok-clause-front
+returns-in_err-new-in-Ok-clause-front g c =
+    OnErr-always c.from_residual-in_err-new-in-Ok.result
+    (IfSome (g.R.Source.left c.args.source.now) (λ bytes.
+    IsFront c.args.text.now c.write_events.new.text (trace_text c.args.model.now (run c.args.model.now (records_in c.args.model.now bytes) c.args.turns).events)))
+    (IfSome-always (g.R.Source.left c.args.source.now) _
+    (λ bytes.
+    IsFront-start c.args.model.now (records_in c.args.model.now bytes) c.args.turns c.new-events.result c.start-started.new.events c.start-started.result
+    c.args.text.now c.write_events.new.text c.new-events.ensures c.start-started.ensures
+    (IsFront-all c.args.text.now c.write_events.new.text (trace_text c.args.model.now c.start-started.new.events)
+    (c.in_ok-write_events.ensures.ok ∙ ap (λ events. c.args.text.now ++ trace_text c.args.model.now events) c.as_slice.ensures))))
+
+pub returns-in_err-finish_of-in-Err-clause-front : goal.returns-in_err-finish_of-in-Err-clause-front
+returns-in_err-finish_of-in-Err-clause-front g c =
+    OnErr-always c.from_residual-in_err-finish_of-in-Err.result
+    (IfSome (g.R.Source.left c.args.source.now) (λ bytes.
+    IsFront c.args.text.now c.write_events.new.text (trace_text c.args.model.now (run c.args.model.now (records_in c.args.model.now bytes) c.args.turns).events)))
+    (IfSome-always (g.R.Source.left c.args.source.now) _
+    (λ bytes.
+    IsFront-start c.args.model.now (records_in c.args.model.now bytes) c.args.turns c.new-events.result c.start-started.new.events c.start-started.result
+    c.args.text.now c.write_events.new.text c.new-events.ensures c.start-started.ensures
+    (IsFront-all c.args.text.now c.write_events.new.text (trace_text c.args.model.now c.start-started.new.events)
+    (c.in_ok-write_events.ensures.ok ∙ ap (λ events. c.args.text.now ++ trace_text c.args.model.now events) c.as_slice.ensures))))
+
+pub returns-in_err-finish-in-Err-clause-front : goal.returns-in_err-finish-in-Err-clause-front
+returns-in_err-finish-in-Err-clause-front g c =
+    OnErr-always c.from_residual-in_err-finish-in-Err.result
+    (IfSome (g.R.Source.left c.args.source.now) (λ bytes.
+    IsFront c.args.text.now c.finish.new.text (trace_text c.args.model.now (run c.args.model.now (records_in c.args.model.now bytes) c.args.turns).events)))
+    (IfSome-always (g.R.Source.left c.args.source.now) _
+    (λ bytes.
+    IsFront-start c.args.model.now (records_in c.args.model.now bytes) c.args.turns c.new-events.result c.start-started.new.events c.start-started.result
+    c.args.text.now c.finish.new.text c.new-events.ensures c.start-started.ensures
+    (IsFront-all c.args.text.now c.finish.new.text (trace_text c.args.model.now c.start-started.new.events)
+    (c.in_err-finish-in-Err.ensures.err ∙ c.in_ok-write_events.ensures.ok ∙ ap (λ events. c.args.text.now ++ trace_text c.args.model.now events) c.as_slice.ensures))))
+
+pub returns-in-Ok-clause-quiet : goal.returns-in-Ok-clause-quiet
+returns-in-Ok-clause-quiet g c = λ is. c.go.ensures.quiet (ap (λ heads. heads.reader.ended) c.in_ok-new-in-Ok.ensures) is
+
+pub returns-clause-quiet : goal.returns-clause-quiet
+returns-clause-quiet g c = λ is.
+    let finished = c.in_ok-finish-in-Err.ensures.ok in
+    let answer : c.in_ok-finish-in-Err.field-0 ≡ how.Quiet = cc is in
+    absurd (fault-not_quiet c.in-Err.end 0 0 c.in_ok-finish-in-Err.field-0 (c.in_ok-finish_of-in-Err.ensures 0 0 ∙ ap (λ how. ended how 0 0) (sym finished.0)) answer)
 
 pub returns-in-Ok-clause-taken : goal.returns-in-Ok-clause-taken
 returns-in-Ok-clause-taken g c =
-    let written = c.in_ok-write_events.ensures ∙ ap (λ events. c.args.text.now ++ trace_text c.args.model.now events) c.as_slice.ensures in
+    let written = c.in_ok-write_events.ensures.ok ∙ ap (λ events. c.args.text.now ++ trace_text c.args.model.now events) c.as_slice.ensures in
     Told-weaker (g.R.Source.left c.args.source.now) (g.R.Source.left c.go.new.source) c.go.ensures.taken
     (λ before after takes.
     TakesWanted-behind c.args.model.now (λ records. run c.args.model.now records c.args.turns) (λ records. go c.args.turns records c.in-Ok.plain)
@@ -71,12 +143,12 @@ returns-in-Ok-clause-taken g c =
 
 pub returns-clause-tells : goal.returns-clause-tells
 returns-clause-tells g c =
-    let finished = c.in_ok-finish-in-Err.ensures in
+    let finished = c.in_ok-finish-in-Err.ensures.ok in
     IfSome-always (g.R.Source.left c.args.source.now) _
     (λ bytes.
     Tells-faulted c.args.model.now (start c.args.model.now) (run c.args.model.now (records_in c.args.model.now bytes) c.args.turns) c.in-Err.end c.in_ok-finish-in-Err.field-0 0 0
     c.new-events.result c.start-started.new.events c.args.text.now c.write_events.new.text c.finish.new.text
     (run-faulted c.args.model.now (records_in c.args.model.now bytes) c.args.turns c.in-Err.end) c.new-events.ensures c.in-Err.ensures
     (c.in_ok-finish_of-in-Err.ensures 0 0 ∙ ap (λ how. ended how 0 0) (sym finished.0))
-    (c.in_ok-write_events.ensures ∙ ap (λ events. c.args.text.now ++ trace_text c.args.model.now events) c.as_slice.ensures)
+    (c.in_ok-write_events.ensures.ok ∙ ap (λ events. c.args.text.now ++ trace_text c.args.model.now events) c.as_slice.ensures)
     (finished.1 ∙ ap (λ how. c.write_events.new.text ++ end_text how 0 0) (sym finished.0)))

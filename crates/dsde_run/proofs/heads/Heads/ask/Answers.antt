@@ -18,4 +18,4 @@ returns-in-Ok-clause-asked g c =
     (Asked head c.in-Ok.found c.args.self.now (asked_heads c.args.self.now c.next.new.self c.in-Ok.found))) (sym none)
     (asked c.args.self.now c.next.new.self c.in-Ok.found (g.R.Source.left c.args.source.now) (g.R.Source.left c.next.new.source)
     c.requires.ready c.in-Ok.ensures.records c.in-Ok.ensures.of_line c.in-Ok.ensures.line
-    (λ is. ap (λ reader. reader.ended) (c.in-Ok.ensures.end (ap Ok is))) (λ has. ap g.R.Source.left (c.in-Ok.ensures.idle has)))
+    (λ is. ap (λ reader. reader.ended) (c.in-Ok.ensures.end (ap Ok is))) (λ has. ap g.R.Source.left (c.in-Ok.ensures.idle has)) c.in-Ok.ensures.over)

@@ -1,0 +1,111 @@
+-- A run that falls quiet has read its input to the end.
+use Rattle.std.proofs.Common.{◌≡◌, ◌≢◌, ℕ, ◌+◌, Bool, true, false, List, [], ◌∷◌, ◌++◌, Result, Ok, Err, refl, sym, ap, ◌∙◌}
+use Rattle.std.specs.Prelude.{Option, Some, None, min}
+use Rattle.dsde_first.specs.declared.first.FirstModel.{FirstModel}
+use Rattle.dsde_values.specs.declared.arrival.Arrival.{Arrival}
+use Rattle.dsde_values.specs.declared.when.When.{When}
+use Rattle.dsde_values.specs.declared.when.When.TheVariants.{At, Never}
+use Rattle.dsde_input.specs.declared.end.InputEnd.{InputEnd}
+use Rattle.dsde_input.specs.declared.end.InputEnd.TheVariants as input_end
+use Rattle.dsde_sim.specs.declared.event.Finish.{Finish}
+use Rattle.dsde_sim.specs.declared.event.Finish.TheVariants as how
+use Rattle.dsde_sim.specs.declared.fault.TurnEnd.{TurnEnd}
+use Rattle.dsde_sim.specs.declared.fault.TurnEnd.TheVariants.{Fault, Memory}
+use Rattle.dsde_sim.specs.declared.leaf.Leaf.{Leaf}
+use Rattle.dsde_sim.specs.declared.plain.Step.{Step}
+use Rattle.dsde_sim.specs.declared.plain.Step.TheVariants.{Turned, Quiet}
+use Rattle.dsde_sim.specs.Engine.{Engine}
+use Rattle.dsde_sim.specs.Turn as step
+use Rattle.dsde_sim.specs.Turn.{turn, turned, told, is_taken, items_at, turn_time, advance, ◌then◌}
+use Rattle.dsde_run.specs.declared.heads.Heads.{Heads}
+use Rattle.dsde_run.specs.declared.run.After.TheVariants.{Ended}
+use Rattle.dsde_run.specs.Heads.{Asked}
+use Rattle.dsde_run.specs.Reading.{Told}
+use Rattle.dsde_run.specs.Run.{Run, cut, turn_on, ended, faulted, offended}
+use Rattle.dsde_run.specs.Steps.{Turns}
+use Rattle.dsde_run.proofs.Cutting.{behind_turn}
+use Rattle.dsde_run.proofs.Standing.{Told-then}
+
+-- a fault is no quiet end
+pub fault-not_quiet : (why : TurnEnd) (turns time : ℕ) (answer : Finish) → faulted why turns time ≡ ended answer turns time → answer ≢ how.Quiet
+fault-not_quiet (Fault path site kind at) turns time answer is quiet = let two = ap (λ run. run.end) is in absurd (cc)
+fault-not_quiet Memory turns time answer is quiet = let two = ap (λ run. run.end) is in absurd (cc)
+
+-- an offence is no quiet end
+pub offence-not_quiet : (why : InputEnd) (turns time : ℕ) (answer : Finish) → offended why turns time ≡ ended answer turns time → answer ≢ how.Quiet
+offence-not_quiet (input_end.BadLine line) turns time answer is quiet = let two = ap (λ run. run.end) is in absurd (cc)
+offence-not_quiet (input_end.Backwards line) turns time answer is quiet = let two = ap (λ run. run.end) is in absurd (cc)
+offence-not_quiet (input_end.LineTooLong line) turns time answer is quiet = let two = ap (λ run. run.end) is in absurd (cc)
+offence-not_quiet input_end.ReadFault turns time answer is quiet = let two = ap (λ run. run.end) is in absurd (cc)
+offence-not_quiet input_end.Memory turns time answer is quiet = let two = ap (λ run. run.end) is in absurd (cc)
+
+-- what a turn comes to, from what its phases come to
+abbrev turned_end : (engine : Engine) (time : ℕ) (took_input : Bool) → Result Leaf TurnEnd → Result (Step × Engine) TurnEnd
+turned_end engine time took_input (Ok leaf) = Ok (Turned took_input, turned engine leaf time took_input)
+turned_end engine time took_input (Err why) = Err why
+
+-- a turn that is taken is no quiet end
+turned-not_quiet : (engine : Engine) (head : Option Arrival) (time : ℕ) (took_input : Bool) (end : Result Leaf TurnEnd) →
+    (behind_turn engine head (λ took_input after. cut) (turned_end engine time took_input end)).end ≢ Some how.Quiet
+turned-not_quiet engine head time took_input (Ok leaf) quiet = absurd (cc quiet)
+turned-not_quiet engine head time took_input (Err (Fault path site kind at)) quiet = absurd (cc quiet)
+turned-not_quiet engine head time took_input (Err Memory) quiet = absurd (cc quiet)
+
+-- what a step comes to
+end_then : (engine : Engine) (time : ℕ) (took_input : Bool) (phases : step.Told Leaf) (end : Result Leaf TurnEnd) → phases.end ≡ end →
+    (phases then (λ leaf. told [] (Turned took_input, turned engine leaf time took_input))).end ≡ turned_end engine time took_input end
+end_then engine time took_input phases (Ok leaf) is = rw is refl
+end_then engine time took_input phases (Err why) is = rw is refl
+
+end_at : (engine : Engine) (head : Arrival) (time : ℕ) → turn_time engine.leaf.next (Some head) ≡ Some time →
+    (advance engine (Some head)).end ≡
+    turned_end engine time (is_taken (Some head) time) (turn engine.model engine.leaf (engine.turn + 1) time (items_at (Some head) time)).end
+end_at engine head time is =
+    rw (is, advance)
+    (end_then engine time (is_taken (Some head) time) (turn engine.model engine.leaf (engine.turn + 1) time (items_at (Some head) time))
+    (turn engine.model engine.leaf (engine.turn + 1) time (items_at (Some head) time)).end refl)
+
+-- where a turn is taken the run does not fall quiet
+taken-not_quiet : (engine : Engine) (head : Arrival) (time : ℕ) → turn_time engine.leaf.next (Some head) ≡ Some time →
+    (turn_on engine (Some head) (λ took_input after. cut)).end ≢ Some how.Quiet
+taken-not_quiet engine head time is quiet =
+    turned-not_quiet engine (Some head) time (is_taken (Some head) time) (turn engine.model engine.leaf (engine.turn + 1) time (items_at (Some head) time)).end
+    (ap (λ end. (behind_turn engine (Some head) (λ took_input after. cut) end).end) (sym (end_at engine head time is)) ∙ quiet)
+
+-- where there is a head a turn is taken
+head-not_quiet : (engine : Engine) (head : Arrival) (next : When) → engine.leaf.next ≡ next →
+    (turn_on engine (Some head) (λ took_input after. cut)).end ≢ Some how.Quiet
+head-not_quiet engine head (At due) is = taken-not_quiet engine head (min due head.time) (ap (λ next. turn_time next (Some head)) is)
+head-not_quiet engine head Never is = taken-not_quiet engine head head.time (ap (λ next. turn_time next (Some head)) is)
+
+pub ended-not_asked : (model : FirstModel) (before after : Engine) (head : Option Arrival) (old new : List ℕ) →
+    Turns model before head after old new (Ended how.Quiet) → head ≡ None
+ended-not_asked model before after None old new turns = refl
+ended-not_asked model before after (Some head) old new turns =
+    absurd (head-not_quiet before head before.leaf.next refl (turns (λ took_input after. cut)).end)
+
+-- nothing is left where the head was asked for and the end was seen
+read_out_by : (ended : Bool) (heads new : Heads) (mid after : List ℕ) → heads.reader.ended ≡ ended → Asked None None heads new mid after →
+    (heads.reader.ended ≡ true → mid ≡ []) → after ≡ []
+read_out_by false heads new mid after is asked before = asked.read_out is
+read_out_by true heads new mid after is asked before = none_taken asked.takes.piece refl
+  where
+    none_taken : (piece : List ℕ) → asked.takes.piece ≡ piece → after ≡ []
+    none_taken [] none = sym (asked.takes.split ∙ ap (λ piece. piece ++ after) none) ∙ before is
+    none_taken (byte ∷ piece) some =
+        absurd (let unended = asked.takes.unended (λ nothing. let two = sym some ∙ nothing in absurd (cc two)) in let two = sym is ∙ unended in cc two)
+
+read_out-asked : (head found : Option Arrival) (heads new : Heads) (mid after : List ℕ) → Asked head found heads new mid after →
+    (heads.reader.ended ≡ true → mid ≡ []) → new.reader.ended ≡ true → after ≡ []
+read_out-asked (Some head) found heads new mid after asked before ended =
+    asked.1 ∙ before (ap (λ heads. heads.reader.ended) (sym asked.0) ∙ ended)
+read_out-asked None (Some arrival) heads new mid after asked before ended = asked.last ended
+read_out-asked None None heads new mid after asked before ended = read_out_by heads.reader.ended heads new mid after refl asked before
+
+-- where the source tells its bytes
+pub told-read_out : (unended : Type 0) (heads new : Heads) (left between left_after : Option (List ℕ)) →
+    Told left between (λ before mid. unended → heads.reader.ended ≡ true → mid ≡ []) → Told between left_after (Asked heads.head new.head heads new) →
+    Told left left_after (λ before after. unended → new.reader.ended ≡ true → after ≡ [])
+told-read_out unended heads new left between left_after before asked =
+    Told-then left between left_after before asked (λ first mid after before asked still.
+    read_out-asked heads.head new.head heads new mid after asked (before still))
