@@ -10,7 +10,6 @@ use Rattle.dsde_io.specs.Held.{Bytes}
 use Rattle.dsde_cli.specs.Causes.{Under}
 use Rattle.dsde_cli.specs.Commands.{RunCommand}
 use Rattle.dsde_sim.specs.declared.event.Finish.{Finish}
-use Rattle.dsde_sim.specs.declared.event.Finish.TheVariants as how
 use Rattle.dsde_sim.specs.Text.{trace_text}
 use Rattle.dsde_run.specs.Reading.{IsFront}
 use Rattle.dsde_run.specs.Run.{Run, records_in}
@@ -19,7 +18,7 @@ use Rattle.dsde_cli.specs.declared.status.Status.{Status}
 use Rattle.dsde_cli.specs.declared.status.Status.TheVariants.{Done, Refused, Usage, BadInput, ModelFault, Unread, Unwritten, Memory, BadSave}
 use Rattle.dsde_cli.specs.declared.status.What.TheVariants as what
 use Rattle.dsde_cli.specs.declared.status.Why.TheVariants as why
-use Rattle.dsde_cli.specs.Outcome.{Writes, WritesFront, Comes, status_of}
+use Rattle.dsde_cli.specs.Outcome.{Writes, WritesFront, SaysEnd, Comes}
 
 -- the whole trace is a front of it
 front-whole : (model : FirstModel) (run : Run) (written : List ℕ) (out : Option (List ℕ)) → Writes model run written out → WritesFront model run written out
@@ -55,13 +54,13 @@ comes-front model tells input left written out (Refused kind line column) comes 
 comes-front model tells input left written out Usage comes = absurd comes
 comes-front model tells input left written out (BadSave fault) comes = absurd comes
 
--- A run that ended, all of whose trace was written.
-pub comes-whole : (model : FirstModel) (tells : Records → Run) (input : List ℕ) (left : Option (List ℕ)) (written text : List ℕ) (out : Option (List ℕ)) (how : Finish) →
-    Tells model (tells (records_in model input)) [] text how → out ≡ Some (written ++ text) → Comes model tells input left written out (status_of how)
-comes-whole model tells input left written text out how.Bound run gained = (gained ∙ ap (λ text. Some (written ++ text)) run.text, inl run.end)
-comes-whole model tells input left written text out how.Quiet run gained = (gained ∙ ap (λ text. Some (written ++ text)) run.text, inr run.end)
-comes-whole model tells input left written text out (how.Input kind line) run gained = (gained ∙ ap (λ text. Some (written ++ text)) run.text, run.end)
-comes-whole model tells input left written text out (how.Fault fault) run gained = (gained ∙ ap (λ text. Some (written ++ text)) run.text, run.end)
+-- What is said of the end is said in the report, unless memory ran out.
+pub ends-reported : (model : FirstModel) (tells : Records → Run) (left left_after : Option (List ℕ)) (status result : Status) →
+    IfSome left (λ input. SaysEnd (tells (records_in model input)).end left_after status) → (result ≡ status) ⊎ (result ≡ Memory) →
+    IfSome left (λ input. SaysEnd (tells (records_in model input)).end left_after result)
+ends-reported model tells None left_after status result ends reported = tt
+ends-reported model tells (Some input) left_after status result ends (inl same) = subst (SaysEnd (tells (records_in model input)).end left_after) (sym same) ends
+ends-reported model tells (Some input) left_after status result ends (inr ended) = subst (SaysEnd (tells (records_in model input)).end left_after) (sym ended) tt
 
 -- What holds of the bytes under the name that were loaded.
 pub under-told : (name : List ℕ) (held : Option Bytes) (bytes : List ℕ) (P : List ℕ → Type 0) → IfSome held (λ map. map name ≡ Some bytes) → P bytes → Under name held P

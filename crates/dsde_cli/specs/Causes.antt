@@ -1,5 +1,5 @@
 -- Why a status comes.
-use Rattle.std.specs.Prelude.{ℕ, ◌≡◌, ◌<◌, ⊤, List, length, Option, None, IfSome, IsSomeAnd}
+use Rattle.std.specs.Prelude.{ℕ, ◌≡◌, ◌<◌, ◌≤◌, ⊤, List, length, Option, None, IfSome, IsSomeAnd}
 use Rattle.dsde_first.specs.declared.first.FirstModel.{FirstModel}
 use Rattle.dsde_first.specs.First.{Spells}
 use Rattle.dsde_io.specs.declared.shelf.ShelfEnd.{ShelfEnd}
@@ -17,6 +17,11 @@ use Rattle.dsde_cli.specs.declared.status.Why.TheVariants as why
 pub record SpellSome (bytes : List ℕ) : Type 0 where
   pub model : FirstModel
   pub spells : Spells bytes model
+
+-- The bytes are no more than a model may have, and spell none.
+pub record SpellNone (bytes : List ℕ) : Type 0 where
+  pub within : length bytes ≤ 1_048_576
+  pub none : ¬ SpellSome bytes
 
 -- The shelf, where it tells what it holds, has bytes under the name, and this holds of them.
 abbrev pub Under : List ℕ → Option Bytes → (List ℕ → Type 0) → Type 0
@@ -37,7 +42,7 @@ Cause name held ShelfFails SourceFails SinkFails Done = Under name held SpellSom
 Cause name held ShelfFails SourceFails SinkFails (BadInput kind line) = Under name held SpellSome
 Cause name held ShelfFails SourceFails SinkFails (ModelFault fault) = Under name held SpellSome
 Cause name held ShelfFails SourceFails SinkFails (Refused kind line column) =
-    (kind ≡ NotBuilt) × (line ≡ 0) × (column ≡ 0) × Under name held (λ bytes. ¬ SpellSome bytes)
+    (kind ≡ NotBuilt) × (line ≡ 0) × (column ≡ 0) × Under name held SpellNone
 Cause name held ShelfFails SourceFails SinkFails (Unread reading because) = CauseUnread name held ShelfFails SourceFails reading because
 Cause name held ShelfFails SourceFails SinkFails (Unwritten what.Output) = Under name held SpellSome × SinkFails
 Cause name held ShelfFails SourceFails SinkFails Memory = ⊤
@@ -61,7 +66,7 @@ IsBeforeRun other = ⊥
 -- Why no model is run.
 abbrev pub NoModel : List ℕ → Option Bytes → Type 0 → Status → Type 0
 NoModel name held ShelfFails (Refused kind line column) =
-    (kind ≡ NotBuilt) × (line ≡ 0) × (column ≡ 0) × Under name held (λ bytes. ¬ SpellSome bytes)
+    (kind ≡ NotBuilt) × (line ≡ 0) × (column ≡ 0) × Under name held SpellNone
 NoModel name held ShelfFails (Unread what.Model because) = CauseUnread name held ShelfFails ⊥ what.Model because
 NoModel name held ShelfFails Memory = ⊤
 NoModel name held ShelfFails other = ⊥

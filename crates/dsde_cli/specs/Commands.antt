@@ -1,16 +1,15 @@
 -- What the program's words ask for.
-use Rattle.std.specs.Prelude.{ℕ, ◌≤◌, Bool, List, [], ◌∷◌, length, Option, Some, None, ◌&&◌, nat_le, nat_eq, codes, if◌then◌else◌}
+use Rattle.std.specs.Prelude.{ℕ, ◌≡◌, ◌≤◌, Bool, List, [], ◌∷◌, length, Option, Some, None, ◌&&◌, nat_le, nat_eq, codes, if◌then◌else◌}
 use Rattle.std.specs.Char.{is_ascii_digit}
 use Rattle.std.specs.List.{list_all, starts_with}
 use Rattle.std.specs.Option.{option_map, option_and_then}
 use Rattle.std.specs.Str.{bytes_eq}
 use Rattle.std.specs.Str.Parse.{digits_value}
 use Rattle.dsde_cli.specs.declared.command.Command.{Command}
-use Rattle.dsde_cli.specs.declared.command.TheConstants.{MOST_TURNS}
 
 -- It takes no more turns than one command may.
 abbrev pub IsBounded : Command → Type 0
-IsBounded command = command.turns ≤ MOST_TURNS
+IsBounded command = command.turns ≤ 1_000_000_000
 
 -- A model is to be run: the bytes of its name, and the most turns.
 pub record RunCommand : Type 0 where
@@ -84,3 +83,8 @@ run_of words = line_of words >>= line_run
 abbrev pub command_of : List (List ℕ) → Option RunCommand
 command_of [] = None
 command_of (name ∷ words) = if bytes_eq name (codes "run") then run_of words else None
+
+-- The words ask for this run.
+pub record Asked (words : List (List ℕ)) : Type 0 where
+  pub run : RunCommand
+  pub spelled : command_of words ≡ Some run

@@ -1,5 +1,5 @@
 -- How a call ends that runs a model, and what it leaves.
-use Rattle.std.specs.Prelude.{ℕ, ◌≡◌, ◌⊎◌, List, ◌++◌, take, Option, Some, IsSomeAnd}
+use Rattle.std.specs.Prelude.{ℕ, ◌≡◌, ◌⊎◌, ⊤, List, [], ◌++◌, take, Option, Some, IsSomeAnd}
 use Rattle.dsde_first.specs.declared.first.FirstModel.{FirstModel}
 use Rattle.dsde_input.specs.Records.{Records}
 use Rattle.dsde_sim.specs.declared.event.Finish.{Finish}
@@ -23,6 +23,18 @@ pub record WritesFront (model : FirstModel) (run : Run) (written : List ℕ) (ou
   pub count : ℕ
   pub is : out ≡ Some (written ++ take count (trace_text model run.events))
 
+-- The status says how the run ended: by its bound, or quietly, which is where no byte of the input
+-- was left, or by bad input or a fault.
+abbrev pub SaysEnd : Option Finish → Option (List ℕ) → Status → Type 0
+SaysEnd end left Done = (end ≡ Some how.Bound) ⊎ ((end ≡ Some how.Quiet) × (left ≡ Some []))
+SaysEnd end left (BadInput kind line) = end ≡ Some (how.Input kind line)
+SaysEnd end left (ModelFault fault) = end ≡ Some (how.Fault fault)
+SaysEnd end left other = ⊤
+
+-- The whole trace was written, and the status says how the run ended.
+abbrev pub ComesWhole : FirstModel → Run → Option (List ℕ) → List ℕ → Option (List ℕ) → Status → Type 0
+ComesWhole model whole left written out status = Writes model whole written out × SaysEnd whole.end left status
+
 -- What a failed reading leaves: of the input, the lines before the first turn whose head is not
 -- whole in the bytes taken, which are the front of the trace; of the model, what was written before.
 abbrev pub ComesUnread : FirstModel → (Records → Run) → List ℕ → Option (List ℕ) → List ℕ → Option (List ℕ) → What → Why → Type 0
@@ -37,12 +49,9 @@ ComesUnread model tells input left written out reading because = ⊥
 -- ended so, and the whole trace was written. A failed read, a failed write and want of memory cut
 -- it short.
 abbrev pub Comes : FirstModel → (Records → Run) → List ℕ → Option (List ℕ) → List ℕ → Option (List ℕ) → Status → Type 0
-Comes model tells input left written out Done =
-    let whole = tells (records_in model input) in Writes model whole written out × ((whole.end ≡ Some how.Bound) ⊎ (whole.end ≡ Some how.Quiet))
-Comes model tells input left written out (BadInput kind line) =
-    let whole = tells (records_in model input) in Writes model whole written out × (whole.end ≡ Some (how.Input kind line))
-Comes model tells input left written out (ModelFault fault) =
-    let whole = tells (records_in model input) in Writes model whole written out × (whole.end ≡ Some (how.Fault fault))
+Comes model tells input left written out Done = ComesWhole model (tells (records_in model input)) left written out Done
+Comes model tells input left written out (BadInput kind line) = ComesWhole model (tells (records_in model input)) left written out (BadInput kind line)
+Comes model tells input left written out (ModelFault fault) = ComesWhole model (tells (records_in model input)) left written out (ModelFault fault)
 Comes model tells input left written out (Unread reading because) = ComesUnread model tells input left written out reading because
 Comes model tells input left written out (Unwritten what.Output) = WritesFront model (tells (records_in model input)) written out
 Comes model tells input left written out Memory = WritesFront model (tells (records_in model input)) written out

@@ -6,11 +6,12 @@ ghost use Rattle.dsde_first.specs.First.{IsFirst};
 ghost use Rattle.dsde_run.specs.Reading.{Told, TakesWanted};
 ghost use Rattle.dsde_run.specs.Run.{run, records_in};
 ghost use Rattle.dsde_cli.specs.Causes.{Cause, Holds, HoldsNone, IsBeforeRun, IsOfRun, NoModel, SpellSome, Under, unread_model};
-ghost use Rattle.dsde_cli.specs.Commands.{RunCommand, command_of};
+ghost use Rattle.dsde_cli.specs.Commands.{Asked, command_of};
+ghost use Rattle.dsde_cli.specs.Loaded.{Loaded, tells_of};
 ghost use Rattle.dsde_cli.specs.Note.{Noted, WritesNoteFront};
-ghost use Rattle.dsde_cli.specs.Outcome.{Comes, status_of};
+ghost use Rattle.dsde_cli.specs.Outcome.{Comes, SaysEnd, status_of};
 
-use crate::command::{Command, MOST_TURNS, read_command};
+use crate::command::{Command, read_command};
 use crate::note::write_note;
 use crate::{Refusal, Status, What, Why};
 use dsde_first::{FirstModel, ReadFirst, read_first};
@@ -38,21 +39,22 @@ pub fn dsde<F: Shelf, R: Source, W: Sink, E: Sink>(
 ) -> Status
     // The trace of the model is that which the definition of a run gives, and the call ends as the
     // run ends: where the shelf tells the model, the source its bytes and the sink what it has.
-    ensures runs { (asked : RunCommand) (model : FirstModel) → command_of (map string_bytes words.now) ≡ Some asked
-        → Holds asked.model (F.held shelf.old) model
+    ensures runs { (loaded : Loaded (map string_bytes words.now) (F.held shelf.old))
         → IfSome (R.left input.old) (λ bytes. IfSome (W.written out.old) (λ written.
-        Comes model (λ records. run model records asked.turns) bytes (R.left input.new) written (W.written out.new) result)) }
+        Comes loaded.model (tells_of loaded) bytes (R.left input.new) written (W.written out.new) result)) }
+
+    // The status says how that run ends, whatever the sink tells.
+    ensures ends { (loaded : Loaded (map string_bytes words.now) (F.held shelf.old))
+        → IfSome (R.left input.old) (λ bytes. SaysEnd (tells_of loaded (records_in loaded.model bytes)).end (R.left input.new) result) }
 
     // No byte of the input is taken that no turn wants.
-    ensures taken { (asked : RunCommand) (model : FirstModel) → command_of (map string_bytes words.now) ≡ Some asked
-        → Holds asked.model (F.held shelf.old) model
-        → Told (R.left input.old) (R.left input.new) (λ before.
-        TakesWanted (λ records. run model records asked.turns) (records_in model before) before) }
-    ensures idle { (asked : RunCommand) → command_of (map string_bytes words.now) ≡ Some asked → asked.turns ≡ 0 → input.new ≡ input.old }
+    ensures taken { (loaded : Loaded (map string_bytes words.now) (F.held shelf.old))
+        → Told (R.left input.old) (R.left input.new) (λ before. TakesWanted (tells_of loaded) (records_in loaded.model before) before) }
+    ensures idle { (asked : Asked (map string_bytes words.now)) → asked.run.turns ≡ 0 → input.new ≡ input.old }
 
     // Each status has its cause.
-    ensures cause { (asked : RunCommand) → command_of (map string_bytes words.now) ≡ Some asked
-        → Cause asked.model (F.held shelf.old) (Rose (F.faults shelf.old) (F.faults shelf.new))
+    ensures cause { (asked : Asked (map string_bytes words.now))
+        → Cause asked.run.model (F.held shelf.old) (Rose (F.faults shelf.old) (F.faults shelf.new))
         (Rose (R.faults input.old) (R.faults input.new)) (Rose (W.faults out.old) (W.faults out.new)) result }
     ensures usage { command_of (map string_bytes words.now) ≡ None
         → ((result ≡ Status.Usage) ⊎ (result ≡ Status.Memory)) × (shelf.new ≡ shelf.old) × (input.new ≡ input.old) × (out.new ≡ out.old) }
@@ -64,8 +66,8 @@ pub fn dsde<F: Shelf, R: Source, W: Sink, E: Sink>(
     ensures noted_front { IfSome (E.written notes.old) (λ written. WritesNoteFront written (E.written notes.new)) }
 
     // What stays as it was.
-    ensures unrun { (asked : RunCommand) → command_of (map string_bytes words.now) ≡ Some asked
-        → HoldsNone asked.model (F.held shelf.old) → (input.new ≡ input.old) × (out.new ≡ out.old) }
+    ensures unrun { (asked : Asked (map string_bytes words.now))
+        → HoldsNone asked.run.model (F.held shelf.old) → (input.new ≡ input.old) × (out.new ≡ out.old) }
     ensures untouched { IsBeforeRun result → (input.new ≡ input.old) × (out.new ≡ out.old) }
     ensures kept { F.held shelf.new ≡ F.held shelf.old }
     ensures shelf_counted { F.faults shelf.old ≤ F.faults shelf.new }
@@ -88,10 +90,12 @@ fn load_and_run<F: Shelf, R: Source, W: Sink>(
     input: &mut R,
     out: &mut W,
 ) -> Status
-    requires { turns ≤ MOST_TURNS }
+    requires { turns ≤ 1_000_000_000 }
     ensures runs { (model : FirstModel) → Holds name.now (F.held shelf.old) model
         → IfSome (R.left input.old) (λ bytes. IfSome (W.written out.old) (λ written.
         Comes model (λ records. run model records turns) bytes (R.left input.new) written (W.written out.new) result)) }
+    ensures ends { (model : FirstModel) → Holds name.now (F.held shelf.old) model
+        → IfSome (R.left input.old) (λ bytes. SaysEnd (run model (records_in model bytes) turns).end (R.left input.new) result) }
     ensures taken { (model : FirstModel) → Holds name.now (F.held shelf.old) model
         → Told (R.left input.old) (R.left input.new) (λ before. TakesWanted (λ records. run model records turns) (records_in model before) before) }
     ensures idle { turns ≡ 0 → input.new ≡ input.old }
@@ -160,9 +164,10 @@ fn write_run<R: Source, W: Sink>(
 ) -> Status
     requires form { IsFirst model.now }
     requires ports { HasFewPorts model.now }
-    requires turns { turns ≤ MOST_TURNS }
+    requires turns { turns ≤ 1_000_000_000 }
     ensures comes { IfSome (R.left input.old) (λ bytes. IfSome (W.written out.old) (λ written.
         Comes model.now (λ records. run model.now records turns) bytes (R.left input.new) written (W.written out.new) result)) }
+    ensures ends { IfSome (R.left input.old) (λ bytes. SaysEnd (run model.now (records_in model.now bytes) turns).end (R.left input.new) result) }
     ensures taken { Told (R.left input.old) (R.left input.new) (λ before.
         TakesWanted (λ records. run model.now records turns) (records_in model.now before) before) }
     ensures idle { turns ≡ 0 → input.new ≡ input.old }

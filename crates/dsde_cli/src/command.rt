@@ -19,7 +19,7 @@ ghost use Rattle.dsde_cli.specs.Commands.{
 ghost use Rattle.dsde_cli.specs.Given.{joined, run_after};
 
 /// The most turns of one command.
-pub(crate) const MOST_TURNS: u64 = 1_000_000_000;
+const MOST_TURNS: u64 = 1_000_000_000;
 
 /// What the words ask for: `run MODEL --turns N`, so far the only command.
 #[derive(Clone, Copy, Debug, PartialEq, Eq)]
@@ -127,7 +127,7 @@ fn is_option(word: &str) -> bool
 /// The number that 1 to 10 decimal digits spell, if it is at most a billion.
 fn read_turns(word: &str) -> Option<u64>
     ensures spelled { result ≡ turns_of word.now }
-    ensures bounded { IfSome result (λ turns. turns ≤ MOST_TURNS) }
+    ensures bounded { IfSome result (λ turns. turns ≤ 1_000_000_000) }
 {
     if !is_number(word) {
         return None;

@@ -13,7 +13,7 @@ use Rattle.dsde_sim.specs.declared.fault.TurnEnd.{TurnEnd}
 use Rattle.dsde_sim.specs.declared.fault.TurnEnd.TheVariants.{Fault, Memory}
 use Rattle.dsde_sim.specs.declared.leaf.Leaf.{Leaf}
 use Rattle.dsde_sim.specs.declared.plain.Step.{Step}
-use Rattle.dsde_sim.specs.declared.plain.Step.TheVariants.{Turned, Quiet}
+use Rattle.dsde_sim.specs.declared.plain.Step.TheVariants.{Turned}
 use Rattle.dsde_sim.specs.Engine.{Engine}
 use Rattle.dsde_sim.specs.Turn as step
 use Rattle.dsde_sim.specs.Turn.{turn, turned, told, is_taken, items_at, turn_time, advance, ◌then◌}
@@ -21,7 +21,7 @@ use Rattle.dsde_run.specs.declared.heads.Heads.{Heads}
 use Rattle.dsde_run.specs.declared.run.After.TheVariants.{Ended}
 use Rattle.dsde_run.specs.Heads.{Asked}
 use Rattle.dsde_run.specs.Reading.{Told}
-use Rattle.dsde_run.specs.Run.{Run, cut, turn_on, ended, faulted, offended}
+use Rattle.dsde_run.specs.Run.{cut, turn_on, ended, faulted, offended}
 use Rattle.dsde_run.specs.Steps.{Turns}
 use Rattle.dsde_run.proofs.Cutting.{behind_turn}
 use Rattle.dsde_run.proofs.Standing.{Told-then}

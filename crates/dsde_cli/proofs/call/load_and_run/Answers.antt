@@ -1,6 +1,7 @@
 use Rattle.std.proofs.Common.{sym, subst}
 use Rattle.std.specs.Prelude.{IfSome}
-use Rattle.dsde_run.specs.Run.{run}
+use Rattle.dsde_run.specs.Reading.{Told, TakesWanted}
+use Rattle.dsde_run.specs.Run.{run, records_in}
 use Rattle.dsde_cli.specs.Outcome.{Comes}
 use Rattle.dsde_cli.proofs.call.load_and_run.Goals as goal
 
@@ -9,3 +10,9 @@ returns-in-Ok-clause-runs g c = λ model holds.
     subst (λ model. IfSome (g.R.Source.left c.args.input.now) (λ bytes. IfSome (g.W.Sink.written c.args.out.now) (λ written.
     Comes model (λ records. run model records c.args.turns) bytes (g.R.Source.left c.write_run.new.input) written (g.W.Sink.written c.write_run.new.out) c.write_run.result)))
     (sym (c.in-Ok.ensures.only model holds)) c.write_run.ensures.comes
+
+pub returns-in-Ok-clause-taken : goal.returns-in-Ok-clause-taken
+returns-in-Ok-clause-taken g c = λ model holds.
+    subst (λ model. Told (g.R.Source.left c.args.input.now) (g.R.Source.left c.write_run.new.input) (λ before.
+    TakesWanted (λ records. run model records c.args.turns) (records_in model before) before))
+    (sym (c.in-Ok.ensures.only model holds)) c.write_run.ensures.taken

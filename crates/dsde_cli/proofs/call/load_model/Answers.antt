@@ -1,5 +1,5 @@
 use Rattle.std.proofs.Common.{refl, ap, Err}
-use Rattle.dsde_cli.specs.Causes.{SpellSome}
+use Rattle.dsde_cli.specs.Causes.{SpellNone}
 use Rattle.dsde_cli.proofs.Outcomes.{under-told}
 use Rattle.dsde_cli.proofs.call.load_model.Goals as goal
 
@@ -8,6 +8,8 @@ returns-in-Err-NotFirst-clause-none g c = (
   refl,
   refl,
   refl,
-  under-told c.args.name.now (g.F.Shelf.held c.args.shelf.now) c.in-Ok.bytes (λ bytes. ¬ SpellSome bytes) c.in-Ok.ensures.told
-      (λ some. (rw c.as_slice.ensures at (c.in-Err-NotFirst.ensures.not_first (ap Err c.in-Err-NotFirst.field-0-is))) some.model some.spells),
+  under-told c.args.name.now (g.F.Shelf.held c.args.shelf.now) c.in-Ok.bytes SpellNone c.in-Ok.ensures.told (record {
+    within = c.in-Ok.ensures.within;
+    none = λ some. (rw c.as_slice.ensures at (c.in-Err-NotFirst.ensures.not_first (ap Err c.in-Err-NotFirst.field-0-is))) some.model some.spells;
+  }),
 )

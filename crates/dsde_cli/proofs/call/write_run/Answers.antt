@@ -1,4 +1,4 @@
-use Rattle.std.proofs.Common.{[], Err, ap, subst}
+use Rattle.std.proofs.Common.{[], subst}
 use Rattle.std.specs.Prelude.{IfSome}
 use Rattle.dsde_io.specs.Bytes.{GainsFront}
 use Rattle.dsde_sim.specs.Text.{trace_text}
@@ -15,7 +15,9 @@ returns-in-Err-Failed-clause-comes g c =
     let front : IfSome (g.R.Source.left c.args.input.now) (λ bytes. IsFront [] c.run_model.new.text (trace_text c.args.model.now (run c.args.model.now (records_in c.args.model.now bytes) c.args.turns).events)) =
     elim c.match-run_model.branch [
       | in-Ok w ↦ front-tells model (λ records. run model records c.args.turns) c.new-text.result c.run_model.new.text left w.in-Ok.end c.new-text.ensures w.in-Ok.ensures.tells
-      | in-Err-ReadFault w ↦ rw c.new-text.ensures at (w.in-Err-ReadFault.ensures.front (ap Err w.in-Err-ReadFault.field-0-is))
+      | in-Err-ReadFault w ↦
+          subst (λ begun. IfSome (g.R.Source.left c.args.input.now) (λ bytes. IsFront begun c.run_model.new.text (trace_text c.args.model.now (run c.args.model.now (records_in c.args.model.now bytes) c.args.turns).events)))
+          c.new-text.ensures w.in-Err-ReadFault.ensures.front
     ] in
     comes-part model (λ records. run model records c.args.turns) c.run_model.new.text left (g.W.Sink.written c.args.out.now) (g.W.Sink.written c.write_all.new.sink)
     front (subst (GainsFront (g.W.Sink.written c.args.out.now) (g.W.Sink.written c.write_all.new.sink)) c.as_slice.ensures c.in-Err-Failed.ensures.front)
@@ -27,7 +29,9 @@ returns-clause-comes g c =
     let front : IfSome (g.R.Source.left c.args.input.now) (λ bytes. IsFront [] c.run_model.new.text (trace_text c.args.model.now (run c.args.model.now (records_in c.args.model.now bytes) c.args.turns).events)) =
     elim c.match-run_model.branch [
       | in-Ok w ↦ front-tells model (λ records. run model records c.args.turns) c.new-text.result c.run_model.new.text left w.in-Ok.end c.new-text.ensures w.in-Ok.ensures.tells
-      | in-Err-ReadFault w ↦ rw c.new-text.ensures at (w.in-Err-ReadFault.ensures.front (ap Err w.in-Err-ReadFault.field-0-is))
+      | in-Err-ReadFault w ↦
+          subst (λ begun. IfSome (g.R.Source.left c.args.input.now) (λ bytes. IsFront begun c.run_model.new.text (trace_text c.args.model.now (run c.args.model.now (records_in c.args.model.now bytes) c.args.turns).events)))
+          c.new-text.ensures w.in-Err-ReadFault.ensures.front
     ] in
     comes-part model (λ records. run model records c.args.turns) c.run_model.new.text left (g.W.Sink.written c.args.out.now) (g.W.Sink.written c.write_all.new.sink)
     front (subst (GainsFront (g.W.Sink.written c.args.out.now) (g.W.Sink.written c.write_all.new.sink)) c.as_slice.ensures c.in-Err-Memory-write_all.ensures.front)

@@ -1,4 +1,4 @@
-use Rattle.std.proofs.Common.{◌++◌, take, ◌∙◌}
+use Rattle.std.proofs.Common.{◌∙◌}
 use Rattle.dsde_sim.specs.Text.{trace_text}
 use Rattle.dsde_run.specs.Reading.{IsFront}
 use Rattle.dsde_run.proofs.Fronts.{OnErr-always, IsFront-events}
