@@ -1,4 +1,4 @@
-use Rattle.dsde_syntax.specs.declared.token.Key.TheVariants as key
+use Rattle.dsde_words.specs.declared.key.Key.TheVariants as key
 use Rattle.std.proofs.lemmas.Result.{err_from_is_err_and}
 use Rattle.dsde_first.specs.First.{send_tokens}
 use Rattle.dsde_first.specs.Wants.{sends}
