@@ -1,3 +1,5 @@
+//! Values under handles that are never given twice.
+
 ghost use Rattle.std.specs.Prelude.{◌≡◌, ◌==◌, ◌+◌, ◌-◌, ◌*◌, ◌^◌, ◌<◌, ◌≤◌, length, OnOk, OnErr, IfSome, OnSome, is_some, if◌then◌else◌, ◌↔◌, IsTrue, IsSome};
 ghost use Rattle.std.specs.Option.{option_copied, option_copied_mut};
 ghost use Rattle.std.specs.Ordering.{nat_cmp};
@@ -47,7 +49,7 @@ impl<T> Model for Bank<T> {
 impl<T> Entry<T> {
     ghost use Rattle.dsde_bank.specs.Slots.{LendsValue};
 
-    // The value, if this is its birth.
+    /// The value, if this is its birth.
     fn value_if_born(&self, birth: u64) -> Option<&T>
         ensures { option_copied result ≡ (if self.now.birth == birth then Some self.now.value else None) }
     {
@@ -58,7 +60,7 @@ impl<T> Entry<T> {
         }
     }
 
-    // The value, to be changed.
+    /// The value, to be changed.
     fn value_mut(&mut self) -> &mut T
         ensures* writes_back { sem 𝓛 (LendsValue T.row self.entry result) }
         ensures value { result.now ≡ self.old.value }
@@ -164,7 +166,7 @@ impl<T> Bank<T> {
         Some(entry.value)
     }
 
-    // Whether the bank holds a value of that slot and birth.
+    /// Whether the bank holds a value of that slot and birth.
     fn holds(&self, handle: Handle) -> bool
         ensures { result ≡ is_some (found self.now handle) }
     {

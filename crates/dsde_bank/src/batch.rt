@@ -1,3 +1,5 @@
+//! A list with reserved room.
+
 ghost use Rattle.std.specs.Prelude.{◌≡◌, ◌+◌, ◌-◌, ◌<◌, ◌≤◌, [], ◌∷◌, ◌++◌, length, MatchOption, OnOk};
 ghost use Rattle.dsde_bank.specs.Batch.{TakesLast};
 

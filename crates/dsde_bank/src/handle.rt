@@ -1,3 +1,5 @@
+//! What a bank gives out for a value.
+
 /// What a bank gives out for a value: the number of its birth, and the slot that holds it. Handles
 /// are ordered by birth.
 #[derive(Clone, Copy, Debug, PartialEq, Eq, PartialOrd, Ord)]

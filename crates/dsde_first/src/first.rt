@@ -1,3 +1,5 @@
+//! Models of one component over whole numbers.
+
 use dsde_syntax::{Items, Word};
 
 /// One atomic component over whole numbers.

@@ -1,3 +1,5 @@
+//! Models of one component, read from tokens.
+
 ghost use Rattle.std.specs.Prelude.{◌≡◌, ◌↔◌, ◌≤◌, ◌+◌, length, IsTrue, [], ◌∷◌, MatchOption, IfOk, IsErrOf, flat_map};
 ghost use Rattle.dsde_first.specs.declared.first.FirstModel.{FirstModel};
 ghost use Rattle.dsde_first.specs.First.{Spells, mark, part_tokens, sum_tokens, state_tokens, send_tokens, set_tokens, time_tokens, advance_tokens, block_tokens};

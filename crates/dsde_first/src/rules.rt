@@ -1,3 +1,5 @@
+//! The rules that a model of one component keeps.
+
 ghost use Rattle.std.specs.Prelude.{◌≡◌};
 ghost use Rattle.std.specs.List.{list_all};
 ghost use Rattle.dsde_first.specs.Rules.{contains, names_state, are_distinct, have_distinct_names, are_apart, are_no_states, has_distinct_names, is_part, is_sum, is_set, is_send, is_block, is_advance, keeps_rules};

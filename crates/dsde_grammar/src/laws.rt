@@ -1,3 +1,5 @@
+//! Laws on where the steps of the grammar stop.
+
 ghost use Rattle.std.specs.Prelude.{◌≡◌, ℕ, Some, None, All, take, true};
 ghost use Rattle.dsde_syntax.specs.Spelling.{IsToken};
 ghost use Rattle.dsde_syntax.specs.Grammar.{Tokens, tokens_of};

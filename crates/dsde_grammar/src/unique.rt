@@ -1,3 +1,5 @@
+//! A law: no two shaped models have the same tokens.
+
 ghost use Rattle.std.specs.Prelude.{◌≡◌};
 ghost use Rattle.dsde_syntax.specs.declared.decl.Model.{Model};
 ghost use Rattle.dsde_syntax.specs.Grammar.{tokens_of};

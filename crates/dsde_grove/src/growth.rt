@@ -1,4 +1,5 @@
-// Steps that change the kids of one part.
+//! Steps that change the kids of one part.
+
 ghost use Rattle.std.specs.Prelude.{◌≡◌, ◌+◌, ◌≤◌, ◌<◌, ◌∷◌, [], ◌++◌, OnOk, IsSome, IfSome, MatchOption, filter, not};
 ghost use Rattle.std.specs.FinMap as map;
 ghost use Rattle.dsde_bank.specs.Bank.{found};

@@ -1,4 +1,5 @@
-// One part of a grove, as the bank holds it.
+//! One part of a grove, as the bank holds it.
+
 ghost use Rattle.std.specs.Prelude.{◌≡◌, ◌≢◌, All, Contains, MatchOption, filter, not};
 ghost use Rattle.dsde_grove.specs.Part.{is_handle};
 

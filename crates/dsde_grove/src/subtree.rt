@@ -1,4 +1,5 @@
-// Taking out a part and all below it.
+//! Taking out a part and all below it.
+
 ghost use Rattle.std.specs.Prelude.{◌≡◌, ◌+◌, ◌≤◌, ◌∷◌, [], ◌++◌, length, map as map_list, IsSome};
 ghost use Rattle.std.specs.FinMap as map;
 ghost use Rattle.dsde_bank.specs.Bank.{found};

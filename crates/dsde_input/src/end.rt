@@ -1,3 +1,5 @@
+//! Why no record comes.
+
 use dsde_io::Failed;
 use dsde_values::Memory;
 

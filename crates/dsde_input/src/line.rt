@@ -1,3 +1,5 @@
+//! The line at the front of some bytes.
+
 ghost use Rattle.std.specs.Prelude.{◌≡◌, IfOk};
 ghost use Rattle.dsde_values.specs.When.{IsMoment};
 ghost use Rattle.dsde_input.specs.Lines.{without_last};

@@ -1,3 +1,5 @@
+//! The records of an input, one a call.
+
 ghost use Rattle.std.specs.Prelude.{◌≡◌, ◌<◌, ◌≤◌, true, false, List, ℕ, Some, None, [], length, IfOk, IfErr, OnOk, OnErr, IsErrOf, IfSome, IsSomeAnd, OnSome, MatchOption};
 ghost use Rattle.dsde_values.specs.When.{IsMoment};
 ghost use Rattle.dsde_io.specs.Fault.{Rose};

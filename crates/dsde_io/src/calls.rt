@@ -1,3 +1,5 @@
+//! The calls of an object in memory, and which of them fail.
+
 ghost use Rattle.std.specs.Prelude.{◌≡◌, ◌≤◌, ◌↔◌, IsTrue, MatchBool};
 
 use dsde_values::Seq;
@@ -49,7 +51,7 @@ impl Calls {
         fails
     }
 
-    // Whether the next call is to fail. The calls past the last that is counted have no number.
+    /// Whether the next call is to fail. The calls past the last that is counted have no number.
     fn is_next(&self) -> bool
         ensures { IsTrue result ↔ NextFails self.now }
     {

@@ -1,3 +1,5 @@
+//! The names and bytes on a shelf in memory.
+
 ghost use Rattle.std.specs.Prelude.{◌≡◌, ◌≢◌, ◌<◌, ◌≤◌, ◌↔◌, Some, option_copied, length, slice_index_or, slice_set, IsTrue, IfOk, OnOk, OnErr, IfSome, IfNone, IsSomeAnd, IsErrOf};
 ghost use Rattle.dsde_io.specs.Stored.{bytes_under, with_bytes, AreDistinct, IsPlaceOf};
 
@@ -17,7 +19,7 @@ pub fn has_distinct_names(contents: &[Stored]) -> bool
     true
 }
 
-// The place of the first entry of that name.
+/// The place of the first entry of that name.
 fn place_of(contents: &[Stored], name: &[u8]) -> Option<usize>
     ensures found { IfSome result (IsPlaceOf contents.now name.now) }
     ensures none { IfNone result (bytes_under contents.now name.now ≡ None) }
@@ -30,7 +32,7 @@ fn place_of(contents: &[Stored], name: &[u8]) -> Option<usize>
     None
 }
 
-// The bytes under a name.
+/// The bytes under a name.
 fn bytes_of<'a>(contents: &'a [Stored], name: &[u8]) -> Option<&'a [u8]>
     ensures { option_copied result ≡ bytes_under contents.now name.now }
 {
@@ -40,7 +42,7 @@ fn bytes_of<'a>(contents: &'a [Stored], name: &[u8]) -> Option<&'a [u8]>
     }
 }
 
-// A copy of the bytes under a name, at most `limit` of them.
+/// A copy of the bytes under a name, at most `limit` of them.
 pub(crate) fn copy_of(
     alloc: Global,
     contents: &[Stored],
@@ -63,7 +65,7 @@ pub(crate) fn copy_of(
     Ok(Text::from_slice(alloc, bytes)?)
 }
 
-// Puts a copy of the bytes under a name, in place of what is there. Without memory nothing changes.
+/// Puts a copy of the bytes under a name, in place of what is there. Without memory nothing changes.
 pub(crate) fn put(
     alloc: Global,
     contents: &mut Seq<Stored>,
@@ -86,7 +88,7 @@ pub(crate) fn put(
     }
 }
 
-// Replaces the bytes of an entry.
+/// Replaces the bytes of an entry.
 fn replace(contents: &mut Seq<Stored>, place: usize, bytes: Text)
     requires { place < length contents.old }
     ensures { (d : Stored) → contents.new

@@ -1,3 +1,5 @@
+//! A shelf over real files.
+
 ghost use Rattle.std.specs.Prelude.{◌≡◌, ◌≢◌, ℕ, ◌≤◌, length, None, IfOk, OnOk, IfErr, OnErr, IsErrOf};
 ghost use Rattle.dsde_io.specs.Fault.{one_more};
 
@@ -76,7 +78,7 @@ impl<R: Files> Shelf for FileShelf<R> {
     }
 }
 
-// The bytes of a file, of which at most one more than the limit is read.
+/// The bytes of a file, of which at most one more than the limit is read.
 fn read_file<R: Files>(alloc: Global, files: &R, name: &str, limit: u64) -> Result<Text, ShelfEnd>
     ensures { IfOk result (λ bytes. length bytes ≤ limit) }
 {
@@ -95,7 +97,7 @@ fn read_file<R: Files>(alloc: Global, files: &R, name: &str, limit: u64) -> Resu
     Ok(Text::from_vec(bytes))
 }
 
-// What a load answers where reading failed.
+/// What a load answers where reading failed.
 fn end_of(error: Error) -> ShelfEnd {
     if error.kind() == ErrorKind::OutOfMemory {
         ShelfEnd::Memory

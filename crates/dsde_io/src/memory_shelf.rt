@@ -1,3 +1,5 @@
+//! A shelf in memory.
+
 ghost use Rattle.std.specs.Prelude.{◌≡◌, ◌≢◌, ◌<◌, ◌≤◌, ◌↔◌, ℕ, List, Some, length, IfOk, OnOk, OnErr, IsSomeAnd, IsErrOf};
 ghost use Rattle.dsde_io.specs.Fault.{Rose, one_more};
 ghost use Rattle.dsde_io.specs.Calls.{no_calls, NextFails, after_call, after_fault};

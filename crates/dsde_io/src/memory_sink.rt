@@ -1,3 +1,5 @@
+//! A sink in memory.
+
 ghost use Rattle.std.specs.Prelude.{◌≡◌, ◌≢◌, ◌<◌, ◌≤◌, ◌↔◌, [], ◌++◌, Some, length, take, IfOk, OnErr, IsErrOf};
 ghost use Rattle.dsde_io.specs.Fault.{Rose, one_more};
 ghost use Rattle.dsde_io.specs.Calls.{no_calls, NextFails, after_call, after_fault};

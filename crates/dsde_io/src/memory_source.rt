@@ -1,3 +1,5 @@
+//! A source in memory.
+
 ghost use Rattle.std.specs.Prelude.{◌≡◌, ◌<◌, ◌≤◌, ◌↔◌, [], ◌++◌, Some, length, take, drop, min, IsOk, IsErr, IfOk, OnOk, OnErr};
 ghost use Rattle.dsde_io.specs.Fault.{Rose, one_more};
 ghost use Rattle.dsde_io.specs.Calls.{no_calls, NextFails, after_call, after_fault};
@@ -96,7 +98,7 @@ impl Source for MemorySource {
     }
 }
 
-// The bytes from a place on.
+/// The bytes from a place on.
 fn rest_of(bytes: &[u8], place: usize) -> &[u8]
     requires { place ≤ length bytes.now }
     ensures { result.now ≡ drop place bytes.now }
@@ -104,8 +106,8 @@ fn rest_of(bytes: &[u8], place: usize) -> &[u8]
     &bytes[place..]
 }
 
-// Copies bytes from the front to the front, as many as are there and fit, at most `largest`.
-// Answers how many.
+/// Copies bytes from the front to the front, as many as are there and fit, at most `largest`.
+/// Answers how many.
 fn copy_front(from: &[u8], to: &mut [u8], largest: usize) -> usize
     ensures count { result ≡ min (min (length from.now) (length to.old)) largest }
     ensures copied { to.new ≡ take result from.now ++ drop result to.old }

@@ -1,3 +1,5 @@
+//! What a shelf does and tells.
+
 ghost use Rattle.std.specs.Prelude.{◌≡◌, ◌≢◌, ◌<◌, ◌≤◌, ℕ, List, Option, length, IfOk, OnOk, IfSome, IsSomeAnd, IsErrOf};
 ghost use Rattle.dsde_io.specs.Fault.{Rose};
 ghost use Rattle.dsde_io.specs.Held.{ChangesOnly};

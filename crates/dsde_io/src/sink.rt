@@ -1,3 +1,5 @@
+//! What a sink does and tells, and writing all of a text to one.
+
 ghost use Rattle.std.specs.Prelude.{◌≡◌, ◌<◌, ◌≤◌, ℕ, List, Option, length, take, IfOk, OnOk, OnErr, IsErrOf};
 ghost use Rattle.dsde_io.specs.Fault.{Rose};
 ghost use Rattle.dsde_io.specs.Bytes.{Gains, GainsFront, Keeps};

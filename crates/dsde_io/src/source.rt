@@ -1,3 +1,5 @@
+//! What a source does and tells.
+
 ghost use Rattle.std.specs.Prelude.{◌≡◌, ◌<◌, ◌≤◌, ℕ, List, [], Option, length, take, IfOk, OnErr, IfSome};
 ghost use Rattle.dsde_io.specs.Fault.{Rose};
 ghost use Rattle.dsde_io.specs.Bytes.{Keeps, Takes};

@@ -1,3 +1,5 @@
+//! What stands on a shelf in memory under one name.
+
 use dsde_values::Text;
 
 /// Bytes under a name.

@@ -1,3 +1,5 @@
+//! Sources and sinks over streams.
+
 ghost use Rattle.std.specs.Prelude.{◌≡◌, ◌<◌, ◌≤◌, [], true, false, length, take, None, IfSome, IfNone, IfOk, OnOk, IfErr, OnErr};
 ghost use Rattle.dsde_io.specs.Bytes.{Gains, Keeps, Takes};
 ghost use Rattle.dsde_io.specs.Fault.{one_more};
@@ -68,7 +70,7 @@ impl<R: Read> Source for StreamSource<R> {
     }
 }
 
-// How many bytes one read gave; `None` where it failed, or signals interrupted each try.
+/// How many bytes one read gave; `None` where it failed, or signals interrupted each try.
 fn read_some<R: Read>(reader: &mut R, piece: &mut [u8]) -> Option<usize>
     requires { 0 < length piece.old }
     ensures within { IfSome result (λ count. count ≤ length piece.old) }
@@ -162,8 +164,8 @@ impl<W: Write> Sink for StreamSink<W> {
     }
 }
 
-// How many bytes one write took; `None` where it failed or took nothing, or signals interrupted
-// each try.
+/// How many bytes one write took; `None` where it failed or took nothing, or signals interrupted
+/// each try.
 fn write_some<W: Write>(writer: &mut W, piece: &[u8]) -> Option<usize>
     ensures within { IfSome result (λ count. (0 < count) × (count ≤ length piece.now)) }
     ensures gained { IfSome result (λ count. Gains (W.contents writer.old) (W.contents writer.new) (take count piece.now)) }

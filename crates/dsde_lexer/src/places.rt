@@ -1,3 +1,5 @@
+//! The lines and columns of tokens.
+
 ghost use Rattle.std.specs.Prelude.{◌≡◌, ◌+◌, ◌≤◌, ◌<◌, ℕ, length, Ok, IfOk, slice_get};
 ghost use Rattle.dsde_lexer.specs.Tokens.{tokens as tokens_of_text};
 ghost use Rattle.dsde_lexer.specs.Lines.{place_of};

@@ -1,3 +1,5 @@
+//! A law: the text of a model is cut into the model's own tokens.
+
 ghost use Rattle.std.specs.Prelude.{◌≡◌, ◌≤◌, length, map, IsOkAnd};
 ghost use Rattle.dsde_syntax.specs.declared.token.Token.{Token};
 ghost use Rattle.dsde_syntax.specs.declared.decl.Model.{Model};

@@ -1,11 +1,12 @@
-// Steps that keep pairs as a heap, in which no pair comes before its parent.
+//! Steps that keep pairs as a heap, in which no pair comes before its parent.
+
 ghost use Rattle.std.specs.Prelude.{◌≡◌, ◌+◌, ◌*◌, ◌<◌, ◌≤◌, length};
 ghost use Rattle.std.specs.List.Sorted.{IsPermutation};
 ghost use Rattle.dsde_queue.specs.Heap.{IsHeap, IsHeapFrom, IsHeapBut, IsFirstChild, ComesBeforeAt};
 
 use dsde_bank::Handle;
 
-// Moves the pair at `at` up, until it does not come before its parent.
+/// Moves the pair at `at` up, until it does not come before its parent.
 pub fn rise(pairs: &mut [(u64, Handle)], mut at: usize)
     requires within { at < length pairs.old }
     ensures permutation { IsPermutation pairs.old pairs.new }
@@ -21,7 +22,7 @@ pub fn rise(pairs: &mut [(u64, Handle)], mut at: usize)
     }
 }
 
-// Moves the first pair down, until no child comes before it.
+/// Moves the first pair down, until no child comes before it.
 pub fn sink(pairs: &mut [(u64, Handle)])
     ensures permutation { IsPermutation pairs.old pairs.new }
     ensures heap { IsHeapFrom pairs.old 1 → IsHeap pairs.new }
@@ -37,7 +38,7 @@ pub fn sink(pairs: &mut [(u64, Handle)])
     }
 }
 
-// The child that the other one does not come before.
+/// The child that the other one does not come before.
 fn first_child(pairs: &[(u64, Handle)], at: usize) -> usize
     requires { at * 2 + 1 < length pairs.now }
     ensures bound { (at * 2 + 1 ≤ result) × (result ≤ at * 2 + 2) × (result < length pairs.now) }

@@ -1,3 +1,5 @@
+//! A schedule: pairs of a time and a handle, the least first.
+
 ghost use Rattle.std.specs.Prelude.{◌≡◌, ◌≢◌, ◌+◌, ◌<◌, ◌≤◌, [], ◌∷◌, ◌++◌, length, map, filter, All, AllPairs, IfSome, IsNone, MatchOption, OnOk, ◌↔◌};
 ghost use Rattle.std.specs.Option.{option_map};
 ghost use Rattle.std.specs.List.{dedup};
@@ -128,7 +130,7 @@ impl Queue {
         self.pairs.dedup();
     }
 
-    // Takes out the first pair if it is of this time.
+    /// Takes out the first pair if it is of this time.
     fn take_at(&mut self, time: u64) -> Option<Handle>
         ensures taken { MatchOption result (IsNotFirst time self.old.pairs × (self.new ≡ self.old)) (λ handle. TakesFirst self.old self.new (time, handle)) }
         ensures ordered { IsOrdered self.old.pairs }

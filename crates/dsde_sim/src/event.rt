@@ -1,3 +1,5 @@
+//! What a run tells.
+
 use crate::Fault;
 use dsde_values::{Seq, When};
 

@@ -1,3 +1,5 @@
+//! Why an expression has no value, and where.
+
 ghost use Rattle.std.specs.Prelude.{◌≡◌};
 ghost use Rattle.dsde_sim.specs.declared.fault.LeafEnd.TheVariants as leaf_end;
 ghost use Rattle.dsde_sim.specs.declared.fault.TurnEnd.TheVariants as turn_end;

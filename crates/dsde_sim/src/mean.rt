@@ -1,3 +1,5 @@
+//! The meaning of sums and blocks.
+
 ghost use Rattle.std.specs.Prelude.{◌≡◌, pos, length, position, MatchResult};
 ghost use Rattle.std.specs.Str.{bytes_eq};
 ghost use Rattle.dsde_sim.specs.Meaning.{no_input, fitting, place_of, value_of, came_at, part_value, sum_value, assigned, block};

@@ -1,3 +1,5 @@
+//! The lines of a trace.
+
 ghost use Rattle.std.specs.Prelude.{◌≡◌, ◌++◌, [], length, take, slice_index_or, codes, decimal, OnOk, OnErr};
 ghost use Rattle.std.specs.Fmt.{signed_decimal};
 ghost use Rattle.dsde_sim.specs.Text.{event_text, end_text, finish_text, fault_text, settled_text, bindings_text, separator, when_text, move_text, input_text, site_text, kind_text};

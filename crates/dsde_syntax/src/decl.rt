@@ -1,3 +1,5 @@
+//! Models and their declarations.
+
 use crate::{Expr, Id, Item, Items, Stmt, TypeName};
 
 /// A file of the language.

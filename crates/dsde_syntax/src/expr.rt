@@ -1,3 +1,5 @@
+//! Expressions.
+
 use crate::{Boxed, Id, Items, Key, Sign, TypeName};
 
 /// An expression. A chain of operators of one level groups to the left.

@@ -1,3 +1,5 @@
+//! Identifiers in their places.
+
 use crate::Word;
 
 /// An identifier where it stands.

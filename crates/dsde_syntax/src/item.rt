@@ -1,3 +1,5 @@
+//! The items of a structure.
+
 use crate::{Expr, Id, Items};
 
 /// An item of a network's structure.

@@ -1,3 +1,5 @@
+//! The text of a model.
+
 ghost use Rattle.std.specs.Prelude.{◌≡◌, ◌++◌, codes, IfOk, OnOk};
 ghost use Rattle.std.specs.List.{join_by};
 ghost use Rattle.dsde_syntax.specs.Print.{tok_text, text_of};

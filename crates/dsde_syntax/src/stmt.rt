@@ -1,3 +1,5 @@
+//! Statements.
+
 use crate::{Expr, Id, Items};
 
 /// A statement of a block.

@@ -1,3 +1,5 @@
+//! Tokens and signs.
+
 ghost use Rattle.std.specs.Prelude.{◌≡◌, ◌↔◌, IsTrue};
 ghost use Rattle.dsde_syntax.specs.Spelling.{sign_text, sign_of};
 

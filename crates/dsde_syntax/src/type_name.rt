@@ -1,3 +1,5 @@
+//! Types as they are written.
+
 use crate::{Boxed, Id};
 
 /// A type as it is written. The number is the place of its first token.

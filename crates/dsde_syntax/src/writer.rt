@@ -1,3 +1,5 @@
+//! The tokens of a model.
+
 ghost use Rattle.std.specs.Prelude.{◌≡◌, [], ◌∷◌, ◌++◌, IfOk, OnOk};
 ghost use Rattle.dsde_syntax.specs.Grammar.{word as word_tokens, mark, id_tokens, tokens_of};
 ghost use Rattle.dsde_syntax.specs.declared.token.Tok.TheVariants as tok;

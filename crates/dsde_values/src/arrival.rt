@@ -1,3 +1,5 @@
+//! The records of an input.
+
 use crate::Value;
 use dsde_lists::Seq;
 

@@ -1,3 +1,5 @@
+//! The paths of components.
+
 ghost use Rattle.std.specs.Prelude.{◌≡◌, ◌≢◌, ◌↔◌, ◌++◌, ◌||◌, true, ℕ, codes, Option, length, take, IfOk, OnOk, OnErr, IfSome, IfNone, IsErrOf};
 ghost use Rattle.dsde_values.specs.Path.{root, path_text, name_text, index_text, path_cmp, IsPath, is_path, are_below, is_component, is_plain, is_name, is_index};
 ghost use Rattle.dsde_values.specs.declared.name.Name.{Name};

@@ -1,3 +1,5 @@
+//! Values, read from their spelling.
+
 ghost use Rattle.std.specs.Prelude.{◌≡◌, ◌≢◌, ◌≤◌, ◌<◌, ◌^◌, ◌++◌, ◌⊎◌, ℤ, ℕ, true, false, List, [], length, FitsSigned, slice_get, slice_index_or, IfOk, IsErrOf, IfSome, IfNone, MatchResult, MatchBool, Some};
 ghost use Rattle.std.specs.Int.{w64};
 ghost use Rattle.std.specs.Fmt.{signed_decimal};

@@ -1,3 +1,5 @@
+//! The spelling of values.
+
 ghost use Rattle.std.specs.Prelude.{◌≡◌, ◌++◌, length, take, map, unwrap_or, slice_index_or, [], codes, OnOk, OnErr};
 ghost use Rattle.dsde_values.specs.Value.{spelling, joined, field_texts, name_at, variants_at, fields_at};
 

@@ -1,3 +1,5 @@
+//! Types, and tables of them.
+
 use dsde_lists::{Boxed, Seq, Text};
 
 /// A type of values. Enums and records go by their number in a table of types.

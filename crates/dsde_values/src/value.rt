@@ -1,3 +1,5 @@
+//! Values, their equality and their copies.
+
 ghost use Rattle.std.specs.Prelude.{◌≡◌, ◌↔◌, IsTrue, IfOk};
 
 use dsde_lists::{Boxed, Memory, Seq};

@@ -1,3 +1,5 @@
+//! Moments of a run.
+
 /// The last moment of a run.
 pub const LAST_MOMENT: u64 = 9_223_372_036_854_775_807;
 

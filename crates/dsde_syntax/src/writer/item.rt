@@ -1,3 +1,5 @@
+//! The tokens of items.
+
 ghost use Rattle.std.specs.Prelude.{◌≡◌, ◌++◌, map, OnOk};
 ghost use Rattle.dsde_syntax.specs.Grammar.{word, mark, elses, block, else_block, optional, in_parens, id_tokens, args_tokens, set_tokens, component_tokens, end_part_tokens, end_tokens, link_tokens, via_key_tokens, via_tokens, item_tokens, item_arm_tokens};
 ghost use Rattle.dsde_words.specs.declared.key.Key.TheVariants as key;

@@ -1,3 +1,5 @@
+//! The tokens of statements.
+
 ghost use Rattle.std.specs.Prelude.{◌≡◌, ◌++◌, map, OnOk};
 ghost use Rattle.dsde_syntax.specs.Grammar.{word, mark, id_tokens, joined, elses, in_parens, block, else_block, expr_tokens, let_tokens, set_tokens, if_tokens, stmt_tokens, stmt_arm_tokens};
 ghost use Rattle.dsde_words.specs.declared.key.Key.TheVariants as key;

@@ -1,3 +1,5 @@
+//! The tokens of types.
+
 ghost use Rattle.std.specs.Prelude.{◌≡◌, ◌++◌, OnOk};
 ghost use Rattle.dsde_syntax.specs.Grammar.{word, in_angles, type_tokens};
 
