@@ -242,6 +242,8 @@ impl<T: Drop> Grove<T> {
             Some(Some(_)) => return Err((GrowEnd::Taken, value)),
             Some(None) => {}
         }
+        // One copy makes the place among the kids of the parent, the other finds it once the handle
+        // is known, when nothing may fail any more.
         let Ok(listed) = name.copy(self.alloc) else {
             return Err((GrowEnd::Memory, value));
         };
