@@ -7,7 +7,7 @@ use Rattle.dsde_grove.specs.Grove.{IsAbove}
 use Rattle.dsde_grove.specs.Grove.IsAbove.{itself, above_parent}
 use Rattle.dsde_grove.specs.Inside.{parent_in, IsLinked}
 use Rattle.dsde_grove.specs.declared.part.Part.{Part}
-use Rattle.dsde_grove.specs.declared.part.Kid.{Kid}
+use Rattle.dsde_grove.specs.Part.{Kid}
 use Rattle.dsde_grove.proofs.Trees.{Held}
 
 abbrev pub Parents : Type 0
@@ -56,14 +56,14 @@ module _ {T : Type 0} where
 
   -- below a part, but not at it, lies one of its kids
   pub through_kid : (held : Held T) (next : ℕ) → IsLinked held next → (a : ℕ) (x : ℕ × Part T) → fin.get held a ≡ Some x → {b : ℕ} → (y : ℕ × Part T) → fin.get held b ≡ Some y → IsAbove (parent_in held) a b → b ≢ a
-      → (kid : Kid) × Contains x.1.kids.items kid × IsAbove (parent_in held) kid.handle.birth b
+      → (kid : Kid) × Contains x.1.kids kid × IsAbove (parent_in held) kid.handle.birth b
   through_kid held next tree a x at y is itself other = absurd (other refl)
   through_kid held next tree a x at {b} y is (above_parent {parent = parent} parent_is above) other =
       let up = tree.up b y parent is (sym (parent_of-placed held b y is) ∙ parent_is) in
       elim (cases_eq parent.birth a) [
         | inl same ↦
             let here = same_placed (parent.slot, up.above) x (sym up.live ∙ ap (fin.get held) same ∙ at) in
-            (record { name = y.1.name; handle = record { birth = b; slot = y.0 } }, subst (λ (p : ℕ × Part T). Contains p.1.kids.items record { name = y.1.name; handle = record { birth = b; slot = y.0 } }) here up.listed, itself)
+            (record { name = y.1.name; handle = record { birth = b; slot = y.0 } }, subst (λ (p : ℕ × Part T). Contains p.1.kids record { name = y.1.name; handle = record { birth = b; slot = y.0 } }) here up.listed, itself)
         | inr differs ↦
             let kid = through_kid held next tree a x at (parent.slot, up.above) up.live above differs in
             (kid.0, kid.1, above_parent parent_is kid.2)

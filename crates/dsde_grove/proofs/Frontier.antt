@@ -12,7 +12,7 @@ use Rattle.dsde_grove.specs.Grove.{IsAbove}
 use Rattle.dsde_grove.specs.Grove.IsAbove.{itself, above_parent}
 use Rattle.dsde_grove.specs.Inside.{parent_in, IsLinked, IsListed, TakesAll}
 use Rattle.dsde_grove.specs.declared.part.Part.{Part}
-use Rattle.dsde_grove.specs.declared.part.Kid.{Kid}
+use Rattle.dsde_grove.specs.Part.{Kid}
 use Rattle.dsde_grove.proofs.Trees.{Held}
 use Rattle.dsde_grove.proofs.Above.{above_cases, above_trans, above_le, parent_falls, parent_of-placed, through_kid}
 
@@ -149,7 +149,7 @@ module _ {T : Type 0} where
     after = fin.remove now x.birth
 
     abbrev kids : List Handle
-    kids = map handle_of part.kids.items
+    kids = map handle_of part.kids
 
     was : fin.get tree x.birth ≡ Some (x.slot, part)
     was = f.same x.birth (x.slot, part) at
@@ -161,7 +161,7 @@ module _ {T : Type 0} where
     in_x = in_right x w (x ∷ []) (inl refl)
 
     listed : (h : Handle) → In h kids → (kid : Kid) × (kid.handle ≡ h) × IsListed tree x.birth (x.slot, part) kid
-    listed h there = let kid = in_handles h part.kids.items there in (kid.0, kid.2, lawful.down x.birth (x.slot, part) kid.0 was kid.1)
+    listed h there = let kid = in_handles h part.kids there in (kid.0, kid.2, lawful.down x.birth (x.slot, part) kid.0 was kid.1)
 
     -- a kid lies below the part, and is born later
     kid_parent : (h : Handle) → In h kids → parents h.birth ≡ Some x
@@ -230,11 +230,11 @@ module _ {T : Type 0} where
       above = λ up. elim (above_kid k.birth h in_h up) [ inl same ↦ differ same | inr over ↦ omega (arith, le over, later k in_k) ];
     }
 
-    kids_apart : (some : List Kid) → ((kid : Kid) → Contains some kid → Contains part.kids.items kid) → AllPairs (λ (a b : Kid). a.name ≢ b.name) some → AreApart parents (map handle_of some)
+    kids_apart : (some : List Kid) → ((kid : Kid) → Contains some kid → Contains part.kids kid) → AllPairs (λ (a b : Kid). a.name ≢ b.name) some → AreApart parents (map handle_of some)
     kids_apart [] among distinct = tt
     kids_apart (a ∷ rest) among distinct = (first, kids_apart rest (λ kid there. among kid (listed_later a kid rest there)) (λ i j d u v. distinct (suc i) (suc j) d (omega arith) (omega arith)))
       where
-        a_in : Contains part.kids.items a
+        a_in : Contains part.kids a
         a_in = among a (zero, omega arith, refl)
 
         first : (y : Handle) → In y (map handle_of rest) → AreFree parents a.handle y
@@ -247,12 +247,12 @@ module _ {T : Type 0} where
             let parts = same_slot tree a.handle kid.0.handle one.below two.below one.live two.live same in
             let names : a.name ≡ kid.0.name = sym one.named ∙ ap (λ (p : Part T). p.name) parts.1 ∙ two.named in
             distinct zero (suc kid.1.0) kid.0 (omega arith) (omega (arith, kid.1.1)) (names ∙ ap (λ (k : Kid). k.name) (sym kid.1.2)) in
-            subst (AreFree parents a.handle) kid.2 (two_kids a.handle kid.0.handle (handles_in a part.kids.items a_in) (handles_in kid.0 part.kids.items b_in) differ)
+            subst (AreFree parents a.handle) kid.2 (two_kids a.handle kid.0.handle (handles_in a part.kids a_in) (handles_in kid.0 part.kids b_in) differ)
 
     pub frontier-step : IsFrontier tree after top (w ++ kids)
     frontier-step = record {
       live = live_after;
-      apart = apart_append parents w kids (apart_left parents w (x ∷ []) f.apart) (kids_apart part.kids.items (λ kid there. there) (lawful.apart x.birth (x.slot, part) was)) cross_after;
+      apart = apart_append parents w kids (apart_left parents w (x ∷ []) f.apart) (kids_apart part.kids (λ kid there. there) (lawful.apart x.birth (x.slot, part) was)) cross_after;
       tops = λ h there. elim (in_cases h w kids there) [ inl in_w ↦ f.tops h (in_left h w (x ∷ []) in_w) | inr in_kids ↦ above_trans (f.tops x in_x) (kid_above h in_kids) ];
       same = λ b y is. f.same b y (sym (get-remove_other now x.birth b (left b y is)) ∙ is);
       outside = λ b other.
@@ -275,7 +275,7 @@ module _ {T : Type 0} where
                 | inl here ↦
                     let over = subst (λ (h : Handle). IsAbove parents h.birth b) (sym here) by.2 in
                     let kid = through_kid tree next lawful x.birth (x.slot, part) was y (f.same b y kept) over (left b y is) in
-                    (kid.0.handle, in_right kid.0.handle w kids (handles_in kid.0 part.kids.items kid.1), kid.2)
+                    (kid.0.handle, in_right kid.0.handle w kids (handles_in kid.0 part.kids kid.1), kid.2)
                 | inr none ↦ absurd none
               ]
             ]
@@ -295,5 +295,5 @@ module _ {T : Type 0} where
     pub length-step : length (w ++ kids) ≤ fin.len after
     length-step = length-apart parents after (w ++ kids) frontier-step.live frontier-step.apart
 
-    pub length-room : length w + length part.kids.items ≤ fin.len after
-    length-room = omega (arith, length-step, length-append w kids, length_handles part.kids.items)
+    pub length-room : length w + length part.kids ≤ fin.len after
+    length-room = omega (arith, length-step, length-append w kids, length_handles part.kids)

@@ -1,12 +1,9 @@
 -- A tree with one part more.
-use Rattle.std.proofs.Common.{◌≡◌, ◌≢◌, ◌⊎◌, ℕ, suc, ◌+◌, ◌<◌, List, [], ◌∷◌, ◌++◌, length, length-append, get_or, Contains, Option, Some, None, refl, sym, ap, subst, ◌∙◌, inl, inr, arith}
+use Rattle.std.proofs.Common.{◌≡◌, ◌≢◌, ◌⊎◌, ℕ, suc, ◌+◌, ◌<◌, List, [], ◌∷◌, ◌++◌, length, Contains, Option, Some, None, refl, sym, ap, subst, ◌∙◌, inl, inr, arith}
 use Rattle.std.specs.Option.{option_map}
-use Rattle.std.specs.List.{AllPairs}
 use Rattle.std.specs.Ordering.{nat_cmp}
 use Rattle.std.specs.FinMap as fin
 use Rattle.std.proofs.lemmas.Bool.{cases_eq}
-use Rattle.std.proofs.lemmas.List.{get_or_push, get_or_append_left}
-use Rattle.std.proofs.lemmas.List.Elements.{Contains-get_or}
 use Rattle.dsde_bank.specs.declared.handle.Handle.{Handle}
 use Rattle.dsde_bank.specs.Bank.{Bank}
 use Rattle.dsde_bank.proofs.Births.{same_births, get-insert_same, get-insert_other, len-insert_new}
@@ -14,27 +11,12 @@ use Rattle.dsde_values.specs.declared.name.Name.{Name}
 use Rattle.dsde_grove.specs.Grove.{Spot, IsKid, root_name, root_spot}
 use Rattle.dsde_grove.specs.Inside.{link, link_of, path_at, spot_in, parts_of, grove_of, IsBelow, IsListed, IsLinked, ChangesKids}
 use Rattle.dsde_grove.specs.declared.part.Part.{Part}
-use Rattle.dsde_grove.specs.declared.part.Kid.{Kid}
-use Rattle.dsde_grove.proofs.Listed.{listed_left, listed_last, listed_append_cases}
+use Rattle.dsde_grove.specs.Part.{Kid, DifferInName, Puts}
+use Rattle.dsde_grove.proofs.Named.{puts_twice}
 use Rattle.dsde_grove.proofs.Parts.{get-parts_of, found-get}
 use Rattle.dsde_grove.proofs.Paths.{same_paths, path-kid, path-root}
 use Rattle.dsde_grove.proofs.Trees.{Held, link_from, falls}
-use Rattle.dsde_grove.proofs.Kids.{listing, kid_is}
-
--- one kid more, of another name than all
-distinct_push : (kids : List Kid) (kid : Kid) → AllPairs (λ (a b : Kid). a.name ≢ b.name) kids → ((k : Kid) → Contains kids k → k.name ≢ kid.name) → AllPairs (λ (a b : Kid). a.name ≢ b.name) (kids ++ kid ∷ [])
-distinct_push kids kid distinct free i j d less within same =
-    let long = length-append kids (kid ∷ []) in
-    let first = get_or_append_left kids (kid ∷ []) d i (omega (arith, long)) in
-    elim (cases_eq j (length kids)) [
-      | inl last ↦
-          let second = get_or_push kids kid d j (sym last) in
-          free (get_or kids i d) (Contains-get_or kids i d (omega arith)) (ap (λ (k : Kid). k.name) (sym first) ∙ same ∙ ap (λ (k : Kid). k.name) second)
-      | inr before ↦
-          let in_kids : j < length kids = omega (arith, long) in
-          let second = get_or_append_left kids (kid ∷ []) d j in_kids in
-          distinct i j d less in_kids (ap (λ (k : Kid). k.name) (sym first) ∙ same ∙ ap (λ (k : Kid). k.name) second)
-    ]
+use Rattle.dsde_grove.proofs.KidLemmas.{listing, kid_is}
 
 some_handle : (p q : Handle) → Some p ≡ Some q → p ≡ q
 some_handle p q e = cc
@@ -49,13 +31,13 @@ module _ {T : Type 0} where
     parent : y.1.parent ≡ x.1.parent
     name : y.1.name ≡ x.1.name
     value : y.1.value ≡ x.1.value
-    kids : (k : Kid) → Contains x.1.kids.items k → Contains y.1.kids.items k
+    kids : (k : Kid) → Contains x.1.kids k → Contains y.1.kids k
 
   carried_same : (x : ℕ × Part T) → IsCarried x x
   carried_same x = record { slot = refl; parent = refl; name = refl; value = refl; kids = λ k listed. listed }
 
   -- a tree of one part
-  module _ (held : Held T) (slot : ℕ) (part : Part T) (is : held ≡ fin.insert fin.empty 0 (slot, part)) (root : part.parent ≡ None) (named : part.name ≡ root_name) (none : part.kids.items ≡ []) where
+  module _ (held : Held T) (slot : ℕ) (part : Part T) (is : held ≡ fin.insert fin.empty 0 (slot, part)) (root : part.parent ≡ None) (named : part.name ≡ root_name) (none : part.kids ≡ []) where
     only : (b : ℕ) (x : ℕ × Part T) → fin.get held b ≡ Some x → (b ≡ 0) × (x ≡ (slot, part))
     only b x at = elim (cases_eq b 0) [
       | inl same ↦ (same, one_part x (slot, part) (sym at ∙ ap (λ m. fin.get m b) is ∙ ap (fin.get (fin.insert fin.empty 0 (slot, part))) same ∙ get-insert_same fin.empty 0 (slot, part)))
@@ -67,10 +49,10 @@ module _ {T : Type 0} where
       given = λ b x at. omega (arith, (only b x at).0);
       up = λ b x p at parent. let wrong : None ≡ Some p = sym root ∙ ap (λ (z : ℕ × Part T). z.1.parent) (sym (only b x at).1) ∙ parent in absurd (cc);
       down = λ b x k at listed.
-          let empty = ap (λ (z : ℕ × Part T). z.1.kids.items) (only b x at).1 ∙ none in
+          let empty = ap (λ (z : ℕ × Part T). z.1.kids) (only b x at).1 ∙ none in
           absurd (omega (arith, listed.1, ap length empty));
       apart = λ b x at i j d less within same.
-          let empty = ap (λ (z : ℕ × Part T). z.1.kids.items) (only b x at).1 ∙ none in
+          let empty = ap (λ (z : ℕ × Part T). z.1.kids) (only b x at).1 ∙ none in
           absurd (omega (arith, within, ap length empty));
       root = λ b x at _. ((only b x at).0, ap (λ (z : ℕ × Part T). z.1.name) (only b x at).1 ∙ named);
     }
@@ -93,9 +75,9 @@ module _ {T : Type 0} where
 
   -- a part is put into the bank, and then into the list of its parent
   module _ (old : Held T) (next slot : ℕ) (parent : Handle) (part : Part T) (two three : Bank (Part T)) (lawful : IsLinked old next)
-      (held : two.held ≡ fin.insert old next (slot, part)) (linked : ChangesKids two three parent (λ kids. kids ++ listing part.name record { birth = next; slot = slot } ∷ []))
-      (below : part.parent ≡ Some parent) (none : part.kids.items ≡ []) (other_birth : parent.birth ≢ next)
-      (free : (k : Kid) → Contains linked.part.kids.items k → k.name ≢ part.name) where
+      (held : two.held ≡ fin.insert old next (slot, part)) (linked : ChangesKids two three parent (Puts (listing part.name record { birth = next; slot = slot })))
+      (below : part.parent ≡ Some parent) (none : part.kids ≡ []) (other_birth : parent.birth ≢ next)
+      (free : (k : Kid) → Contains linked.part.kids k → k.name ≢ part.name) where
     abbrev new : Held T
     new = three.held
 
@@ -117,7 +99,7 @@ module _ {T : Type 0} where
       parent = refl;
       name = refl;
       value = refl;
-      kids = λ k listed. subst (λ l. Contains l k) (sym linked.changed) (listed_left linked.part.kids.items (kid ∷ []) k listed);
+      kids = λ k listed. linked.changed.kept k listed (free k listed);
     }
 
     carried : (b : ℕ) (x : ℕ × Part T) → fin.get old b ≡ Some x → (y : ℕ × Part T) × (fin.get new b ≡ Some y) × IsCarried x y
@@ -132,19 +114,18 @@ module _ {T : Type 0} where
 
     -- where the parts of the new tree come from
     came : (b : ℕ) (y : ℕ × Part T) → fin.get new b ≡ Some y → ((b ≡ next) × (y ≡ (slot, part)))
-        ⊎ ((x : ℕ × Part T) × (fin.get old b ≡ Some x) × IsCarried x y × ((k : Kid) → Contains y.1.kids.items k → Contains x.1.kids.items k ⊎ ((b ≡ parent.birth) × (x.0 ≡ parent.slot) × (kid ≡ k))) × AllPairs (λ (a b : Kid). a.name ≢ b.name) y.1.kids.items)
+        ⊎ ((x : ℕ × Part T) × (fin.get old b ≡ Some x) × IsCarried x y × ((k : Kid) → Contains y.1.kids k → Contains x.1.kids k ⊎ ((b ≡ parent.birth) × (x.0 ≡ parent.slot) × (kid ≡ k))) × DifferInName y.1.kids)
     came b y is = elim (cases_eq b next) [
       | inl same ↦ inl (same, one_part y (slot, part) (sym is ∙ ap (fin.get new) same ∙ at_new))
       | inr older ↦ elim (cases_eq b parent.birth) [
         | inl same ↦
             let here = one_part (parent.slot, record linked.part { kids = linked.kids }) y (sym linked.now ∙ ap (fin.get new) (sym same) ∙ is) in
-            let items = sym (ap (λ (z : ℕ × Part T). z.1.kids.items) here) ∙ linked.changed in
             inr (
               (parent.slot, linked.part),
               ap (fin.get old) same ∙ above_was,
               subst (IsCarried (parent.slot, linked.part)) here carried_above,
-              (λ k listed. elim (listed_append_cases linked.part.kids.items kid k (subst (λ l. Contains l k) items listed)) [ inl was ↦ inl was | inr last ↦ inr (same, refl, last) ]),
-              subst (AllPairs (λ (a b : Kid). a.name ≢ b.name)) (sym items) (distinct_push linked.part.kids.items kid (lawful.apart parent.birth (parent.slot, linked.part) above_was) free),
+              (λ k listed. elim (linked.changed.only k (subst (λ (z : ℕ × Part T). Contains z.1.kids k) (sym here) listed)) [ inl this ↦ inr (same, refl, this) | inr was ↦ inl was.0 ]),
+              subst (λ (z : ℕ × Part T). DifferInName z.1.kids) here linked.changed.apart,
             )
         | inr other ↦
             let was = sym (at_other b other older) ∙ is in
@@ -175,8 +156,8 @@ module _ {T : Type 0} where
                 above = record linked.part { kids = linked.kids };
                 live = linked.now;
                 later = omega (arith, later, fresh.0);
-                listed = subst (λ (k : Kid). Contains linked.kids.items k) (λ i. record { name = (sym fresh.1 i).1.name; handle = record { birth = sym fresh.0 i; slot = (sym fresh.1 i).0 } })
-                    (subst (λ l. Contains l kid) (sym linked.changed) (listed_last linked.part.kids.items kid));
+                listed = subst (λ (k : Kid). Contains linked.kids k) (λ i. record { name = (sym fresh.1 i).1.name; handle = record { birth = sym fresh.0 i; slot = (sym fresh.1 i).0 } })
+                    linked.changed.there;
               }
           | inr was ↦
               let over = lawful.up b was.0 p was.1 (sym was.2.parent ∙ up_is) in
@@ -185,13 +166,13 @@ module _ {T : Type 0} where
                 above = to.0.1;
                 live = to.1 ∙ (λ i. Some (to.2.slot i, to.0.1));
                 later = over.later;
-                listed = subst (λ (k : Kid). Contains to.0.1.kids.items k) (λ i. record { name = sym was.2.name i; handle = record { birth = b; slot = sym was.2.slot i } }) (to.2.kids _ over.listed);
+                listed = subst (λ (k : Kid). Contains to.0.1.kids k) (λ i. record { name = sym was.2.name i; handle = record { birth = b; slot = sym was.2.slot i } }) (to.2.kids _ over.listed);
               }
         ]
 
-        down : (b : ℕ) (y : ℕ × Part T) (k : Kid) → fin.get new b ≡ Some y → Contains y.1.kids.items k → IsListed new b y k
+        down : (b : ℕ) (y : ℕ × Part T) (k : Kid) → fin.get new b ≡ Some y → Contains y.1.kids k → IsListed new b y k
         down b y k is listed = elim (came b y is) [
-          | inl fresh ↦ let empty = ap (λ (z : ℕ × Part T). z.1.kids.items) fresh.1 ∙ none in absurd (omega (arith, listed.1, ap length empty))
+          | inl fresh ↦ let empty = ap (λ (z : ℕ × Part T). z.1.kids) fresh.1 ∙ none in absurd (omega (arith, listed.1, ap length empty))
           | inr was ↦ elim (was.3 k listed) [
             | inl older ↦
                 let over = lawful.down b was.0 k was.1 older in
@@ -212,15 +193,15 @@ module _ {T : Type 0} where
           ]
         ]
 
-        apart : (b : ℕ) (y : ℕ × Part T) → fin.get new b ≡ Some y → AllPairs (λ (a b : Kid). a.name ≢ b.name) y.1.kids.items
+        apart : (b : ℕ) (y : ℕ × Part T) → fin.get new b ≡ Some y → DifferInName y.1.kids
         apart b y is = elim (came b y is) [
-          | inl fresh ↦ λ i j d less within same. let empty = ap (λ (z : ℕ × Part T). z.1.kids.items) fresh.1 ∙ none in absurd (omega (arith, within, ap length empty))
+          | inl fresh ↦ λ i j d less within same. let empty = ap (λ (z : ℕ × Part T). z.1.kids) fresh.1 ∙ none in absurd (omega (arith, within, ap length empty))
           | inr was ↦ was.4
         ]
 
   -- the first part of an empty bank
   module _ (old new : Bank (Part T)) (handle : Handle) (part : Part T) (held : new.held ≡ fin.insert old.held handle.birth (handle.slot, part)) (birth : handle.birth ≡ old.next_birth) (next : new.next_birth ≡ old.next_birth + 1)
-      (bare : old.held ≡ fin.empty) (first : old.next_birth ≡ 0) (root : part.parent ≡ None) (named : part.name ≡ root_name) (none : part.kids.items ≡ []) where
+      (bare : old.held ≡ fin.empty) (first : old.next_birth ≡ 0) (root : part.parent ≡ None) (named : part.name ≡ root_name) (none : part.kids ≡ []) where
     placed_first : new.held ≡ fin.insert fin.empty 0 (handle.slot, part)
     placed_first = held ∙ (λ i. fin.insert (bare i) ((birth ∙ first) i) (handle.slot, part))
 
@@ -237,9 +218,9 @@ module _ {T : Type 0} where
 
   -- the part that is new shows below its parent, and all others as before
   module _ (old : Held T) (next slot : ℕ) (parent : Handle) (part : Part T) (two three : Bank (Part T)) (lawful : IsLinked old next)
-      (held : two.held ≡ fin.insert old next (slot, part)) (linked : ChangesKids two three parent (λ kids. kids ++ listing part.name record { birth = next; slot = slot } ∷ []))
-      (below : part.parent ≡ Some parent) (none : part.kids.items ≡ []) (other_birth : parent.birth ≢ next)
-      (free : (k : Kid) → Contains linked.part.kids.items k → k.name ≢ part.name) where
+      (held : two.held ≡ fin.insert old next (slot, part)) (linked : ChangesKids two three parent (Puts (listing part.name record { birth = next; slot = slot })))
+      (below : part.parent ≡ Some parent) (none : part.kids ≡ []) (other_birth : parent.birth ≢ next)
+      (free : (k : Kid) → Contains linked.part.kids k → k.name ≢ part.name) where
     abbrev last : Held T
     last = three.held
 
@@ -298,17 +279,57 @@ module _ {T : Type 0} where
       by None is = is
       by (Some x) is = absurd (omega (arith, lawful.given next x is))
 
-  -- the name is still free once room is made and the part is in the bank
-  pub still_free : (older one two three : Bank (Part T)) (next birth slot : ℕ) (parent : Handle) (name : Name) (part : Part T) (change : List Kid → List Kid) → IsLinked older.held next → ChangesKids older one parent (λ kids. kids)
-      → two.held ≡ fin.insert one.held birth (slot, part) → parent.birth ≢ birth → (linked : ChangesKids two three parent change) → ((kid : Handle) → ¬ IsKid (grove_of older) parent name kid)
-      → (k : Kid) → Contains linked.part.kids.items k → k.name ≢ name
-  still_free older one two three next birth slot parent name part change lawful kept held other linked free k listed named =
-      let here = one_part (parent.slot, linked.part) (parent.slot, record kept.part { kids = kept.kids })
-      (sym linked.was ∙ ap (λ m. fin.get m parent.birth) held ∙ get-insert_other one.held birth (slot, part) parent.birth other ∙ kept.now) in
-      let items = ap (λ (z : ℕ × Part T). z.1.kids.items) here ∙ kept.changed in
-      let was : Contains kept.part.kids.items k = subst (λ l. Contains l k) items listed in
-      let as_named : Contains kept.part.kids.items (listing name k.handle) = subst (λ (x : Kid). Contains kept.part.kids.items x) (λ i. listing (named i) k.handle) was in
-      free k.handle (kid_is older next lawful parent name kept.part (found-get older parent kept.part kept.was) k.handle as_named)
+  -- the name of a kid that is not there is free
+  pub free_name : (older : Bank (Part T)) (parent : Handle) (name : Name) (part : Part T) → IsLinked older.held older.next_birth → fin.get older.held parent.birth ≡ Some (parent.slot, part) → ((kid : Handle) → ¬ IsKid (grove_of older) parent name kid) → (k : Kid) → Contains part.kids k → k.name ≢ name
+  free_name older parent name part lawful was free k listed named =
+      let as_named : Contains part.kids (listing name k.handle) = subst (λ (x : Kid). Contains part.kids x) (λ i. listing (named i) k.handle) listed in
+      free k.handle (kid_is older older.next_birth lawful parent name part (found-get older parent part was) k.handle as_named)
 
-  pub len-placed : (one two : Bank (Part T)) (next birth : ℕ) (x : ℕ × Part T) → IsLinked one.held birth → two.held ≡ fin.insert one.held birth x → fin.len two.held ≡ fin.len one.held + 1
-  len-placed one two next birth x lawful held = ap fin.len held ∙ len-insert_new one.held birth x (not_given one.held birth lawful)
+  -- a place is made among the kids, a part is put into the bank, and then into its place: as if it were put there at once
+  pub placed-linked : (zero one two three : Bank (Part T)) (parent : Handle) (name : Name) (first final : Handle) (x : ℕ × Part T) → IsLinked zero.held final.birth → parent.birth ≢ final.birth → ChangesKids zero one parent (Puts (listing name first))
+      → two.held ≡ fin.insert one.held final.birth x → ChangesKids two three parent (Puts (listing name final)) → ChangesKids (record two { held = fin.insert zero.held final.birth x }) three parent (Puts (listing name final))
+  placed-linked zero one two three parent name first final x lawful other placed held linked = record {
+    part = placed.part;
+    kids = linked.kids;
+    was = get-insert_other zero.held final.birth x parent.birth other ∙ placed.was;
+    now = linked.now ∙ (λ i. Some (parent.slot, record ((here i).1) { kids = linked.kids }));
+    changed = puts_twice name first final placed.part.kids placed.kids linked.kids placed.changed (subst (λ (z : ℕ × Part T). Puts (listing name final) z.1.kids linked.kids) here linked.changed);
+    others = λ b differs. linked.others b differs ∙ ap (λ m. fin.get m b) held ∙ elim (cases_eq b final.birth) [
+      | inl same ↦ ap (fin.get (fin.insert one.held final.birth x)) same ∙ get-insert_same one.held final.birth x ∙ sym (ap (fin.get (fin.insert zero.held final.birth x)) same ∙ get-insert_same zero.held final.birth x)
+      | inr older ↦ get-insert_other one.held final.birth x b older ∙ placed.others b differs ∙ sym (get-insert_other zero.held final.birth x b older)
+    ];
+    next = linked.next;
+    len = linked.len ∙ ap fin.len held ∙ len-insert_new one.held final.birth x (placed.others final.birth (λ same. other (sym same)) ∙ not_given zero.held final.birth lawful) ∙ ap (λ n. n + 1) placed.len
+        ∙ sym (len-insert_new zero.held final.birth x (not_given zero.held final.birth lawful));
+  }
+    where
+      here : ◌≡◌ {A = ℕ × Part T} (parent.slot, linked.part) (parent.slot, record placed.part { kids = placed.kids })
+      here = one_part (parent.slot, linked.part) (parent.slot, record placed.part { kids = placed.kids })
+          (sym linked.was ∙ ap (λ m. fin.get m parent.birth) held ∙ get-insert_other one.held final.birth x parent.birth other ∙ placed.now)
+
+  pub len-placed : (zero two three : Bank (Part T)) (parent last : Handle) (x : ℕ × Part T) (Change : List Kid → List Kid → Type 0) → IsLinked zero.held last.birth → ChangesKids (record two { held = fin.insert zero.held last.birth x }) three parent Change → fin.len three.held ≡ fin.len zero.held + 1
+  len-placed zero two three parent last x Change lawful linked = linked.len ∙ len-insert_new zero.held last.birth x (not_given zero.held last.birth lawful)
+
+  -- a part has grown: a place was made for it, it was put into the bank, and then into its place
+  module _ (zero one two three : Bank (Part T)) (parent handle : Handle) (part : Part T) (lawful : IsLinked zero.held handle.birth) (held : two.held ≡ fin.insert one.held handle.birth (handle.slot, part))
+      (placed : ChangesKids zero one parent (Puts (listing part.name parent))) (linked : ChangesKids two three parent (Puts (listing part.name handle))) (below : part.parent ≡ Some parent) (none : part.kids ≡ []) (apart : parent.birth ≢ handle.birth)
+      (free : (k : Kid) → Contains placed.part.kids k → k.name ≢ part.name) where
+    abbrev at_once : Bank (Part T)
+    at_once = record two { held = fin.insert zero.held handle.birth (handle.slot, part) }
+
+    whole : ChangesKids at_once three parent (Puts (listing part.name handle))
+    whole = placed-linked zero one two three parent part.name parent handle (handle.slot, part) lawful apart placed held linked
+
+    still_free : (k : Kid) → Contains whole.part.kids k → k.name ≢ part.name
+    still_free k listed =
+        let same = one_part (parent.slot, whole.part) (parent.slot, placed.part) (sym whole.was ∙ get-insert_other zero.held handle.birth (handle.slot, part) parent.birth apart ∙ placed.was) in
+        free k (subst (λ (z : ℕ × Part T). Contains z.1.kids k) same listed)
+
+    pub tree-grew : IsLinked three.held (handle.birth + 1)
+    tree-grew = tree-grown zero.held handle.birth handle.slot parent part at_once three lawful refl whole below none apart still_free
+
+    pub parts-grew : parts_of three.held ≡ fin.insert (parts_of zero.held) handle.birth record { slot = handle.slot; parent = Some parent; name = part.name; path = path_at zero.held parent.birth ++ part.name ∷ []; value = part.value }
+    parts-grew = parts-grown zero.held handle.birth handle.slot parent part at_once three lawful refl whole below none apart still_free
+
+    pub len-grew : fin.len three.held ≡ fin.len zero.held + 1
+    len-grew = len-placed zero two three parent handle (handle.slot, part) (Puts (listing part.name handle)) lawful whole

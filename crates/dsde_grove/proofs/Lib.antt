@@ -4,8 +4,9 @@ pub mod Trees
 pub mod Above
 pub mod Frontier
 pub mod Listed
+pub mod Named
 pub mod Pruned
-pub mod Kids
+pub mod KidLemmas
 pub mod Grown
 pub mod Walk
 pub mod Shown

@@ -1,38 +1,25 @@
 -- A tree without one part and those below it.
-use Rattle.std.proofs.Common.{◌≡◌, ◌≢◌, ℕ, suc, Bool, true, not, eqb, ◌&&◌, Contains, filter, Option, Some, None, MatchOption, IfSome, IsSome, is_some, option_and_then, refl, sym, ap, subst, ◌∙◌, inl, inr, arith}
+use Rattle.std.proofs.Common.{◌≡◌, ◌≢◌, ℕ, suc, Contains, Option, Some, None, MatchOption, IfSome, IsSome, is_some, option_and_then, refl, sym, ap, subst, ◌∙◌, inl, inr, arith}
 use Rattle.std.specs.Option.{option_map}
-use Rattle.std.specs.List.{AllPairs}
 use Rattle.std.specs.FinMap as fin
-use Rattle.std.proofs.lemmas.Bool.{cases_eq, eq-eqb, ne_eqb}
-use Rattle.std.proofs.lemmas.List.Kept.{AllPairs-filter}
+use Rattle.std.proofs.lemmas.Bool.{cases_eq}
 use Rattle.dsde_bank.specs.declared.handle.Handle.{Handle}
 use Rattle.dsde_bank.specs.Bank.{Bank, found}
 use Rattle.dsde_grove.specs.Grove.{Spot, spot, IsAbove, IsTree, DropsSubtree, parent_of}
 use Rattle.dsde_grove.specs.Grove.IsAbove.{itself, above_parent}
-use Rattle.dsde_grove.specs.Part.{is_handle}
+use Rattle.dsde_values.specs.declared.name.Name.{Name}
+use Rattle.dsde_grove.proofs.KidLemmas.{listing, one_kid}
 use Rattle.dsde_grove.specs.Inside.{parent_in, link, link_of, path_at, spot_in, parts_of, grove_of, IsBelow, IsListed, IsLinked, TakesAll, ChangesKids}
 use Rattle.dsde_grove.specs.declared.part.Part.{Part}
-use Rattle.dsde_grove.specs.declared.part.Kid.{Kid}
-use Rattle.dsde_grove.proofs.Listed.{listed_filter, filter_listed}
+use Rattle.dsde_grove.specs.Part.{Kid, DifferInName, Forgets}
 use Rattle.dsde_grove.proofs.Parts.{get-parts_of, found-get}
 use Rattle.dsde_grove.proofs.Paths.{same_paths}
 use Rattle.dsde_grove.proofs.Trees.{Held, link_from}
 use Rattle.dsde_grove.proofs.Shown.{either}
 use Rattle.dsde_grove.proofs.Above.{above_cases, above_same, above_le, parent_falls, parent_of-placed}
 
-abbrev pub DifferInName : Kid → Kid → Type 0
-DifferInName a b = a.name ≢ b.name
-
 some_handle : (p q : Handle) → Some p ≡ Some q → p ≡ q
 some_handle p q e = cc
-
-true_handle : (h : Handle) → not (is_handle h h) ≡ true → ⊥
-true_handle h open_ =
-    let same : is_handle h h ≡ true = (λ i. eq-eqb h.birth h.birth refl i && eq-eqb h.slot h.slot refl i) in
-    let no = ap not same in cc
-
-other_handle : (h k : Handle) → k.birth ≢ h.birth → not (is_handle h k) ≡ true
-other_handle h k differs = ap (λ b. not (b && eqb k.slot h.slot)) (ne_eqb k.birth h.birth differs)
 
 module _ {T : Type 0} where
   -- a part that stays: its kids are those that it had, without the top
@@ -41,10 +28,10 @@ module _ {T : Type 0} where
     pub parent : y.1.parent ≡ x.1.parent
     pub name : y.1.name ≡ x.1.name
     pub value : y.1.value ≡ x.1.value
-    pub kids : (k : Kid) → Contains x.1.kids.items k → k.handle.birth ≢ top → Contains y.1.kids.items k
-    pub no_others : (k : Kid) → Contains y.1.kids.items k → Contains x.1.kids.items k
-    pub no_top : (k : Kid) → Contains y.1.kids.items k → k.handle.birth ≢ top
-    pub apart : AllPairs DifferInName y.1.kids.items
+    pub kids : (k : Kid) → Contains x.1.kids k → k.handle.birth ≢ top → Contains y.1.kids k
+    pub no_others : (k : Kid) → Contains y.1.kids k → Contains x.1.kids k
+    pub no_top : (k : Kid) → Contains y.1.kids k → k.handle.birth ≢ top
+    pub apart : DifferInName y.1.kids
 
   -- the parts that the top lies above are gone, and the others stay
   pub record IsPruned (tree new : Held T) (top : ℕ) : Type 0 where
@@ -56,7 +43,7 @@ module _ {T : Type 0} where
   one_some x y e = cc
 
   -- no part but its parent lists a part among its kids
-  lists_top : (tree : Held T) (next : ℕ) → IsLinked tree next → (top : Handle) (part : Part T) → fin.get tree top.birth ≡ Some (top.slot, part) → (b : ℕ) (x : ℕ × Part T) (k : Kid) → fin.get tree b ≡ Some x → Contains x.1.kids.items k → k.handle.birth ≡ top.birth
+  lists_top : (tree : Held T) (next : ℕ) → IsLinked tree next → (top : Handle) (part : Part T) → fin.get tree top.birth ≡ Some (top.slot, part) → (b : ℕ) (x : ℕ × Part T) (k : Kid) → fin.get tree b ≡ Some x → Contains x.1.kids k → k.handle.birth ≡ top.birth
       → (part.parent ≡ Some record { birth = b; slot = x.0 }) × (k.handle ≡ top)
   lists_top tree next lawful top part live b x k is listed same =
       let down = lawful.down b x k is listed in
@@ -84,11 +71,16 @@ module _ {T : Type 0} where
   }
 
   pub pruned-kid : (old mid new : Bank (Part T)) (next : ℕ) → IsLinked old.held next → (top parent : Handle) (part : Part T) → fin.get old.held top.birth ≡ Some (top.slot, part) → part.parent ≡ Some parent → TakesAll old mid top
-      → ChangesKids mid new parent (filter (λ other. not (is_handle top other.handle))) → IsPruned old.held new.held top.birth
+      → ChangesKids mid new parent (Forgets part.name) → IsPruned old.held new.held top.birth
   pruned-kid old mid new next lawful top parent part live below t c = record { there = there; back = back; left = left }
     where
-      test : Kid → Bool
-      test kid = not (is_handle top kid.handle)
+      -- of the kids of the parent the top alone has its name
+      named_top : (x : ℕ × Part T) → fin.get old.held parent.birth ≡ Some x → (k : Kid) → Contains x.1.kids k → k.name ≡ part.name → k.handle.birth ≡ top.birth
+      named_top x is k listed named =
+          let up = lawful.up top.birth (top.slot, part) parent live below in
+          let here = one_some (parent.slot, up.above) x (sym up.live ∙ is) in
+          let top_listed = subst (λ (z : ℕ × Part T). Contains z.1.kids (listing part.name top)) here up.listed in
+          ap (λ (kid : Kid). kid.handle.birth) (one_kid x.1.kids (lawful.apart parent.birth x is) k (listing part.name top) listed top_listed named)
 
       back : (b : ℕ) (y : ℕ × Part T) → fin.get new.held b ≡ Some y → (x : ℕ × Part T) × (fin.get old.held b ≡ Some x)
       back b y is = elim (cases_eq b parent.birth) [
@@ -107,8 +99,8 @@ module _ {T : Type 0} where
         | inl same ↦
             let mid_is = t.kept b out ∙ is in
             let here = one_some (parent.slot, c.part) x (sym c.was ∙ ap (fin.get mid.held) (sym same) ∙ mid_is) in
-            let kids = ap (filter test) (ap (λ (z : ℕ × Part T). z.1.kids.items) here) in
-            let items = c.changed ∙ kids in (
+            let parent_is : fin.get old.held parent.birth ≡ Some x = ap (fin.get old.held) (sym same) ∙ is in
+            let change = subst (λ (z : ℕ × Part T). Forgets part.name z.1.kids c.kids) here c.changed in (
               (parent.slot, record c.part { kids = c.kids }),
               ap (fin.get new.held) same ∙ c.now,
               record {
@@ -116,13 +108,14 @@ module _ {T : Type 0} where
                 parent = ap (λ (z : ℕ × Part T). z.1.parent) here;
                 name = ap (λ (z : ℕ × Part T). z.1.name) here;
                 value = ap (λ (z : ℕ × Part T). z.1.value) here;
-                kids = λ k listed other. subst (λ l. Contains l k) (sym items) (listed_filter test x.1.kids.items k listed (other_handle top k.handle other));
-                no_others = λ k listed. (filter_listed test x.1.kids.items k (subst (λ l. Contains l k) items listed)).0;
+                kids = λ k listed other. change.kept k listed (λ named. other (named_top x parent_is k listed named));
+                no_others = λ k listed. (change.only k listed).0;
                 no_top = λ k listed at_top.
-                    let both = filter_listed test x.1.kids.items k (subst (λ l. Contains l k) items listed) in
-                    let handle = (lists_top old.held next lawful top part live b x k is both.0 at_top).1 in
-                    true_handle top (ap (λ h. not (is_handle top h)) (sym handle) ∙ both.1);
-                apart = subst (AllPairs DifferInName) (sym items) (AllPairs-filter DifferInName test x.1.kids.items (lawful.apart b x is));
+                    let both = change.only k listed in
+                    let down = lawful.down b x k is both.0 in
+                    let this = one_some (k.handle.slot, down.below) (top.slot, part) (sym down.live ∙ ap (fin.get old.held) at_top ∙ live) in
+                    both.1 (sym down.named ∙ ap (λ (z : ℕ × Part T). z.1.name) this);
+                apart = change.apart;
               },
             )
         | inr other ↦ (
@@ -156,7 +149,7 @@ module _ {T : Type 0} where
       apart = λ b y is.
           let from = pruned.back b y is in
           let to = pruned.there b from.0 from.1 (pruned.left b y is) in
-          subst (λ (z : ℕ × Part T). AllPairs DifferInName z.1.kids.items) (one_some to.0 y (sym to.1 ∙ is)) to.2.apart;
+          subst (λ (z : ℕ × Part T). DifferInName z.1.kids) (one_some to.0 y (sym to.1 ∙ is)) to.2.apart;
       root = λ b y is bare.
           let from = kept b y is in
           let was = lawful.root b from.0 from.1 (sym from.2.parent ∙ bare) in
@@ -180,10 +173,10 @@ module _ {T : Type 0} where
               above = to.0.1;
               live = to.1 ∙ (λ i. Some (to.2.slot i, to.0.1));
               later = was.later;
-              listed = subst (λ (k : Kid). Contains to.0.1.kids.items k) (λ i. record { name = sym from.2.name i; handle = record { birth = b; slot = sym from.2.slot i } }) (to.2.kids _ was.listed not_top);
+              listed = subst (λ (k : Kid). Contains to.0.1.kids k) (λ i. record { name = sym from.2.name i; handle = record { birth = b; slot = sym from.2.slot i } }) (to.2.kids _ was.listed not_top);
             }
 
-        down : (b : ℕ) (y : ℕ × Part T) (kid : Kid) → fin.get new b ≡ Some y → Contains y.1.kids.items kid → IsListed new b y kid
+        down : (b : ℕ) (y : ℕ × Part T) (kid : Kid) → fin.get new b ≡ Some y → Contains y.1.kids kid → IsListed new b y kid
         down b y kid is listed =
             let from = kept b y is in
             let out = pruned.left b y is in
@@ -261,23 +254,23 @@ module _ {T : Type 0} where
       kept b out = kept-pruned old.held new.held next top.birth lawful pruned b (λ above. out (above_same (λ c. parent_of-held old c) above))
 
   -- the top is taken out of the list of its parent, if it has one
-  abbrev pub Unlinks : Bank (Part T) → Bank (Part T) → Handle → Option Handle → Type 0
-  Unlinks mid new top o = MatchOption o (new ≡ mid) (λ above. ChangesKids mid new above (filter (λ other. not (is_handle top other.handle))))
+  abbrev pub Unlinks : Bank (Part T) → Bank (Part T) → Name → Option Handle → Type 0
+  Unlinks mid new name o = MatchOption o (new ≡ mid) (λ above. ChangesKids mid new above (Forgets name))
 
-  pub pruned-any : (old mid new : Bank (Part T)) (next : ℕ) → IsLinked old.held next → (top : Handle) (part : Part T) → fin.get old.held top.birth ≡ Some (top.slot, part) → TakesAll old mid top → Unlinks mid new top part.parent → IsPruned old.held new.held top.birth
+  pub pruned-any : (old mid new : Bank (Part T)) (next : ℕ) → IsLinked old.held next → (top : Handle) (part : Part T) → fin.get old.held top.birth ≡ Some (top.slot, part) → TakesAll old mid top → Unlinks mid new part.name part.parent → IsPruned old.held new.held top.birth
   pruned-any old mid new next lawful top part live t u = by part.parent refl u
     where
-      by : (o : Option Handle) → part.parent ≡ o → Unlinks mid new top o → IsPruned old.held new.held top.birth
+      by : (o : Option Handle) → part.parent ≡ o → Unlinks mid new part.name o → IsPruned old.held new.held top.birth
       by None root same = subst (λ (b : Bank (Part T)). IsPruned old.held b.held top.birth) (sym same) (pruned-root old mid next lawful top part live root t)
       by (Some parent) below c = pruned-kid old mid new next lawful top parent part live below t c
 
-  pub len-unlinked : (mid new : Bank (Part T)) (top : Handle) (o : Option Handle) → Unlinks mid new top o → fin.len new.held ≡ fin.len mid.held
-  len-unlinked mid new top None same = ap (λ (b : Bank (Part T)). fin.len b.held) same
-  len-unlinked mid new top (Some parent) c = c.len
+  pub len-unlinked : (mid new : Bank (Part T)) (name : Name) (o : Option Handle) → Unlinks mid new name o → fin.len new.held ≡ fin.len mid.held
+  len-unlinked mid new name None same = ap (λ (b : Bank (Part T)). fin.len b.held) same
+  len-unlinked mid new name (Some parent) c = c.len
 
-  pub next-unlinked : (mid new : Bank (Part T)) (top : Handle) (o : Option Handle) → Unlinks mid new top o → new.next_birth ≡ mid.next_birth
-  next-unlinked mid new top None same = ap (λ (b : Bank (Part T)). b.next_birth) same
-  next-unlinked mid new top (Some parent) c = c.next
+  pub next-unlinked : (mid new : Bank (Part T)) (name : Name) (o : Option Handle) → Unlinks mid new name o → new.next_birth ≡ mid.next_birth
+  next-unlinked mid new name None same = ap (λ (b : Bank (Part T)). b.next_birth) same
+  next-unlinked mid new name (Some parent) c = c.next
 
   -- the parent of the top stays
   pub parent_stays : (old mid : Bank (Part T)) (next : ℕ) → IsLinked old.held next → (top : Handle) (part : Part T) → fin.get old.held top.birth ≡ Some (top.slot, part) → TakesAll old mid top → IfSome part.parent (λ above. IsSome (found mid above))

@@ -7,11 +7,11 @@ use Rattle.dsde_bank.specs.Bank.{Bank}
 use Rattle.dsde_grove.specs.Grove.{Spot, root_name, IsParent, IsTree}
 use Rattle.dsde_grove.specs.Inside.{link, link_of, path_at, spot_in, parts_of, grove_of, IsLinked}
 use Rattle.dsde_grove.specs.declared.part.Part.{Part}
-use Rattle.dsde_grove.specs.declared.part.Kid.{Kid}
+use Rattle.dsde_grove.specs.Part.{Kid}
 use Rattle.dsde_grove.proofs.Parts.{get-parts_of, found-get, spot-found}
 use Rattle.dsde_grove.proofs.Paths.{path-kid, path-root}
 use Rattle.dsde_grove.proofs.Trees.{Held, falls}
-use Rattle.dsde_grove.proofs.Kids.{one_kid}
+use Rattle.dsde_grove.proofs.KidLemmas.{one_kid}
 
 module _ {T : Type 0} where
   shown_from : (held : Held T) (b : ℕ) (o : Option (ℕ × Part T)) (s : Spot T) → option_map (spot_in held b) o ≡ Some s → (x : ℕ × Part T) × (o ≡ Some x) × (spot_in held b x ≡ s)
@@ -64,7 +64,7 @@ module _ {T : Type 0} where
             let over = lawful.up a x.0 p x.1 (ap (λ (z : Spot T). z.parent) x.2 ∙ below) in
             let over' = lawful.up b y.0 p y.1 (ap (λ (z : Spot T). z.parent) y.2 ∙ below') in
             let same = one_part (p.slot, over'.above) (p.slot, over.above) (sym over'.live ∙ over.live) in
-            let listed' = subst (λ (z : ℕ × Part T). Contains z.1.kids.items record { name = y.0.1.name; handle = record { birth = b; slot = y.0.0 } }) same over'.listed in
+            let listed' = subst (λ (z : ℕ × Part T). Contains z.1.kids record { name = y.0.1.name; handle = record { birth = b; slot = y.0.0 } }) same over'.listed in
             let named = ap (λ (z : Spot T). z.name) x.2 ∙ names ∙ ap (λ (z : Spot T). z.name) (sym y.2) in
-            let kids = one_kid over.above.kids.items (lawful.apart p.birth (p.slot, over.above) over.live) _ _ over.listed listed' named in
+            let kids = one_kid over.above.kids (lawful.apart p.birth (p.slot, over.above) over.live) _ _ over.listed listed' named in
             ap (λ (k : Kid). k.handle.birth) kids

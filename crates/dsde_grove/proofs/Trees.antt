@@ -1,12 +1,10 @@
 -- Trees stay trees.
-use Rattle.std.proofs.Common.{◌≡◌, ◌≢◌, ℕ, suc, ◌<◌, List, Contains, Option, Some, None, IsSome, refl, sym, ap, subst, ◌∙◌, inl, inr}
+use Rattle.std.proofs.Common.{◌≡◌, ◌≢◌, ℕ, suc, ◌<◌, List, Contains, Option, Some, None, Result, Ok, Err, OnOk, OnErr, IsSome, refl, sym, ap, subst, ◌∙◌, inl, inr}
 use Rattle.std.specs.Option.{option_map, option_map_or}
 use Rattle.std.specs.List.{AllPairs}
 use Rattle.std.specs.Ordering.{nat_cmp}
 use Rattle.std.specs.FinMap as fin
 use Rattle.std.proofs.lemmas.Bool.{cases_eq}
-use Rattle.std.specs.declared.vec.Vec.{Vec}
-use Rattle.std.specs.declared.alloc.Global.{Global}
 use Rattle.dsde_bank.specs.declared.handle.Handle.{Handle}
 use Rattle.dsde_bank.specs.Bank.{Bank, found, with_value}
 use Rattle.dsde_bank.proofs.Births.{get-insert_same, get-insert_other, len-insert_old, same_births}
@@ -14,12 +12,25 @@ use Rattle.dsde_values.specs.declared.name.Name.{Name}
 use Rattle.dsde_grove.specs.Grove.{Spot, root_name, with_value as write}
 use Rattle.dsde_grove.specs.Inside.{link, link_of, path_at, spot_in, parts_of, grove_of, IsBelow, IsListed, IsLinked, ChangesKids}
 use Rattle.dsde_grove.specs.declared.part.Part.{Part}
-use Rattle.dsde_grove.specs.declared.part.Kid.{Kid}
+use Rattle.dsde_grove.specs.Part.{Kid}
 use Rattle.dsde_grove.proofs.Parts.{same_parts, get-found, get-parts_of, spot-found}
 use Rattle.dsde_grove.proofs.Paths.{same_paths}
 
 abbrev pub Held : Type 0 → Type 0
 Held T = fin.FinMap nat_cmp (ℕ × Part T)
+
+-- a fact of one case of a result
+pub on_err : {A E : Type 0} (P : Type 0) (r : Result A E) → P → OnErr r P
+on_err P (Ok x) p = tt
+on_err P (Err e) p = p
+
+pub ok_then : {A E : Type 0} {P Q : Type 0} (r : Result A E) → (P → Q) → OnOk r P → OnOk r Q
+ok_then (Ok x) f p = f p
+ok_then (Err e) f p = tt
+
+pub err_then : {A E : Type 0} {P Q : Type 0} (r : Result A E) → (P → Q) → OnErr r P → OnErr r Q
+err_then (Ok x) f p = tt
+err_then (Err e) f p = f p
 
 pub some_of : {X : Type 0} (o : Option X) → IsSome o → (x : X) × (o ≡ Some x)
 some_of None some = absurd (cc)
@@ -31,7 +42,7 @@ module _ {T : Type 0} where
     pub slot : y.0 ≡ x.0
     pub parent : y.1.parent ≡ x.1.parent
     pub name : y.1.name ≡ x.1.name
-    pub kids : y.1.kids.items ≡ x.1.kids.items
+    pub kids : y.1.kids ≡ x.1.kids
 
   -- the same births have parts that are alike
   pub record IsSimilar (old new : Held T) : Type 0 where
@@ -97,10 +108,10 @@ module _ {T : Type 0} where
             live = to.1 ∙ (λ i. Some (to.2.slot i, to.0.1));
             later = was.later;
             listed = subst (λ kids. Contains kids record { name = y.1.name; handle = record { birth = b; slot = y.0 } }) (sym to.2.kids)
-                (subst (λ (k : Kid). Contains was.above.kids.items k) (λ i. record { name = sym from.2.name i; handle = record { birth = b; slot = sym from.2.slot i } }) was.listed);
+                (subst (λ (k : Kid). Contains was.above.kids k) (λ i. record { name = sym from.2.name i; handle = record { birth = b; slot = sym from.2.slot i } }) was.listed);
           }
 
-      down : (b : ℕ) (y : ℕ × Part T) (kid : Kid) → fin.get new b ≡ Some y → Contains y.1.kids.items kid → IsListed new b y kid
+      down : (b : ℕ) (y : ℕ × Part T) (kid : Kid) → fin.get new b ≡ Some y → Contains y.1.kids kid → IsListed new b y kid
       down b y kid is listed =
           let from = similar.back b y is in
           let was = tree.down b from.0 kid from.1 (subst (λ kids. Contains kids kid) from.2.kids listed) in
@@ -112,12 +123,12 @@ module _ {T : Type 0} where
             named = to.2.name ∙ was.named;
           }
 
-      apart : (b : ℕ) (y : ℕ × Part T) → fin.get new b ≡ Some y → AllPairs (λ (k l : Kid). k.name ≢ l.name) y.1.kids.items
+      apart : (b : ℕ) (y : ℕ × Part T) → fin.get new b ≡ Some y → AllPairs (λ (k l : Kid). k.name ≢ l.name) y.1.kids
       apart b y is = let from = similar.back b y is in subst (AllPairs (λ (k l : Kid). k.name ≢ l.name)) (sym from.2.kids) (tree.apart b from.0 from.1)
 
-  pub changes-with_value : (bank : Bank (Part T)) (parent : Handle) (part : Part T) (kids : Vec Kid Global) (change : List Kid → List Kid) → found bank parent ≡ Some part → kids.items ≡ change part.kids.items
-      → ChangesKids bank (with_value bank parent (record part { kids = kids })) parent change
-  changes-with_value bank parent part kids change live changed = record {
+  pub changes-with_value : (bank : Bank (Part T)) (parent : Handle) (part : Part T) (kids : List Kid) (Change : List Kid → List Kid → Type 0) → found bank parent ≡ Some part → Change part.kids kids
+      → ChangesKids bank (with_value bank parent (record part { kids = kids })) parent Change
+  changes-with_value bank parent part kids Change live changed = record {
     part = part;
     kids = kids;
     was = get-found bank parent part live;
@@ -129,7 +140,7 @@ module _ {T : Type 0} where
   }
 
   -- a bank whose parts are those of another
-  pub changes-same : (bank new : Bank (Part T)) (parent : Handle) (part : Part T) → found bank parent ≡ Some part → new.held ≡ bank.held → new.next_birth ≡ bank.next_birth → ChangesKids bank new parent (λ kids. kids)
+  pub changes-same : (bank new : Bank (Part T)) (parent : Handle) (part : Part T) → found bank parent ≡ Some part → new.held ≡ bank.held → new.next_birth ≡ bank.next_birth → ChangesKids bank new parent (λ kids left. left ≡ kids)
   changes-same bank new parent part live held next = record {
     part = part;
     kids = part.kids;
@@ -142,7 +153,7 @@ module _ {T : Type 0} where
   }
 
   -- the kids of a part stay the same
-  pub similar-changes : (old new : Bank (Part T)) (parent : Handle) → ChangesKids old new parent (λ kids. kids) → IsSimilar old.held new.held
+  pub similar-changes : (old new : Bank (Part T)) (parent : Handle) → ChangesKids old new parent (λ kids left. left ≡ kids) → IsSimilar old.held new.held
   similar-changes old new parent c = record { there = there; back = back }
     where
       there : (b : ℕ) (x : ℕ × Part T) → fin.get old.held b ≡ Some x → (y : ℕ × Part T) × (fin.get new.held b ≡ Some y) × AreAlike x y
@@ -175,7 +186,7 @@ module _ {T : Type 0} where
       others b other = get-insert_other bank.held handle.birth (handle.slot, new) b other
 
       alike : AreAlike (handle.slot, part) (handle.slot, new)
-      alike = record { slot = refl; parent = parent; name = name; kids = ap (λ (k : Vec Kid Global). k.items) kids }
+      alike = record { slot = refl; parent = parent; name = name; kids = kids }
 
       there : (b : ℕ) (x : ℕ × Part T) → fin.get bank.held b ≡ Some x → (y : ℕ × Part T) × (fin.get (with_value bank handle new).held b ≡ Some y) × AreAlike x y
       there b x is = elim (cases_eq b handle.birth) [
@@ -206,7 +217,7 @@ module _ {T : Type 0} where
       λ i. Some record { slot = slot i; parent = parent i; name = name i; path = path-similar old new similar b i; value = values b x y u v i })
       similar)
 
-  pub parts-changes : (old new : Bank (Part T)) (parent : Handle) → ChangesKids old new parent (λ kids. kids) → parts_of new.held ≡ parts_of old.held
+  pub parts-changes : (old new : Bank (Part T)) (parent : Handle) → ChangesKids old new parent (λ kids left. left ≡ kids) → parts_of new.held ≡ parts_of old.held
   parts-changes old new parent c = spot-similar old.held new.held (similar-changes old new parent c) value
     where
       value : (b : ℕ) (x y : ℕ × Part T) → fin.get old.held b ≡ Some x → fin.get new.held b ≡ Some y → y.1.value ≡ x.1.value
@@ -218,8 +229,8 @@ module _ {T : Type 0} where
         | inr other ↦ ap (λ (z : ℕ × Part T). z.1.value) (same_some y x (sym v ∙ c.others b other ∙ u))
       ]
 
-  pub changes-base : (bank new last : Bank (Part T)) (parent : Handle) (change : List Kid → List Kid) → new.held ≡ bank.held → new.next_birth ≡ bank.next_birth → ChangesKids new last parent change → ChangesKids bank last parent change
-  changes-base bank new last parent change held next c = record {
+  pub changes-base : (bank new last : Bank (Part T)) (parent : Handle) (Change : List Kid → List Kid → Type 0) → new.held ≡ bank.held → new.next_birth ≡ bank.next_birth → ChangesKids new last parent Change → ChangesKids bank last parent Change
+  changes-base bank new last parent Change held next c = record {
     part = c.part;
     kids = c.kids;
     was = sym (ap (λ m. fin.get m parent.birth) held) ∙ c.was;

@@ -1,18 +1,15 @@
 -- What the bank of a `Grove` means.
-use Rattle.std.specs.Prelude.{◌≡◌, ◌≢◌, ℕ, zero, suc, ◌<◌, ◌≤◌, List, [], ◌∷◌, ◌++◌, map as map_list, Option, Some, None, Contains, option_and_then, vec_len, vec_capacity}
-use Rattle.std.specs.declared.vec.Vec.{Vec}
-use Rattle.std.specs.declared.alloc.Global.{Global}
+use Rattle.std.specs.Prelude.{◌≡◌, ◌≢◌, ℕ, zero, suc, ◌<◌, ◌≤◌, List, [], ◌∷◌, ◌++◌, map as map_list, Option, Some, None, Contains, option_and_then}
 use Rattle.std.specs.Option.{option_map}
-use Rattle.std.specs.List.{AllPairs}
 use Rattle.std.specs.Ordering.{nat_cmp}
 use Rattle.std.specs.FinMap as map
-use Rattle.dsde_bank.specs.Bank.{Bank}
+use Rattle.dsde_bank.specs.Bank.{Bank, found}
 use Rattle.dsde_bank.specs.Batch.{Batch}
 use Rattle.dsde_bank.specs.declared.handle.Handle.{Handle}
 use Rattle.dsde_values.specs.declared.name.Name.{Name}
 use Rattle.dsde_grove.specs.Grove.{Grove, Spot, IsAbove, root_name}
 use Rattle.dsde_grove.specs.declared.part.Part.{Part}
-use Rattle.dsde_grove.specs.declared.part.Kid.{Kid}
+use Rattle.dsde_grove.specs.Part.{Kid, DifferInName}
 
 -- the names down to a part: its own alone, or after those of its parent
 abbrev pub path_step : Option (Option Handle × Name) → (Handle → List Name) → List Name
@@ -53,7 +50,7 @@ module _ {T : Type 0} where
     pub above : Part T
     pub live : map.get held parent.birth ≡ Some (parent.slot, above)
     pub later : parent.birth < birth
-    pub listed : Contains above.kids.items record { name = placed.1.name; handle = record { birth = birth; slot = placed.0 } }
+    pub listed : Contains above.kids record { name = placed.1.name; handle = record { birth = birth; slot = placed.0 } }
 
   -- the kid is a part of this parent and of the name under which it stands there
   pub record IsListed (held : map.FinMap nat_cmp (ℕ × Part T)) (birth : ℕ) (placed : ℕ × Part T) (kid : Kid) : Type 0 where
@@ -66,8 +63,8 @@ module _ {T : Type 0} where
   pub record IsLinked (held : map.FinMap nat_cmp (ℕ × Part T)) (next : ℕ) : Type 0 where
     pub given : (birth : ℕ) (placed : ℕ × Part T) → map.get held birth ≡ Some placed → birth < next
     pub up : (birth : ℕ) (placed : ℕ × Part T) (parent : Handle) → map.get held birth ≡ Some placed → placed.1.parent ≡ Some parent → IsBelow held birth placed parent
-    pub down : (birth : ℕ) (placed : ℕ × Part T) (kid : Kid) → map.get held birth ≡ Some placed → Contains placed.1.kids.items kid → IsListed held birth placed kid
-    pub apart : (birth : ℕ) (placed : ℕ × Part T) → map.get held birth ≡ Some placed → AllPairs (λ a b. a.name ≢ b.name) placed.1.kids.items
+    pub down : (birth : ℕ) (placed : ℕ × Part T) (kid : Kid) → map.get held birth ≡ Some placed → Contains placed.1.kids kid → IsListed held birth placed kid
+    pub apart : (birth : ℕ) (placed : ℕ × Part T) → map.get held birth ≡ Some placed → DifferInName placed.1.kids
     pub root : (birth : ℕ) (placed : ℕ × Part T) → map.get held birth ≡ Some placed → placed.1.parent ≡ None → (birth ≡ 0) × (placed.1.name ≡ root_name)
 
   -- the parts of the bank are linked, and the work list is empty and has room for all its parts
@@ -76,22 +73,23 @@ module _ {T : Type 0} where
     pub idle : work.items ≡ []
     pub room : map.len bank.held ≤ work.spare
 
-  -- of the parts only the kids of one change, and those as this function of their list says
-  pub record ChangesKids (old new : Bank (Part T)) (parent : Handle) (change : List Kid → List Kid) : Type 0 where
+  -- of the parts only the kids of one change, and those as this relation says
+  pub record ChangesKids (old new : Bank (Part T)) (parent : Handle) (Change : List Kid → List Kid → Type 0) : Type 0 where
     pub part : Part T
-    pub kids : Vec Kid Global
+    pub kids : List Kid
     pub was : map.get old.held parent.birth ≡ Some (parent.slot, part)
     pub now : map.get new.held parent.birth ≡ Some (parent.slot, record part { kids = kids })
-    pub changed : kids.items ≡ change part.kids.items
+    pub changed : Change part.kids kids
     pub others : (birth : ℕ) → birth ≢ parent.birth → map.get new.held birth ≡ map.get old.held birth
     pub next : new.next_birth ≡ old.next_birth
     pub len : map.len new.held ≡ map.len old.held
 
-  -- there is room for one more kid of this part
-  pub record HasRoomBelow (bank : Bank (Part T)) (parent : Handle) : Type 0 where
+  -- a kid of this part has this name
+  pub record HasKid (bank : Bank (Part T)) (parent : Handle) (name : Name) : Type 0 where
     pub part : Part T
     pub live : map.get bank.held parent.birth ≡ Some (parent.slot, part)
-    pub room : vec_len part.kids < vec_capacity part.kids
+    pub handle : Handle
+    pub listed : Contains part.kids record { name = name; handle = handle }
 
   -- the parent of each birth
   abbrev pub parent_in : map.FinMap nat_cmp (ℕ × Part T) → ℕ → Option Handle
@@ -104,3 +102,7 @@ module _ {T : Type 0} where
     pub left : (birth : ℕ) (placed : ℕ × Part T) → map.get new.held birth ≡ Some placed → ¬ IsAbove (parent_in old.held) top.birth birth
     pub next : new.next_birth ≡ old.next_birth
     pub len : map.len new.held ≤ map.len old.held
+
+  -- the part under a handle has this name
+  abbrev pub IsNameOf : Bank (Part T) → Handle → Name → Type 0
+  IsNameOf bank handle name = (part : Part T) → found bank handle ≡ Some part → name ≡ part.name

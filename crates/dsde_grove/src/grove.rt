@@ -7,7 +7,8 @@ ghost use Rattle.dsde_grove.specs.Grove.{spot, value_of, path_of, depth_of, with
 ghost use Rattle.dsde_grove.specs.contracts.grove.Grove.{the_row};
 
 use crate::growth::{link, make_room, unlink};
-use crate::part::{Kid, Part, kid_named};
+use crate::kids::Kids;
+use crate::part::Part;
 use crate::subtree::take_all;
 use dsde_bank::{Bank, Batch, Handle};
 use dsde_base::Steps;
@@ -83,7 +84,7 @@ impl<T: Drop> Grove<T> {
                 stem: Text::from_slice(alloc, b"root")?,
                 index: None,
             },
-            kids: Vec::new(alloc),
+            kids: Kids::new(alloc),
             value: root,
         };
         let handle = bank.insert_reserved(part, &mut looks);
@@ -184,7 +185,7 @@ impl<T: Drop> Grove<T> {
         ensures ticks { looks.new ≡ looks.old + 1 }
     {
         match self.bank.get(handle, looks) {
-            Some(part) => Some(kid_named(&part.kids, name)),
+            Some(part) => Some(part.kids.find(name)),
             None => None,
         }
     }
@@ -241,24 +242,26 @@ impl<T: Drop> Grove<T> {
             Some(Some(_)) => return Err((GrowEnd::Taken, value)),
             Some(None) => {}
         }
+        // One copy makes the place among the kids of the parent, the other finds it once the handle
+        // is known, when nothing may fail any more.
         let Ok(listed) = name.copy(self.alloc) else {
             return Err((GrowEnd::Memory, value));
         };
-        let Ok(()) = make_room(&mut self.bank, &mut self.work, parent, looks) else {
+        let Ok(room) = name.copy(self.alloc) else {
             return Err((GrowEnd::Memory, value));
         };
+        match make_room(&mut self.bank, &mut self.work, parent, room, looks) {
+            Ok(()) => {}
+            Err(Memory) => return Err((GrowEnd::Memory, value)),
+        }
         let part = Part {
             parent: Some(parent),
             name,
-            kids: Vec::new(self.alloc),
+            kids: Kids::new(self.alloc),
             value,
         };
         let handle = self.bank.insert_reserved(part, looks);
-        let kid = Kid {
-            name: listed,
-            handle,
-        };
-        link(&mut self.bank, parent, kid, looks);
+        link(&mut self.bank, parent, listed, handle, looks);
         Ok(handle)
     }
 
@@ -280,8 +283,8 @@ impl<T: Drop> Grove<T> {
             None => return None,
         };
         let before = self.bank.len();
-        take_all(&mut self.bank, &mut self.work, handle, looks);
-        unlink(&mut self.bank, parent, handle, looks);
+        let name = take_all(&mut self.bank, &mut self.work, handle, looks);
+        unlink(&mut self.bank, parent, &name, looks);
         Some((before - self.bank.len()) as u64)
     }
 }

@@ -3,6 +3,7 @@
 
 mod grove;
 mod growth;
+mod kids;
 mod part;
 mod subtree;
 

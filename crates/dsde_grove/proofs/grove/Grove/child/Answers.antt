@@ -1,5 +1,5 @@
 use Rattle.std.proofs.Common.{Some, ap}
-use Rattle.dsde_grove.proofs.Kids.{some_option}
+use Rattle.dsde_grove.proofs.KidLemmas.{some_option}
 use Rattle.dsde_grove.proofs.grove.Grove.child.Goals as goal
 
 pub returns-in-Some-clause-child : goal.returns-in-Some-clause-child

@@ -1,9 +1,7 @@
 use Rattle.std.proofs.Common.{is_some, Some, None, sym, ap, subst, ◌∙◌}
-use Rattle.std.proofs.Common.{All, Contains, MatchOption, ◌≢◌}
 use Rattle.dsde_grove.specs.Grove.{spot}
-use Rattle.dsde_grove.specs.declared.part.Kid.{Kid}
 use Rattle.dsde_grove.proofs.Parts.{live-found}
-use Rattle.dsde_grove.proofs.Kids.{Tells, listing, kid_named-is, no_kids}
+use Rattle.dsde_grove.proofs.KidLemmas.{Tells, kid_named-is, no_kids}
 use Rattle.dsde_grove.proofs.grove.Grove.look_for.Goals as goal
 
 pub returns-in-Some-clause-live : goal.returns-in-Some-clause-live
@@ -13,9 +11,8 @@ returns-in-Some-clause-live g c =
 pub returns-in-Some-clause-child : goal.returns-in-Some-clause-child
 returns-in-Some-clause-child g c =
     let name = c.args.name.now in
-    let named = subst (λ kids. MatchOption c.kid_named.result (All (λ (kid : Kid). kid.name ≢ name) kids) (λ kid. Contains kids (listing name kid))) c.deref.ensures.value c.kid_named.ensures in
-    subst (λ v. Tells v c.args.handle name (Some c.kid_named.result)) c.self.view_is
-    (kid_named-is c.self.inside.bank c.self.inside.bank.next_birth c.self.invariant.tree c.args.handle name c.in-Some.part.now (sym c.in-Some.ensures.value) c.kid_named.result named)
+    subst (λ v. Tells v c.args.handle name (Some c.find.result)) c.self.view_is
+    (kid_named-is c.self.inside.bank c.self.inside.bank.next_birth c.self.invariant.tree c.args.handle name c.in-Some.part.now (sym c.in-Some.ensures.value) c.find.result c.find.ensures)
 
 pub returns-in-None-clause-live : goal.returns-in-None-clause-live
 returns-in-None-clause-live g c =

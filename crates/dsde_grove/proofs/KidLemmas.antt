@@ -12,7 +12,7 @@ use Rattle.dsde_grove.specs.Inside.{spot_in, grove_of, IsLinked}
 use Rattle.dsde_grove.specs.declared.grove.GrowEnd.{GrowEnd}
 use Rattle.dsde_grove.specs.declared.grove.GrowEnd.TheVariants.{Stale, Taken, Memory}
 use Rattle.dsde_grove.specs.declared.part.Part.{Part}
-use Rattle.dsde_grove.specs.declared.part.Kid.{Kid}
+use Rattle.dsde_grove.specs.Part.{Kid}
 use Rattle.dsde_grove.proofs.Parts.{get-found, found-get, spot-found}
 
 -- the kid of this name and handle
@@ -65,16 +65,16 @@ module _ {T : Type 0} where
 
   module _ (bank : Bank (Part T)) (next : ℕ) (lawful : IsLinked bank.held next) (handle : Handle) (name : Name) where
     -- what a kid's parent lists
-    pub kid_above : (kid : Handle) → IsKid (grove_of bank) handle name kid → (above : Part T) × (found bank handle ≡ Some above) × Contains above.kids.items (listing name kid)
+    pub kid_above : (kid : Handle) → IsKid (grove_of bank) handle name kid → (above : Part T) × (found bank handle ≡ Some above) × Contains above.kids (listing name kid)
     kid_above kid is =
         let q = part_shown bank kid is.part is.live in
         let parent : q.0.parent ≡ Some handle = ap (λ (s : Spot T). s.parent) q.2 ∙ is.below in
         let named : q.0.name ≡ name = ap (λ (s : Spot T). s.name) q.2 ∙ is.named in
         let up = lawful.up kid.birth (kid.slot, q.0) handle (get-found bank kid q.0 q.1) parent in
-        (up.above, found-get bank handle up.above up.live, subst (λ (n : Name). Contains up.above.kids.items (listing n kid)) named up.listed)
+        (up.above, found-get bank handle up.above up.live, subst (λ (n : Name). Contains up.above.kids (listing n kid)) named up.listed)
 
     module _ (part : Part T) (live : found bank handle ≡ Some part) where
-      pub kid_is : (kid : Handle) → Contains part.kids.items (listing name kid) → IsKid (grove_of bank) handle name kid
+      pub kid_is : (kid : Handle) → Contains part.kids (listing name kid) → IsKid (grove_of bank) handle name kid
       kid_is kid listed =
           let down = lawful.down handle.birth (handle.slot, part) (listing name kid) (get-found bank handle part live) listed in
           record {
@@ -84,25 +84,25 @@ module _ {T : Type 0} where
             named = down.named;
           }
 
-      pub kid_listed : (kid : Handle) → IsKid (grove_of bank) handle name kid → Contains part.kids.items (listing name kid)
+      pub kid_listed : (kid : Handle) → IsKid (grove_of bank) handle name kid → Contains part.kids (listing name kid)
       kid_listed kid is =
           let above = kid_above kid is in
           let same : above.0 ≡ part = some_part above.0 part (sym above.1 ∙ live) in
-          subst (λ (p : Part T). Contains p.kids.items (listing name kid)) same above.2
+          subst (λ (p : Part T). Contains p.kids (listing name kid)) same above.2
         where
           some_part : (x y : Part T) → Some x ≡ Some y → x ≡ y
           some_part x y e = cc
 
       -- the kid that a search finds
-      pub kid_named-is : (r : Option Handle) → MatchOption r (All (λ (kid : Kid). kid.name ≢ name) part.kids.items) (λ kid. Contains part.kids.items (listing name kid)) → (kid : Handle) → (Some r ≡ Some (Some kid)) ↔ IsKid (grove_of bank) handle name kid
+      pub kid_named-is : (r : Option Handle) → MatchOption r (All (λ (kid : Kid). kid.name ≢ name) part.kids) (λ kid. Contains part.kids (listing name kid)) → (kid : Handle) → (Some r ≡ Some (Some kid)) ↔ IsKid (grove_of bank) handle name kid
       kid_named-is None none kid = (
         λ wrong. absurd (cc),
         λ is. let listed = kid_listed kid is in absurd (none listed.0 (listing name kid) listed.1 (ap (λ (k : Kid). k.name) listed.2)),
       )
       kid_named-is (Some h) listed kid = (
-        λ same. let one : h ≡ kid = cc in kid_is kid (subst (λ (k : Handle). Contains part.kids.items (listing name k)) one listed),
+        λ same. let one : h ≡ kid = cc in kid_is kid (subst (λ (k : Handle). Contains part.kids (listing name k)) one listed),
         λ is.
-            let one = one_kid part.kids.items (lawful.apart handle.birth (handle.slot, part) (get-found bank handle part live)) (listing name h) (listing name kid) listed (kid_listed kid is) refl in
+            let one = one_kid part.kids (lawful.apart handle.birth (handle.slot, part) (get-found bank handle part live)) (listing name h) (listing name kid) listed (kid_listed kid is) refl in
             λ i. Some (Some ((one i).handle)),
       )
 
