@@ -1,11 +1,14 @@
-ghost use Rattle.std.specs.Prelude.{◌≡◌, ◌+◌, ◌≤◌, [], ◌∷◌, ◌++◌, length, take, slice_get, slice_set, ◌↔◌, IsTrue, IfOk, OnOk, OnErr, MatchOption};
+ghost use Rattle.std.specs.Prelude.{◌≡◌, ◌+◌, ◌<◌, ◌≤◌, ◌^◌, [], ◌∷◌, ◌++◌, length, take, slice_get, slice_set, ◌↔◌, IsTrue, IfOk, OnOk, OnErr, MatchOption};
 ghost use Rattle.std.specs.Option.{option_copied, option_copied_mut};
 ghost use Rattle.std.specs.Borrow.{LendsIf, sem};
+ghost use Rattle.std.specs.Slice.Iter.{iter_rest};
+ghost use Rattle.std.specs.Iterator.Adapters.{IterYieldsInOrder, IterYieldsInReverse};
 ghost use Rattle.dsde_lists.specs.contracts.seq.Seq.{the_row};
 
 use crate::Memory;
 use std::alloc::Global;
 use std::marker::Model;
+use std::slice;
 
 /// A list of items over one `Vec`, which contracts see as the list.
 #[derive(Debug, Drop)]
@@ -71,6 +74,17 @@ impl<T> Seq<T> {
         self.items.as_slice()
     }
 
+    /// The items in order, each lent.
+    pub fn iter(&self) -> slice::Iter<'_, T>
+        ensures rest { iter_rest result ≡ self.now }
+        ensures len { length (iter_rest result) ≡ length self.now }
+        ensures bound { length (iter_rest result) < 2 ^ 64 }
+        ensures runs { IterYieldsInOrder T }
+        ensures runs_back { IterYieldsInReverse T }
+    {
+        self.items.as_slice().iter()
+    }
+
     /// The item at an index, counted from 0; `None` exactly where the list is not as long.
     pub fn get(&self, index: usize) -> Option<&T>
         ensures value { option_copied result ≡ slice_get self.now index }
@@ -93,6 +107,18 @@ impl<T> Seq<T> {
         ensures { MatchOption result ((self.old ≡ []) × (self.new ≡ [])) (λ last. self.old ≡ self.new ++ last ∷ []) }
     {
         self.items.pop()
+    }
+}
+
+impl<'a, T> IntoIterator for &'a Seq<T> {
+    type Item = &'a T;
+
+    type IntoIter = slice::Iter<'a, T>;
+
+    ghost into_iter_gives = { λ seq it. (iter_rest it ≡ seq.now) × (length (iter_rest it) < 2 ^ 64) × IterYieldsInOrder T };
+
+    fn into_iter(self) -> slice::Iter<'a, T> {
+        self.iter()
     }
 }
 
