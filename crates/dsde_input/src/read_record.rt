@@ -123,7 +123,6 @@ fn read_item(
 fn port_of(ports: &Seq<Field>, name: &[u8]) -> Option<usize>
     ensures { result ≡ position (λ port. bytes_eq port.name name.now) ports.now }
 {
-    let ports = ports.as_slice();
     ports.iter().position(|port| port.name.as_slice() == name)
 }
 
