@@ -1,1 +1,1 @@
-mod StmtLemmas
+mod DeclLemmas

@@ -1,4 +1,5 @@
-//! Declarations and whole models, read from their tokens.
+//! Declarations and whole models, read from their tokens. A part that is large stays on the heap
+//! while more is read behind it.
 
 ghost use Rattle.std.specs.Prelude.{◌≡◌, ◌<◌, ◌∷◌, ◌++◌, [], true, false, map, OnOk, IfErr};
 ghost use Rattle.dsde_syntax.specs.Grammar.{id_tokens, typed_tokens, params_tokens, port_tokens, state_tokens, phase_tokens, body_tokens, result_tokens, decl_tokens};
@@ -10,13 +11,11 @@ ghost use Rattle.dsde_grammar.specs.Want as want;
 ghost use Rattle.dsde_grammar.specs.Steps.{args, typed, params, body, function_body, structure, executive, network_body, start};
 ghost use Rattle.dsde_expressions.specs.Follows.{Meets, StopsBy, stop_at, next_is, begins_port};
 ghost use Rattle.dsde_expressions.specs.Took.{Reads, ReadsAll, Any};
-ghost use Rattle.dsde_expressions.specs.Parts.{AllOk, SomeOk, IsOk, joined_by, all_by, commas_by, spans_by};
-ghost use Rattle.dsde_expressions.specs.Parts.{any_ok};
+ghost use Rattle.dsde_expressions.specs.Parts.{AllOk, SomeOk, IsOk, joined_by, all_by, commas_by, spans_by, any_ok};
 ghost use Rattle.dsde_declarations.specs.Parts.{ResultOk, ExecOk, exec_spelled, exec_placed, NetworkOk, network_spelled, network_placed, phases_spelled, phases_placed, PhasesOk, structure_tokens, structure_span, advance_tokens, advance_span};
 
-use crate::item::items_block;
-use crate::stmt::{block, stmts};
 use dsde_expressions::{ParseError, Parser};
+use dsde_statements::{block, items_block, stmts};
 use dsde_syntax::{
     Body, Boxed, Decl, Expr, Id, Item, Items, Key, Phase, PortDecl, Sign, StateDecl, Stmt, Typed,
 };
@@ -179,6 +178,7 @@ fn atomic(parser: &mut Parser) -> Result<Decl, ParseError>
     parser.sign(Sign::OpenBrace)?;
     let body = body(parser)?;
     parser.sign(Sign::CloseBrace)?;
+    let body = body.into_inner();
     Ok(Decl::Atomic {
         at,
         name,
@@ -196,6 +196,7 @@ fn network(parser: &mut Parser) -> Result<Decl, ParseError>
     let name = parser.name()?;
     let params = params(parser)?;
     let (ports, (exec_at, body, items)) = network_body(parser)?;
+    let body = body.into_inner();
     Ok(Decl::Network {
         at,
         name,
@@ -210,7 +211,7 @@ fn network(parser: &mut Parser) -> Result<Decl, ParseError>
 /// "{" {port} "exec" .. "}"
 fn network_body(
     parser: &mut Parser,
-) -> Result<(Items<PortDecl>, (u32, Body, Items<Item>)), ParseError>
+) -> Result<(Items<PortDecl>, (u32, Boxed<Body>, Items<Item>)), ParseError>
     ensures took { Reads network_spelled network_placed NetworkOk parser.old result parser.new }
     ensures same { Meets network_body parser.old result parser.new }
 {
@@ -222,7 +223,7 @@ fn network_body(
 }
 
 /// "exec" "{" body "structure" items "}"
-fn executive(parser: &mut Parser) -> Result<(u32, Body, Items<Item>), ParseError>
+fn executive(parser: &mut Parser) -> Result<(u32, Boxed<Body>, Items<Item>), ParseError>
     ensures took { Reads exec_spelled exec_placed ExecOk parser.old result parser.new }
     ensures same { Meets executive parser.old result parser.new }
 {
@@ -325,7 +326,7 @@ fn state(parser: &mut Parser) -> Result<StateDecl, ParseError>
 }
 
 /// {port} {state} "advance" expr ";" and the blocks of the phases
-fn body(parser: &mut Parser) -> Result<Body, ParseError>
+fn body(parser: &mut Parser) -> Result<Boxed<Body>, ParseError>
     ensures took { Reads body_tokens body_span (IsOk is_body) parser.old result parser.new }
     ensures same { Meets body parser.old result parser.new }
 {
@@ -333,7 +334,7 @@ fn body(parser: &mut Parser) -> Result<Body, ParseError>
     let states = states(parser)?;
     let (advance_at, advance) = advance(parser)?;
     let (output, internal, external, confluent) = phases(parser)?;
-    Ok(Body {
+    let body = Body {
         ports,
         states,
         advance_at,
@@ -342,7 +343,9 @@ fn body(parser: &mut Parser) -> Result<Body, ParseError>
         internal,
         external,
         confluent,
-    })
+    };
+    let body = Boxed::new(parser.alloc(), body)?;
+    Ok(body)
 }
 
 /// "advance" expr ";"

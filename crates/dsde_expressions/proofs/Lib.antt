@@ -1,6 +1,7 @@
 pub mod ChainLemmas
 pub mod LedLemmas
 pub mod NodeLemmas
+pub mod PartLemmas
 pub mod StepLemmas
 pub mod TestLemmas
 pub mod TookLemmas

@@ -41,7 +41,7 @@ pub taken : (token : Tok) (before after : Spot) (test : Bool) → Takes token be
 taken token before after true took h = took
 taken token before after false took h = cc
 
-begins-here : (at index : ℕ) → at ≡ index → begins_at at index ≡ Some index
+pub begins-here : (at index : ℕ) → at ≡ index → begins_at at index ≡ Some index
 begins-here at index h = let same : (at == index) ≡ true = (Decides-eqb at index).1 h in rw same refl
 
 pub token-here : (at index : ℕ) → at ≡ index → token_at at index ≡ Some (index + 1)

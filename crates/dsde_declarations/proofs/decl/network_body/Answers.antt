@@ -1,8 +1,9 @@
-use Rattle.std.proofs.Common.{rules, ◌∙◌, [], ◌∷◌, ◌++◌}
+use Rattle.std.proofs.Common.{rules, ◌∙◌, [], ◌∷◌, ◌++◌, refl}
 use Rattle.dsde_syntax.specs.declared.token.Sign.TheVariants as sign
 use Rattle.dsde_grammar.specs.Want as want
 use Rattle.dsde_grammar.specs.Steps.{network_body, executive}
 use Rattle.dsde_expressions.proofs.LedLemmas.{leads-behind, refuses}
+use Rattle.dsde_expressions.proofs.PartLemmas.{one, own, all, ◌⨟◌, read}
 use Rattle.dsde_declarations.proofs.decl.network_body.Goals as goal
 
 pub returns-in_err-exec-clause-same : goal.returns-in_err-exec-clause-same
@@ -16,3 +17,8 @@ returns-in_err-sign-2-clause-same c =
 pub returns-clause-same : goal.returns-clause-same
 returns-clause-same c = λ s.
     c.in_ok-sign.ensures.same _ ∙ (c.in_ok-ports.ensures.same _ ∙ (c.in_ok-exec.ensures.same _ ∙ c.in_ok-sign-2.ensures.same s))
+
+pub returns-clause-took : goal.returns-clause-took
+returns-clause-took c =
+    let exec = c.in_ok-exec.ensures.took in
+    read (one c.in_ok-sign.ensures.took ⨟ (all c.in_ok-ports.ensures.took ⨟ own exec) ⨟ one c.in_ok-sign-2.ensures.took) refl refl exec.good
