@@ -9,6 +9,6 @@ mod member;
 mod text;
 
 pub use compare::{tell_said, tell_text};
-pub use member::{check_names, items_at, number_at, numbers_at, read_cases, word_at};
+pub use member::{cases_of, check_names, items_at, number_at, numbers_at, read_cases, word_at};
 pub use serde_json::Value;
 pub use text::{bytes_of, text_at};

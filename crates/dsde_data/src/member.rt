@@ -9,7 +9,36 @@ use std::rt::Files;
 /// Reads a file of cases.
 pub fn read_cases(rt: &(impl Files + AllocGlobal), name: &str) -> Result<Value> {
     let text = fs::read_to_string(rt, name)?;
-    Ok(Value::from_str(rt.alloc(), &text)?)
+    cases_of(rt.alloc(), &text)
+}
+
+/// Reads cases from a text. An object that has a member twice is refused.
+pub fn cases_of(alloc: Global, text: &str) -> Result<Value> {
+    let cases = Value::from_str(alloc, text)?;
+    // What is read of an object keeps one of the members of a name.
+    let kept = cases.to_string(alloc)?;
+    ensure!(
+        members_in(text) == members_in(&kept),
+        "a member is given twice"
+    );
+    Ok(cases)
+}
+
+/// How many members all objects of a JSON text have: as many as colons stand outside its strings.
+fn members_in(text: &str) -> usize {
+    let mut members = 0usize;
+    let mut in_string = false;
+    let mut escaped = false;
+    for byte in text.as_bytes() {
+        if *byte == b'"' && !escaped {
+            in_string = !in_string;
+        }
+        if *byte == b':' && !in_string {
+            members = members.saturating_add(1);
+        }
+        escaped = *byte == b'\\' && !escaped;
+    }
+    members
 }
 
 /// Refuses what is no object, and a member that has none of these names.
