@@ -1,3 +1,5 @@
+//! The top call: it loads a model, runs it, and says how it ended.
+
 ghost use Rattle.std.specs.Prelude.{◌≡◌, ◌≢◌, ◌≤◌, ◌⊎◌, map, string_bytes, Some, None, IfOk, IfErr, IfSome};
 ghost use Rattle.dsde_io.specs.Fault.{Rose};
 ghost use Rattle.dsde_sim.specs.Engine.{HasFewPorts};

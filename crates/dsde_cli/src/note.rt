@@ -1,3 +1,5 @@
+//! The line on standard error for a status.
+
 ghost use Rattle.std.specs.Prelude.{◌≡◌, ◌++◌, length, take, codes, decimal, OnOk, OnErr};
 ghost use Rattle.dsde_sim.specs.Text.{fault_text, input_text};
 ghost use Rattle.dsde_cli.specs.Note.{note_of, refusal_text, save_text, usage_text, what_text, why_text, wrong_text};

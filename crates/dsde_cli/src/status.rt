@@ -1,3 +1,5 @@
+//! How a call ends.
+
 use dsde_sim::{Fault, InputKind, WrongKind};
 use dsde_values::Path;
 

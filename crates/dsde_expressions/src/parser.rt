@@ -1,3 +1,5 @@
+//! A parser, and what it reads of words, signs, names and types.
+
 ghost use Rattle.std.specs.Option.{is_some};
 ghost use Rattle.std.specs.Prelude.{IfErr, Err, None, false, ◌≡◌, ◌<◌, ◌+◌, ◌^◌, ◌∷◌, IfOk, true, [], map, MatchOption, length};
 ghost use Rattle.dsde_syntax.specs.Grammar.{id_tokens, type_tokens, in_angles};

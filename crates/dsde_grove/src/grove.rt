@@ -1,3 +1,5 @@
+//! A tree of live parts.
+
 ghost use Rattle.std.specs.Prelude.{◌≡◌, ◌+◌, ◌*◌, ◌^◌, ◌<◌, ◌≤◌, ◌↔◌, ◌∷◌, [], length, IfOk, IfErr, IfSome, OnErr, IsErrAnd, IsNone, IfNone, OnSome, OnOk, IsSome, is_some, unwrap_or, ◌≢◌};
 ghost use Rattle.std.specs.Option.{option_copied, option_copied_mut, option_map};
 ghost use Rattle.std.specs.FinMap as map;
@@ -63,7 +65,7 @@ impl<T: Drop> Grove<T> {
         Self::plant::<Brand>(alloc, root, Blank::new(1))
     }
 
-    // `new` for a caller that has a ledger for the looks, which are counted nowhere.
+    /// `new` for a caller that has a ledger for the looks, which are counted nowhere.
     fn plant<L: Ledger>(alloc: Global, root: T, blank: Blank) -> Result<(Grove<T>, Handle), Memory>
         requires name { blank.name ≡ L.name }
         requires parts { blank.parts ≡ L.parts }
@@ -134,7 +136,7 @@ impl<T: Drop> Grove<T> {
         }
     }
 
-    // Whether a handle is live. Counts one look.
+    /// Whether a handle is live. Counts one look.
     fn is_live<L: Ledger>(&self, handle: Handle, looks: &mut Steps<L>) -> bool
         ensures value { result ≡ is_some (spot self.now handle) }
         ensures tree { IsTree self.now }
@@ -143,7 +145,7 @@ impl<T: Drop> Grove<T> {
         self.bank.get(handle, looks).is_some()
     }
 
-    // The value of a live part, to be changed. Counts one look.
+    /// The value of a live part, to be changed. Counts one look.
     fn value_mut<L: Ledger>(&mut self, handle: Handle, looks: &mut Steps<L>) -> &mut T
         requires { IsSome (spot self.old handle) }
         ensures* writes_back { sem 𝓛 (Lends (the_row T.row) T.row self.entry result (with_value self.old handle)) }
@@ -173,7 +175,7 @@ impl<T: Drop> Grove<T> {
         }
     }
 
-    // Whether a handle is live, and then its child of that name. Counts one look.
+    /// Whether a handle is live, and then its child of that name. Counts one look.
     fn look_for<L: Ledger>(
         &self,
         handle: Handle,

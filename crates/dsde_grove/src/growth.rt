@@ -1,4 +1,5 @@
-// Steps that change the kids of one part.
+//! Steps that change the kids of one part.
+
 ghost use Rattle.std.specs.Prelude.{◌≡◌, ◌+◌, ◌≤◌, ◌<◌, OnOk, OnErr, IsSome, IfSome, MatchOption};
 ghost use Rattle.std.specs.FinMap as map;
 ghost use Rattle.dsde_bank.specs.Bank.{found};
@@ -12,8 +13,8 @@ use dsde_lists::Memory;
 use dsde_values::Name;
 use std::sync::ledger::Ledger;
 
-// Makes room for one more part, for its place among the kids of its parent, and for all parts in
-// the work list. Until `link` the parent stands in that place. Counts at most one look.
+/// Makes room for one more part, for its place among the kids of its parent, and for all parts in
+/// the work list. Until `link` the parent stands in that place. Counts at most one look.
 pub fn make_room<T: Drop, L: Ledger>(
     bank: &mut Bank<Part<T>>,
     work: &mut Batch<Handle>,
@@ -37,7 +38,7 @@ pub fn make_room<T: Drop, L: Ledger>(
     part.kids.put(name, parent)
 }
 
-// Puts a kid into the place that was made for it. Counts one look.
+/// Puts a kid into the place that was made for it. Counts one look.
 pub fn link<T: Drop, L: Ledger>(
     bank: &mut Bank<Part<T>>,
     parent: Handle,
@@ -55,7 +56,7 @@ pub fn link<T: Drop, L: Ledger>(
     };
 }
 
-// Takes the kid of this name out of the list of its parent, if it has one. Counts at most one look.
+/// Takes the kid of this name out of the list of its parent, if it has one. Counts at most one look.
 pub fn unlink<T: Drop, L: Ledger>(
     bank: &mut Bank<Part<T>>,
     parent: Option<Handle>,

@@ -1,4 +1,5 @@
-// The kids of one part, by name.
+//! The kids of one part, by name.
+
 ghost use Rattle.std.specs.Prelude.{◌≡◌, ◌≢◌, ◌+◌, ◌++◌, ◌≤◌, [], length, map, All, Contains, MatchOption, OnOk, OnErr};
 ghost use Rattle.dsde_grove.specs.Part.{Puts, Forgets};
 
@@ -9,8 +10,8 @@ use std::alloc::Global;
 use std::collections::BTreeMap;
 use std::marker::Model;
 
-// Handles under names that differ, so that what is done to one of them costs in step with the
-// logarithm of their number.
+/// Handles under names that differ, so that what is done to one of them costs in step with the
+/// logarithm of their number.
 #[derive(Drop)]
 pub struct Kids {
     by_name: BTreeMap<Name, Handle>,
@@ -33,7 +34,7 @@ impl Model for Kids {
 }
 
 impl Kids {
-    // No kids, which take no memory yet.
+    /// No kids, which take no memory yet.
     pub fn new(alloc: Global) -> Kids
         ensures { result ≡ [] }
     {
@@ -42,15 +43,15 @@ impl Kids {
         }
     }
 
-    // The kid of this name.
+    /// The kid of this name.
     pub fn find(&self, name: &Name) -> Option<Handle>
         ensures { MatchOption result (All (λ kid. kid.name ≢ name.now) self.now) (λ handle. Contains self.now record { name = name.now; handle = handle }) }
     {
         self.by_name.get(name).copied()
     }
 
-    // Puts a kid in, in the place of the one of its name. Only a new name needs memory; without it
-    // the kids stay as they were.
+    /// Puts a kid in, in the place of the one of its name. Only a new name needs memory; without it
+    /// the kids stay as they were.
     pub fn put(&mut self, name: Name, handle: Handle) -> Result<(), Memory>
         ensures put { OnOk result (Puts record { name = name; handle = handle } self.old self.new) }
         ensures kept { OnErr result (self.new ≡ self.old) }
@@ -62,14 +63,14 @@ impl Kids {
         }
     }
 
-    // Drops the kid of this name.
+    /// Drops the kid of this name.
     pub fn forget(&mut self, name: &Name)
         ensures { Forgets name.now self.old self.new }
     {
         self.by_name.remove(name);
     }
 
-    // Adds the handles of all kids to a work list.
+    /// Adds the handles of all kids to a work list.
     pub fn push_to(&self, work: &mut Batch<Handle>)
         requires { length self.now ≤ work.old.spare }
         ensures items { work.new.items ≡ work.old.items ++ map (λ kid. kid.handle) self.now }

@@ -1,4 +1,5 @@
-// Taking out a part and all below it.
+//! Taking out a part and all below it.
+
 ghost use Rattle.std.specs.Prelude.{◌≡◌, ◌+◌, ◌≤◌, [], Some, IsSome};
 ghost use Rattle.std.specs.FinMap as map;
 ghost use Rattle.dsde_bank.specs.Bank.{found};
@@ -10,8 +11,8 @@ use dsde_base::Steps;
 use dsde_values::Name;
 use std::sync::ledger::Ledger;
 
-// Takes out a live part and all parts below it, and answers its name. The work list is empty before
-// and after, and has room for all parts. Counts one look for each part that is taken out.
+/// Takes out a live part and all parts below it, and answers its name. The work list is empty before
+/// and after, and has room for all parts. Counts one look for each part that is taken out.
 pub fn take_all<T: Drop, L: Ledger>(
     bank: &mut Bank<Part<T>>,
     work: &mut Batch<Handle>,

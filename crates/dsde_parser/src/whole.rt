@@ -1,3 +1,5 @@
+//! A whole model, read from its tokens.
+
 ghost use Rattle.std.specs.Prelude.{◌≡◌, ◌<◌, ◌^◌, length, map, All, IfOk, IfErr, OnOk};
 ghost use Rattle.dsde_syntax.specs.declared.token.Token.{Token};
 ghost use Rattle.dsde_syntax.specs.Spelling.{HasToken};

@@ -1,3 +1,5 @@
+//! The head of an input: the record that no turn took yet.
+
 ghost use Rattle.std.specs.Prelude.{◌≡◌, ◌<◌, ◌≤◌, ◌^◌, IfOk, IfErr, IfSome, OnOk, IsErrOf};
 ghost use Rattle.dsde_values.specs.When.{IsMoment};
 ghost use Rattle.dsde_io.specs.Fault.{Rose};

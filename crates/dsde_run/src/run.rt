@@ -1,3 +1,5 @@
+//! A whole run: the turns of an engine on the records of an input.
+
 ghost use Rattle.std.specs.Prelude.{ℕ, ◌≡◌, ◌+◌, ◌<◌, ◌≤◌, ◌^◌, [], ◌++◌, Bool, false, unwrap_or, OnOk, IfOk, OnErr, IfSome, IsErrOf};
 ghost use Rattle.std.specs.Option.{option_copied};
 ghost use Rattle.dsde_values.specs.When.{IsMoment};

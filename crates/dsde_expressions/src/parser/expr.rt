@@ -1,3 +1,5 @@
+//! Expressions, read from tokens.
+
 ghost use Rattle.std.specs.Prelude.{◌≡◌, ◌<◌, ◌∷◌, ◌++◌, [], true, false, map, OnOk};
 ghost use Rattle.dsde_syntax.specs.Grammar.{commas, in_parens, in_braces, expr_tokens, suffix_tokens, expr_arm_tokens, field_set_tokens, sign_tail_tokens};
 ghost use Rattle.dsde_syntax.specs.Places.{bracketed, args_span, expr_span, expr_arm_span, field_set_span, sign_tail_span, suffix_span, tail_span};
