@@ -1,4 +1,5 @@
 pub mod ChainLemmas
+pub mod LayerLemmas
 pub mod LedLemmas
 pub mod NodeLemmas
 pub mod PartLemmas

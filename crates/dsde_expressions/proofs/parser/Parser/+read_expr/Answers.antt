@@ -3,13 +3,15 @@ use Rattle.dsde_expressions.specs.Follows.{stop_at}
 use Rattle.dsde_expressions.proofs.TookLemmas.{Took-push, Took-comma, Took-else}
 use Rattle.dsde_expressions.proofs.ChainLemmas.{or-Took, and-Took, sum-Took, mul-Took, post-Took}
 use Rattle.dsde_expressions.proofs.NodeLemmas.{boxed-Reads, no-empty, taken, or_tail-Took, and_tail-Took, sum_tail-Took, mul_tail-Took, call-Took, builtin-Took, row-Took, new-Took, choice-Took, whole-Took}
-use Rattle.std.proofs.Common.{rules, sym, ◌∙◌, [], ◌∷◌, ◌++◌, ap}
+use Rattle.std.proofs.Common.{rules, refl, sym, ◌∙◌, [], ◌∷◌, ◌++◌, ap}
 use Rattle.dsde_words.specs.declared.key.Key.TheVariants as key
 use Rattle.dsde_syntax.specs.declared.token.Sign.TheVariants as sign
 use Rattle.dsde_grammar.specs.Want as want
 use Rattle.dsde_grammar.specs.Steps.{expr_wants, post_wants, cmp_wants, args, exprs, braced_expr, choice_rest, neg_wants, not_wants, angles, field_set}
 use Rattle.dsde_expressions.proofs.LedLemmas.{leads-from, leads-behind}
 use Rattle.dsde_expressions.proofs.StepLemmas.{expr-levels, fallback-none, minus-none, negation-none, suffixes-more, suffix-field, suffix-index, suffix-unwrap, prim-named, prim-paren, prim-record, prim-none_of, prim-empty_of, prim-choice, prim-each, prim-row, after_name-args, args-some, else-last, no-if, exprs-else}
+use Rattle.dsde_expressions.proofs.PartLemmas.{one, own, ◌⨟◌, read}
+use Rattle.dsde_expressions.proofs.LayerLemmas.{fallback-Took, negation-Took, compare-Took, minus-Took, paren-Took, name-Took, variant-Took, each-Took, index-Took, field_set-Took, arm-Took}
 use Rattle.dsde_expressions.proofs.parser.Parser.+read_expr.Goals as goal
 
 pub or-returns-clause-took : goal.or-returns-clause-took
@@ -216,3 +218,72 @@ arms-returns-in_err-key-clause-same t c =
 pub arms-returns-in_err-arm-2-clause-same : goal.arms-returns-in_err-arm-2-clause-same
 arms-returns-in_err-arm-2-clause-same t c =
     leads-behind (want.word key.If ∷ choice_rest) (want.word key.Else ∷ want.else_rest ∷ []) (want.word key.Else ∷ want.else_rest ∷ []) c.args.self.now c.arms.self c.arm-in-arms.new.self _ c.arms.invariant.same (leads-from (want.word key.Else ∷ want.else_rest ∷ []) (want.word key.Else ∷ want.word key.If ∷ choice_rest) (want.word key.Else ∷ want.else_rest ∷ []) c.arms.self c.arm-in-arms.new.self _ (λ s. exprs-else s c.arms.self.0 c.arms.self.1 (sym c.arms-test.ensures)) (search rules))
+
+pub expr-returns-clause-took : goal.expr-returns-clause-took
+expr-returns-clause-took t c =
+    let begun = taken _ _ _ _ c.takes_sign.ensures.took c.if-not-takes_sign.false in
+    let place = ap (λ (spot : Spot). spot.0) c.self.view_is in
+    boxed-Reads _ _ c.boxed.ensures.own (fallback-Took _ _ _ c.in_ok-left.ensures.took begun place c.in_ok-right.ensures.took)
+
+pub not-returns-clause-took : goal.not-returns-clause-took
+not-returns-clause-took t c =
+    let begun = taken _ _ _ _ c.takes_key.ensures.took c.if-not-takes_key.false in
+    let place = ap (λ (spot : Spot). spot.0) c.self.view_is in
+    boxed-Reads _ _ c.boxed.ensures.own (negation-Took _ _ begun place c.in_ok-of.ensures.took)
+
+pub compare-returns-clause-took : goal.compare-returns-clause-took
+compare-returns-clause-took t c =
+    let place = ap (λ (spot : Spot). spot.0) c.self.view_is in
+    boxed-Reads _ _ c.boxed.ensures.own (compare-Took _ _ _ _ c.in_ok-left.ensures.took c.in-Some.ensures.took.0 c.in-Some.ensures.took.1 place c.in_ok-right.ensures.took)
+
+pub neg-returns-clause-took : goal.neg-returns-clause-took
+neg-returns-clause-took t c =
+    let begun = taken _ _ _ _ c.takes_sign.ensures.took c.if-not-takes_sign.false in
+    let place = ap (λ (spot : Spot). spot.0) c.self.view_is in
+    boxed-Reads _ _ c.boxed.ensures.own (minus-Took _ _ begun place c.in_ok-of.ensures.took)
+
+pub paren-returns-clause-took : goal.paren-returns-clause-took
+paren-returns-clause-took t c =
+    boxed-Reads _ _ c.boxed.ensures.own (paren-Took _ _ c.in_ok-at.ensures.took c.in_ok-at.ensures.place c.in_ok-inner.ensures.took c.in_ok-sign.ensures.took)
+
+pub named-returns-clause-took : goal.named-returns-clause-took
+named-returns-clause-took t c =
+    let named = rw (← c.if-takes_sign.ensures.took) at c.in_ok-name.ensures.took in
+    boxed-Reads _ _ c.boxed-2.ensures.own (name-Took _ named)
+
+pub named-returns-then-takes_sign-clause-took : goal.named-returns-then-takes_sign-clause-took
+named-returns-then-takes_sign-clause-took t c =
+    let begun = taken _ _ _ _ c.takes_sign.ensures.took c.if-takes_sign.true in
+    boxed-Reads _ _ c.boxed-then-takes_sign.ensures.own (variant-Took _ _ c.in_ok-name.ensures.took begun c.in_ok-variant.ensures.took)
+
+pub each-returns-clause-took : goal.each-returns-clause-took
+each-returns-clause-took t c =
+    boxed-Reads _ _ c.boxed.ensures.own (each-Took _ _ _ _ _ c.in_ok-at.ensures.took c.in_ok-at.ensures.place c.in_ok-key.ensures.took c.in_ok-name.ensures.took c.in_ok-key-2.ensures.took c.in_ok-list.ensures.took c.in_ok-cond.ensures.took c.in_ok-sign.ensures.took c.in_ok-value.ensures.took c.in_ok-sign-2.ensures.took)
+
+pub index-returns-clause-took : goal.index-returns-clause-took
+index-returns-clause-took t c =
+    rw c.into_inner.ensures (index-Took _ _ c.in_ok-at.ensures.took c.in_ok-at.ensures.place c.in_ok-value.ensures.took c.in_ok-sign.ensures.took)
+
+pub field_set-returns-clause-took : goal.field_set-returns-clause-took
+field_set-returns-clause-took t c =
+    rw c.into_inner-value.ensures (field_set-Took _ _ c.in_ok-name.ensures.took c.in_ok-sign.ensures.took c.in_ok-expr.ensures.took)
+
+pub arm-returns-clause-took : goal.arm-returns-clause-took
+arm-returns-clause-took t c =
+    rw (c.into_inner.ensures, c.into_inner-2.ensures) (arm-Took _ _ c.in_ok-key.ensures.took c.in_ok-cond.ensures.took c.in_ok-value.ensures.took)
+
+pub arguments-returns-clause-took : goal.arguments-returns-clause-took
+arguments-returns-clause-took t c =
+    let args = c.in_ok-args.ensures.took in
+    let begun = rw (← c.if-takes_sign.ensures.took) at c.in_ok-sign.ensures.took in
+    read (one begun ⨟ own args ⨟ one c.in_ok-sign-2.ensures.took) refl refl args.good.all
+
+pub field_sets-returns-clause-took : goal.field_sets-returns-clause-took
+field_sets-returns-clause-took t c =
+    let fields = c.in_ok-fields.ensures.took in
+    read (one c.in_ok-sign.ensures.took ⨟ own fields ⨟ one c.in_ok-sign-2.ensures.took) refl refl fields.good
+
+pub in_braces-returns-clause-took : goal.in_braces-returns-clause-took
+in_braces-returns-clause-took t c =
+    let inner = c.in_ok-inner.ensures.took in
+    read (one c.in_ok-sign.ensures.took ⨟ own inner ⨟ one c.in_ok-sign-2.ensures.took) refl refl inner.good
