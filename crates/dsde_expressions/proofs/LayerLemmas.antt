@@ -1,5 +1,5 @@
 -- Expressions and their parts that were read, by the parts of their layers.
-use Rattle.std.proofs.Common.{◌≡◌, ℕ, ◌≤◌, Bool, true, ◌&&◌, List, [], ◌∷◌, ◌++◌, Option, Some, None, refl, sym, ap, subst, ◌∙◌, arith}
+use Rattle.std.proofs.Common.{◌≡◌, ℕ, ◌≤◌, Bool, true, ◌&&◌, [], ◌∷◌, ◌++◌, Option, Some, None, refl, sym, ap, subst, ◌∙◌, arith}
 use Rattle.dsde_syntax.specs.declared.token.Tok.TheVariants as tok
 use Rattle.dsde_words.specs.declared.key.Key.TheVariants as key
 use Rattle.dsde_syntax.specs.declared.token.Sign.{Sign}
@@ -20,7 +20,7 @@ use Rattle.dsde_syntax.specs.declared.expr.Expr.TheOpen.{Expr-F, Suffix-F, ExprA
 use Rattle.dsde_syntax.specs.declared.expr.Expr.TheViews.{roll-ExprArm, roll-FieldSet}
 use Rattle.dsde_syntax.specs.declared.expr.Expr.TheFolds.{fold-roll-Expr, fold-roll-Suffix, fold-roll-ExprArm, fold-roll-FieldSet}
 use Rattle.dsde_syntax.specs.Grammar.{Tokens, in_angles, in_braces, id_tokens, type_tokens, expr_step, suffix_step, expr_arm_step, field_set_step, sign_tail_step, tail_step, expr_tokens, suffix_tokens, expr_arm_tokens, field_set_tokens}
-use Rattle.dsde_syntax.specs.Levels.{level_if, stands_at, if_written, is_expr, is_comparison, level_step, suffix_level_step, expr_arm_level_step, field_set_level_step, sign_tail_level_step, tail_level_step, level_of, is_suffix, is_expr_arm, is_field_set}
+use Rattle.dsde_syntax.specs.Levels.{level_if, if_written, is_expr, is_comparison, level_step, suffix_level_step, expr_arm_level_step, field_set_level_step, sign_tail_level_step, tail_level_step, level_of, is_suffix, is_expr_arm, is_field_set}
 use Rattle.dsde_syntax.specs.Places.{Span, id_span, type_span, bracketed, span_step, suffix_span_step, expr_arm_span_step, field_set_span_step, sign_tail_span_step, tail_span_step, expr_span, suffix_span, expr_arm_span, field_set_span}
 use Rattle.dsde_expressions.specs.Took.{Spot, Took, TookAll, TookOne, Any}
 use Rattle.dsde_expressions.specs.Parts.{IsWithin, IsOk, test_tokens, test_span}

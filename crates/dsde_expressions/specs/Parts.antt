@@ -4,22 +4,10 @@ use Rattle.std.specs.Option.{option_map}
 use Rattle.std.specs.List.{list_all}
 use Rattle.dsde_syntax.specs.declared.expr.Expr.{Expr}
 use Rattle.dsde_syntax.specs.declared.expr.Tail.{Tail}
-use Rattle.dsde_syntax.specs.declared.stmt.Stmt.{Stmt}
-use Rattle.dsde_syntax.specs.declared.item.Item.{Item}
-use Rattle.dsde_syntax.specs.declared.item.EndPart.{EndPart}
-use Rattle.dsde_syntax.specs.declared.item.EndPart.TheVariants as end_part
-use Rattle.dsde_syntax.specs.declared.item.ViaKey.{ViaKey}
-use Rattle.dsde_syntax.specs.declared.decl.PortDecl.{PortDecl}
-use Rattle.dsde_syntax.specs.declared.decl.Body.{Body}
-use Rattle.dsde_syntax.specs.declared.decl.Phase.{Phase}
-use Rattle.dsde_syntax.specs.Levels.{has_first, if_written, is_expr, is_stmt, is_item, is_index, is_end, is_phase, is_body, level_of}
+use Rattle.dsde_syntax.specs.Levels.{has_first, level_of}
 use Rattle.dsde_words.specs.declared.key.Key.TheVariants as key
-use Rattle.dsde_syntax.specs.declared.token.Sign.TheVariants as sign
-use Rattle.dsde_syntax.specs.declared.id.Id.{Id}
-use Rattle.dsde_syntax.specs.declared.item.End.{End}
-use Rattle.dsde_syntax.specs.declared.item.ViaPart.{ViaPart}
-use Rattle.dsde_syntax.specs.Grammar.{Tokens, word, joined, commas, elses, optional, in_braces, in_parens, block, mark, id_tokens, args_tokens, end_tokens, via_tokens, via_key_tokens, else_block, expr_tokens, tail_tokens, stmt_tokens, item_tokens, port_tokens, phase_tokens, exec_tokens}
-use Rattle.dsde_syntax.specs.Places.{◌>>◌, token, token_at, bracketed, id_span, args_span, block_span, end_span, via_span, via_key_span, all_spans, spans_with, written_span, else_span, expr_span, stmt_span, item_span, port_span, phase_span, exec_span, Span}
+use Rattle.dsde_syntax.specs.Grammar.{Tokens, word, joined, commas, elses, optional, expr_tokens, tail_tokens}
+use Rattle.dsde_syntax.specs.Places.{◌>>◌, token, all_spans, spans_with, written_span, expr_span, Span}
 
 -- an expression that may stand at a level
 abbrev pub IsWithin : ℕ → Expr → Type 0

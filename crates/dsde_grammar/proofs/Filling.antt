@@ -1,5 +1,5 @@
 -- Each step is sound, and each want can be met.
-use Rattle.std.proofs.Common.{◌≡◌, ℕ, true, false, [], ◌∷◌, None, refl, sym, subst, arith}
+use Rattle.std.proofs.Common.{◌≡◌, true, false, [], ◌∷◌, None, refl, sym, subst, arith}
 use Rattle.std.specs.Prelude.{All}
 use Rattle.std.proofs.lemmas.List.Elements.{All-nil, All-cons, All-append}
 use Rattle.dsde_syntax.specs.declared.token.Tok.{Tok}
