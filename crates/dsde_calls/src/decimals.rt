@@ -1,6 +1,6 @@
 //! Numbers in decimal.
 
-use anyhow::{Context, Result};
+use anyhow::Result;
 use dsde_data::{Value, check_names, items_at, number_at, word_at};
 use dsde_values::decimal_of;
 use std::alloc::Global;

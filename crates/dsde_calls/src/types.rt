@@ -2,8 +2,8 @@
 
 use crate::memory::{ample, list_of};
 use anyhow::{Context, Result, bail};
-use dsde_data::{Value, check_names, items_at, word_at};
-use dsde_values::{Boxed, Def, Field, Seq, Shape, Text, Ty, Types, is_lawful};
+use dsde_data::{Value, check_names, items_at};
+use dsde_values::{Boxed, Def, Field, Seq, Shape, Ty, Types, is_lawful};
 use std::alloc::Global;
 
 /// What differs in a table of lists of definitions: those under `lawful` make a lawful table of
