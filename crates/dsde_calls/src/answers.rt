@@ -1,6 +1,6 @@
 //! What a reader of inputs answers, in lines.
 
-ghost use Rattle.std.specs.Prelude.{◌≡◌, IfOk};
+ghost use Rattle.std.specs.Prelude.{◌≡◌, ◌<◌, IfOk};
 ghost use Rattle.dsde_input.specs.Record.{ArePorts};
 
 use dsde_input::{InputEnd, InputReader};
@@ -8,12 +8,36 @@ use dsde_io::MemorySource;
 use dsde_values::{Arrival, Field, Memory, Seq, Text, Ty, Types, Value};
 use std::alloc::Global;
 
-/// What a reader answers to so many calls, a line each.
-pub(crate) fn answers_of(
+/// What a reader answered, a line for each call, and what it left outside.
+#[derive(Drop)]
+pub(crate) struct Outcome {
+    pub answers: String,
+    pub left: Text,
+    pub reads: u64,
+}
+
+/// What so many calls of a reader come to, over a source of this text, of which one read gives at
+/// most `largest` bytes. The reads of the numbers in `failing` fail.
+pub(crate) fn read_input(
     alloc: Global,
-    source: &mut MemorySource,
+    text: Text,
+    largest: usize,
+    failing: Seq<u64>,
     calls: usize,
-) -> Result<String, Memory> {
+) -> Result<Outcome, Memory>
+    requires { 0 < largest }
+{
+    let mut source = MemorySource::new(text, largest, failing);
+    let answers = answers_of(alloc, &mut source, calls)?;
+    Ok(Outcome {
+        answers,
+        left: Text::from_slice(alloc, source.contents())?,
+        reads: source.calls(),
+    })
+}
+
+/// What a reader answers to so many calls.
+fn answers_of(alloc: Global, source: &mut MemorySource, calls: usize) -> Result<String, Memory> {
     let ports = two_ports(alloc)?;
     let types = Types {
         defs: Seq::new(alloc),
@@ -50,15 +74,21 @@ fn tell_answer(
     told: &mut String,
     answer: &Result<Option<Arrival>, InputEnd>,
 ) -> Result<(), Memory> {
-    match answer {
-        Ok(Some(arrival)) => tell_record(told, arrival)?,
-        Ok(None) => writeln!(told, "end")?,
-        Err(InputEnd::BadLine(line)) => writeln!(told, "bad {line}")?,
-        Err(InputEnd::Backwards(line)) => writeln!(told, "backwards {line}")?,
-        Err(InputEnd::LineTooLong(line)) => writeln!(told, "long {line}")?,
-        Err(InputEnd::ReadFault) => writeln!(told, "fault")?,
+    let (word, line) = match answer {
+        Ok(Some(arrival)) => return tell_record(told, arrival),
+        Ok(None) => return tell_word(told, "end\n"),
+        Err(InputEnd::BadLine(line)) => ("bad", *line),
+        Err(InputEnd::Backwards(line)) => ("backwards", *line),
+        Err(InputEnd::LineTooLong(line)) => ("long", *line),
+        Err(InputEnd::ReadFault) => return tell_word(told, "fault\n"),
         Err(InputEnd::Memory) => return Err(Memory),
-    }
+    };
+    writeln!(told, "{word} {line}")?;
+    Ok(())
+}
+
+fn tell_word(told: &mut String, word: &str) -> Result<(), Memory> {
+    told.push_str(word)?;
     Ok(())
 }
 

@@ -10,13 +10,21 @@ use std::str;
 pub(crate) fn differences(alloc: Global, table: &Value) -> Result<String> {
     check_names(table, &["about", "name", "accepted", "refused"])?;
     let mut lines = String::new(alloc);
-    for (name, wanted) in &[("accepted", true), ("refused", false)] {
-        for text in items_at(table, *name)? {
-            let bytes = bytes_of(alloc, text)?;
-            if cases_of(alloc, str::from_utf8(&bytes)?).is_ok() != *wanted {
-                writeln!(lines, "  {text}: not {name}")?;
-            }
+    tell(alloc, &mut lines, items_at(table, "accepted")?, true)?;
+    tell(alloc, &mut lines, items_at(table, "refused")?, false)?;
+    Ok(lines)
+}
+
+fn tell(alloc: Global, lines: &mut String, texts: &[Value], wanted: bool) -> Result<()> {
+    for text in texts {
+        if are_cases(alloc, text)? != wanted {
+            writeln!(lines, "  {text}: not so")?;
         }
     }
-    Ok(lines)
+    Ok(())
+}
+
+fn are_cases(alloc: Global, text: &Value) -> Result<bool> {
+    let bytes = bytes_of(alloc, text)?;
+    Ok(cases_of(alloc, str::from_utf8(&bytes)?).is_ok())
 }

@@ -1,12 +1,11 @@
 //! Inputs: the records that a reader gives of them.
 
-use crate::answers::answers_of;
+use crate::answers::read_input;
 use crate::memory::ample;
 use anyhow::{Result, ensure};
 use dsde_data::{
     Value, check_names, items_at, number_at, numbers_at, tell_said, tell_text, text_at,
 };
-use dsde_io::MemorySource;
 use dsde_values::{Seq, Text};
 use std::alloc::Global;
 
@@ -59,13 +58,12 @@ fn tell(alloc: Global, lines: &mut String, input: &Value, largest: u64) -> Resul
     ensure!(0 < largest, "a read that gives no byte is the end");
     let text = Text::from_vec(text_at(alloc, input, "text")?);
     let failing = Seq::from_vec(numbers_at(alloc, input, "failing_reads")?);
-    let mut source = MemorySource::new(text, largest, failing);
     let answers = text_at(alloc, input, "answers")?;
     let calls = answers.iter().filter(|byte| **byte == b'\n').count();
-    let told = ample(answers_of(alloc, &mut source, calls))?;
-    tell_text(alloc, lines, input, "answers", told.as_bytes())?;
-    tell_said(alloc, lines, input, "left", source.contents())?;
-    let reads = source.calls();
+    let outcome = ample(read_input(alloc, text, largest, failing, calls))?;
+    tell_text(alloc, lines, input, "answers", outcome.answers.as_bytes())?;
+    tell_said(alloc, lines, input, "left", outcome.left.as_slice())?;
+    let reads = outcome.reads;
     if number_at(input, "reads")?.is_some_and(|wanted| wanted != reads) {
         writeln!(lines, "  reads: got {reads}")?;
     }

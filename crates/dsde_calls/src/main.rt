@@ -9,10 +9,12 @@ mod answers;
 mod cases;
 mod decimals;
 mod inputs;
+mod kinds;
 mod lists;
 mod memory;
 mod names;
 mod paths;
+mod places;
 mod types;
 mod values;
 

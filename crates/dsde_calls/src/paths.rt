@@ -1,9 +1,10 @@
 //! Paths: their spelling and their order.
 
 use crate::memory::ample;
+use crate::places::{difference, spelled};
 use anyhow::Result;
 use dsde_data::{Value, bytes_of, check_names, items_at};
-use dsde_values::{Memory, Path, ReadPath, Text, compare_paths, read_path, write_path};
+use dsde_values::{Path, compare_paths};
 use std::alloc::Global;
 
 /// What differs in a table of texts: those that are `ordered` spell paths in this order, of which
@@ -13,51 +14,26 @@ pub(crate) fn differences(alloc: Global, table: &Value) -> Result<String> {
     let mut lines = String::new(alloc);
     let paths = ordered(alloc, &mut lines, table)?;
     tell_orders(&mut lines, &paths)?;
-    for text in items_at(table, "refused")? {
-        let bytes = bytes_of(alloc, text)?;
-        if ample(spelled(alloc, &bytes))?.is_some() {
-            writeln!(lines, "  {text}: a path")?;
-        }
-    }
+    tell_refused(alloc, &mut lines, table)?;
     Ok(lines)
 }
 
 /// The paths; adds a line for each text that is none, or is written otherwise.
 fn ordered(alloc: Global, lines: &mut String, table: &Value) -> Result<Vec<Path>> {
-    let root = ample(Path::root(alloc))?;
     let mut paths = Vec::new(alloc);
     for text in items_at(table, "ordered")? {
-        let bytes = bytes_of(alloc, text)?;
-        match ample(spelled(alloc, &bytes))? {
-            Some(path) => {
-                if ample(written(alloc, &path))?.as_slice() != bytes.as_slice() {
-                    writeln!(lines, "  {text}: written otherwise")?;
-                }
-                if compare_paths(&path, &root).is_eq() != (bytes.as_slice() == b"root".as_slice()) {
-                    writeln!(lines, "  {text}: another root")?;
-                }
-                paths.push(path)?;
-            }
-            None => writeln!(lines, "  {text}: no path")?,
+        match path_of(alloc, text)? {
+            Ok(path) => paths.push(path)?,
+            Err(what) => writeln!(lines, "  {text}: {what}")?,
         }
     }
     Ok(paths)
 }
 
-/// The path that a text spells, if it spells one.
-pub(crate) fn spelled(alloc: Global, text: &[u8]) -> Result<Option<Path>, Memory> {
-    match read_path(alloc, text) {
-        Ok(path) => Ok(Some(path)),
-        Err(ReadPath::NotAPath) => Ok(None),
-        Err(ReadPath::Memory) => Err(Memory),
-    }
-}
-
-/// How a path is written.
-fn written(alloc: Global, path: &Path) -> Result<Text, Memory> {
-    let mut text = Text::new(alloc);
-    write_path(path, &mut text)?;
-    Ok(text)
+/// The path that a text spells, or what differs.
+fn path_of(alloc: Global, text: &Value) -> Result<Result<Path, &'static str>> {
+    let text = bytes_of(alloc, text)?;
+    ample(difference(alloc, &text))
 }
 
 fn tell_orders(lines: &mut String, paths: &[Path]) -> Result<()> {
@@ -69,4 +45,19 @@ fn tell_orders(lines: &mut String, paths: &[Path]) -> Result<()> {
         }
     }
     Ok(())
+}
+
+/// Adds a line for each text that is to be refused and is not.
+fn tell_refused(alloc: Global, lines: &mut String, table: &Value) -> Result<()> {
+    for text in items_at(table, "refused")? {
+        if is_path(alloc, text)? {
+            writeln!(lines, "  {text}: a path")?;
+        }
+    }
+    Ok(())
+}
+
+fn is_path(alloc: Global, text: &Value) -> Result<bool> {
+    let text = bytes_of(alloc, text)?;
+    Ok(ample(spelled(alloc, &text))?.is_some())
 }

@@ -2,8 +2,8 @@
 
 use crate::memory::{ample, list_of};
 use anyhow::{Context, Result, bail};
-use dsde_data::{Value, check_names, items_at, word_at};
-use dsde_values::{Boxed, Def, Field, Seq, Shape, Text, Ty, Types, is_lawful};
+use dsde_data::{Value, check_names, items_at};
+use dsde_values::{Boxed, Def, Field, Seq, Shape, Ty, Types, is_lawful};
 use std::alloc::Global;
 
 /// What differs in a table of lists of definitions: those under `lawful` make a lawful table of
@@ -11,26 +11,31 @@ use std::alloc::Global;
 pub(crate) fn differences(alloc: Global, table: &Value) -> Result<String> {
     check_names(table, &["about", "name", "lawful", "unlawful"])?;
     let mut lines = String::new(alloc);
-    for (name, wanted) in &[("lawful", true), ("unlawful", false)] {
-        for defs in items_at(table, *name)? {
-            let types = types_of(alloc, items_of(defs)?)?;
-            if is_lawful(&types) != *wanted {
-                writeln!(lines, "  {defs}: not {name}")?;
-            }
-        }
-    }
+    tell(alloc, &mut lines, items_at(table, "lawful")?, true)?;
+    tell(alloc, &mut lines, items_at(table, "unlawful")?, false)?;
     Ok(lines)
 }
 
-fn items_of(list: &Value) -> Result<&[Value]> {
-    let items = list.as_array().context("no list")?;
-    Ok(items.as_slice())
+fn tell(alloc: Global, lines: &mut String, lists: &[Value], wanted: bool) -> Result<()> {
+    for defs in lists {
+        if are_lawful(alloc, defs)? != wanted {
+            writeln!(lines, "  {defs}: not so")?;
+        }
+    }
+    Ok(())
+}
+
+fn are_lawful(alloc: Global, defs: &Value) -> Result<bool> {
+    let defs = defs.as_array().context("no list")?;
+    Ok(is_lawful(&types_of(alloc, defs.as_slice())?))
 }
 
 /// The definitions that a file has under this name.
 pub(crate) fn definitions_at<'v>(file: &'v Value, name: &str) -> Result<&'v [Value]> {
-    let lists = file.get("definitions").context("definitions: left out")?;
-    items_at(lists, name)
+    match file.get("definitions") {
+        Some(lists) => items_at(lists, name),
+        None => bail!("definitions: left out"),
+    }
 }
 
 /// The table of types of these definitions: an `enum` has `variants`, and a `record` has `fields`,

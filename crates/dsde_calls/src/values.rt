@@ -1,13 +1,11 @@
 //! Values of a type, read from texts.
 
+use crate::kinds::{Kind, difference, spelled};
 use crate::memory::ample;
 use crate::types::{definitions_at, type_of, types_of};
-use anyhow::{Context, Result, ensure};
+use anyhow::{Context, Result};
 use dsde_data::{Value as Data, bytes_of, check_names, items_at, text_at, word_at};
-use dsde_values::{
-    Memory, ReadValue, Text, Ty, Types, Value, copy_value, equal, has_type, is_lawful, read_value,
-    write_value,
-};
+use dsde_values::{Value, equal, has_type};
 use std::alloc::Global;
 
 /// What differs in a table of texts of a type, `over` the definitions of this name.
@@ -31,104 +29,78 @@ pub(crate) fn differences(alloc: Global, table: &Data, file: &Data) -> Result<St
             "never",
         ],
     )?;
-    let defs = definitions_at(file, word_at(table, "over")?)?;
-    let types = types_of(alloc, defs)?;
-    ensure!(is_lawful(&types), "no lawful table of types");
-    let ty = type_of(alloc, word_at(table, "type")?, defs)?;
     let mut lines = String::new(alloc);
-    let values = accepted(alloc, &mut lines, table, &ty, &types)?;
-    tell_refused(alloc, &mut lines, table, &ty, &types)?;
+    let values = values_of(alloc, &mut lines, table, file)?;
+    tell_equal(&mut lines, &values)?;
     if table.get("seen_over").is_some() {
-        let defs = definitions_at(file, word_at(table, "seen_over")?)?;
-        tell_types(alloc, &mut lines, table, defs, &values)?;
+        tell_types(alloc, &mut lines, table, file, &values)?;
     }
     Ok(lines)
 }
 
-/// The values that are accepted; adds a line for each of which something differs.
-fn accepted(
-    alloc: Global,
-    lines: &mut String,
-    table: &Data,
-    ty: &Ty,
-    types: &Types,
-) -> Result<Vec<Value>> {
+/// The values that are accepted; adds a line for each text that is read otherwise than is wanted.
+fn values_of(alloc: Global, lines: &mut String, table: &Data, file: &Data) -> Result<Vec<Value>> {
+    let kind = kind_of(
+        alloc,
+        definitions_at(file, word_at(table, "over")?)?,
+        word_at(table, "type")?,
+    )?;
+    tell_refused(alloc, lines, table, &kind)?;
+    accepted(alloc, lines, table, &kind)
+}
+
+/// The type that is written so, and its table.
+fn kind_of(alloc: Global, defs: &[Data], words: &str) -> Result<Kind> {
+    let ty = type_of(alloc, words, defs)?;
+    let types = types_of(alloc, defs)?;
+    Ok(Kind { ty, types })
+}
+
+fn accepted(alloc: Global, lines: &mut String, table: &Data, kind: &Kind) -> Result<Vec<Value>> {
     let behind = text_at(alloc, table, "behind")?;
     let mut values = Vec::new(alloc);
     for text in items_at(table, "accepted")? {
-        let mut bytes = bytes_of(alloc, text)?;
-        let size = bytes.len();
-        bytes.extend_from_slice(&behind)?;
-        match ample(begun(alloc, &bytes, ty, types))? {
-            Some((value, read)) => {
-                if read != size {
-                    writeln!(lines, "  {text}: another size")?;
-                }
-                let what = ample(difference(alloc, &value, &bytes[..size], ty, types))?;
-                if let Some(what) = what {
-                    writeln!(lines, "  {text}: {what}")?;
-                }
-                if values.iter().any(|earlier| equal(earlier, &value)) {
-                    writeln!(lines, "  {text}: equal to one before it")?;
-                }
-                values.push(value)?;
-            }
-            None => writeln!(lines, "  {text}: no value")?,
+        match value_of(alloc, text, &behind, kind)? {
+            Ok(value) => values.push(value)?,
+            Err(what) => writeln!(lines, "  {text}: {what}")?,
         }
     }
     Ok(values)
 }
 
-/// The value of a type that a text begins with, over a lawful table of types, and how many bytes it
-/// has.
-fn begun(
+/// The value that a text spells where this stands behind it, or what differs.
+fn value_of(
     alloc: Global,
-    bytes: &[u8],
-    ty: &Ty,
-    types: &Types,
-) -> Result<Option<(Value, usize)>, Memory> {
-    if !is_lawful(types) {
-        return Ok(None);
-    }
-    match read_value(alloc, bytes, ty, types) {
-        Ok(found) => Ok(Some(found)),
-        Err(ReadValue::NotAValue) => Ok(None),
-        Err(ReadValue::Memory) => Err(Memory),
-    }
-}
-
-/// What differs in a value that a text spells: its type, how its copy compares, or how it is written.
-fn difference(
-    alloc: Global,
-    value: &Value,
-    text: &[u8],
-    ty: &Ty,
-    types: &Types,
-) -> Result<Option<&'static str>, Memory> {
-    if !has_type(value, ty, types) {
-        return Ok(Some("another type"));
-    }
-    let copy = copy_value(alloc, value)?;
-    if !equal(&copy, value) {
-        return Ok(Some("another copy"));
-    }
-    let mut written = Text::new(alloc);
-    write_value(&copy, types, &mut written)?;
-    Ok((written.as_slice() != text).then_some("written otherwise"))
+    text: &Data,
+    behind: &[u8],
+    kind: &Kind,
+) -> Result<Result<Value, &'static str>> {
+    let text = bytes_of(alloc, text)?;
+    ample(difference(alloc, &text, behind, kind))
 }
 
 /// Adds a line for each text that is to be refused and is not.
-fn tell_refused(
-    alloc: Global,
-    lines: &mut String,
-    table: &Data,
-    ty: &Ty,
-    types: &Types,
-) -> Result<()> {
+fn tell_refused(alloc: Global, lines: &mut String, table: &Data, kind: &Kind) -> Result<()> {
     for text in items_at(table, "refused")? {
-        let bytes = bytes_of(alloc, text)?;
-        if ample(begun(alloc, &bytes, ty, types))?.is_some() {
+        if begins_with_value(alloc, text, kind)? {
             writeln!(lines, "  {text}: a value")?;
+        }
+    }
+    Ok(())
+}
+
+fn begins_with_value(alloc: Global, text: &Data, kind: &Kind) -> Result<bool> {
+    let text = bytes_of(alloc, text)?;
+    Ok(ample(spelled(alloc, &text, kind))?.is_some())
+}
+
+/// Adds a line for each two values that are equal, or one that is not equal to itself.
+fn tell_equal(lines: &mut String, values: &[Value]) -> Result<()> {
+    for (index, value) in values.iter().enumerate() {
+        for (place, other) in values.iter().enumerate() {
+            if equal(value, other) != (index == place) {
+                writeln!(lines, "  {index} and {place}: equal, or not")?;
+            }
         }
     }
     Ok(())
@@ -139,21 +111,35 @@ fn tell_types(
     alloc: Global,
     lines: &mut String,
     table: &Data,
+    file: &Data,
+    values: &[Value],
+) -> Result<()> {
+    let defs = definitions_at(file, word_at(table, "seen_over")?)?;
+    tell_having(alloc, lines, items_at(table, "also")?, true, defs, values)?;
+    tell_having(alloc, lines, items_at(table, "never")?, false, defs, values)
+}
+
+fn tell_having(
+    alloc: Global,
+    lines: &mut String,
+    words: &[Data],
+    wanted: bool,
     defs: &[Data],
     values: &[Value],
 ) -> Result<()> {
-    let types = types_of(alloc, defs)?;
-    for (name, wanted) in &[("also", true), ("never", false)] {
-        for words in items_at(table, *name)? {
-            let words = words.as_str().context("a type that is no string")?;
-            let ty = type_of(alloc, words, defs)?;
-            if values
-                .iter()
-                .any(|value| has_type(value, &ty, &types) != *wanted)
-            {
-                writeln!(lines, "  {words}: not {name}")?;
-            }
+    for word in words {
+        let words = word.as_str().context("a type that is no string")?;
+        let kind = kind_of(alloc, defs, words)?;
+        if !all_have(values, &kind, wanted) {
+            writeln!(lines, "  {word}: not so")?;
         }
     }
     Ok(())
+}
+
+/// Whether all values have a type, or none has.
+fn all_have(values: &[Value], kind: &Kind, wanted: bool) -> bool {
+    values
+        .iter()
+        .all(|value| has_type(value, &kind.ty, &kind.types) == wanted)
 }
