@@ -5,6 +5,7 @@
 mod banks;
 mod counts;
 mod groves;
+mod names;
 mod queues;
 
 use dsde_values::{Memory, Text};

@@ -1,0 +1,462 @@
+-- What is seen of an expression, or the first wrong thing in it. Each construct has one step, which
+-- is read beside its rule above it; its parts are looked at from left to right.
+use Rattle.std.specs.Prelude.{ℕ, ◌+◌, ◌==◌, max, nat_lt, Bool, true, false, not, ◌&&◌, if◌then◌else◌, List, [], ◌∷◌, ◌++◌, length, map, take, Option, Some, None, Result, Ok, position, slice_get, unwrap_or, option_and_then}
+use Rattle.std.specs.List.{list_any}
+use Rattle.std.specs.Str.{bytes_eq}
+use Rattle.dsde_words.specs.declared.key.Key.{Key}
+use Rattle.dsde_words.specs.declared.key.Key.TheVariants as key
+use Rattle.dsde_syntax.specs.declared.token.Sign.{Sign}
+use Rattle.dsde_syntax.specs.declared.token.Sign.TheVariants as sign
+use Rattle.dsde_syntax.specs.declared.id.Id.{Id}
+use Rattle.dsde_syntax.specs.declared.type_name.TypeName.{TypeName}
+use Rattle.dsde_syntax.specs.declared.type_name.TypeName.TheOpen.{TypeName-F}
+use Rattle.dsde_syntax.specs.declared.type_name.TypeName.TheFolds.{fold-TypeName}
+use Rattle.dsde_syntax.specs.declared.expr.Expr.{Expr}
+use Rattle.dsde_syntax.specs.declared.expr.Expr.TheOpen.{Expr-F, Suffix-F, ExprArm-F, FieldSet-F, SignTail-F, Tail-F}
+use Rattle.dsde_syntax.specs.declared.expr.Expr.TheFolds.{fold-Expr}
+use Rattle.dsde_values.specs.declared.types.Ty.{Ty, out-Ty}
+use Rattle.dsde_values.specs.declared.types.Ty.TheOpen as layer
+use Rattle.dsde_values.specs.declared.types.Ty.TheVariants as ty
+use Rattle.dsde_values.specs.declared.types.Def.{Def}
+use Rattle.dsde_values.specs.declared.types.Field.{Field}
+use Rattle.dsde_values.specs.Value.{variants, fields}
+use Rattle.dsde_rules.specs.declared.builtin.Gives.{Gives}
+use Rattle.dsde_rules.specs.declared.builtin.Gives.TheVariants as gives
+use Rattle.dsde_rules.specs.declared.builtin.Part.{Part}
+use Rattle.dsde_rules.specs.declared.builtin.Part.TheVariants as part
+use Rattle.dsde_rules.specs.declared.builtin.Row.{Row}
+use Rattle.dsde_rules.specs.declared.signatures.Func.{Func}
+use Rattle.dsde_rules.specs.declared.signatures.ModelSig.{ModelSig}
+use Rattle.dsde_rules.specs.declared.seen.Binding.{Binding}
+use Rattle.dsde_rules.specs.declared.seen.Seen.{Seen}
+use Rattle.dsde_rules.specs.declared.wrong.Wrong.{Wrong}
+use Rattle.dsde_rules.specs.declared.wrong.WrongKind.TheVariants.{Unknown, WrongType, NotTotal, Limit}
+use Rattle.dsde_rules.specs.Steps.{◌>>=◌, Test, wrong, unless, apart, capped, above}
+use Rattle.dsde_rules.specs.Types.{depth_of, wanted, item_type, held_type}
+use Rattle.dsde_rules.specs.Tables.{number_of}
+
+-- What is known of a file: the identifiers of types, the types that it declares and how deep each
+-- is, its models; of these types, how many are declared before, and the functions that are.
+pub record Known : Type 0 where
+  pub names : List (List ℕ)
+  pub types : List Def
+  pub depths : List ℕ
+  pub models : List ModelSig
+  pub declared : ℕ
+  pub funcs : List Func
+
+-- What stands round an expression: what is known, the names of its function or body, which no other
+-- name may have, whether it sees `elapsed`, and whether it must have a value.
+pub record Around : Type 0 where
+  pub known : Known
+  pub reserved : List (List ℕ)
+  pub has_elapsed : Bool
+  pub is_total : Bool
+
+-- the names that are seen, and what they are bound to
+abbrev pub Scope : Type 0
+Scope = List Binding
+
+-- what a name is bound to
+abbrev pub bound_to : Scope → List ℕ → Option Binding
+bound_to scope name = option_and_then (slice_get scope) (position (λ (bound : Binding). bytes_eq bound.name name) scope)
+
+-- A name that is bound differs from those of its function or body and from those in scope.
+abbrev pub fresh : Around → Id → Scope → Test
+fresh around id scope =
+    apart around.reserved id >>= (λ _. apart (map (λ (bound : Binding). bound.name) scope) id)
+
+-- a name that is bound and not assigned to
+abbrev pub fixed : Id → Ty → Binding
+fixed id ty = record { name = id.name; ty = ty; mutable = false }
+
+-- the number of a type that is declared before
+abbrev pub declared_type : Known → Id → Option ℕ
+declared_type known id = number_of (take known.declared known.names) id.name
+
+-- what is seen of a type as it is written
+pub record TypeSeen : Type 0 where
+  pub ty : Ty
+  pub depth : ℕ
+
+-- a type that is no deeper than 64
+abbrev pub made_type : Ty → ℕ → ℕ → Result TypeSeen Wrong
+made_type ty depth at = if nat_lt 64 depth then wrong Limit at else Ok (record { ty = ty; depth = depth })
+
+-- the type that a definition with this number is
+abbrev pub type_at : Known → ℕ → Ty
+type_at known number =
+    elim (slice_get known.types number) [
+      | None ↦ ty.Rec number
+      | Some def ↦ elim (fields def.shape) [ None ↦ ty.Enum number | Some own ↦ ty.Rec number ]
+    ]
+
+-- An identifier is that of an enum or a record that is declared before.
+abbrev pub type_of_id : Known → Id → Result TypeSeen Wrong
+type_of_id known id =
+    elim (declared_type known id) [
+      | None ↦ wrong Unknown id.at
+      | Some number ↦ Ok (record { ty = type_at known number; depth = unwrap_or (slice_get known.depths number) 0 })
+    ]
+
+abbrev pub type_step : Known → TypeName-F (Result TypeSeen Wrong) → Result TypeSeen Wrong
+type_step known (TypeName-F.Int at) = Ok (record { ty = ty.Int; depth = 0 })
+type_step known (TypeName-F.Bool at) = Ok (record { ty = ty.Bool; depth = 0 })
+type_step known (TypeName-F.Named id) = type_of_id known id
+type_step known (TypeName-F.List at inner) = inner >>= (λ seen. made_type (ty.List seen.ty) (seen.depth + 1) at)
+type_step known (TypeName-F.Opt at inner) = inner >>= (λ seen. made_type (ty.Opt seen.ty) (seen.depth + 1) at)
+
+-- a type as it is written
+abbrev pub type_of : Known → TypeName → Result TypeSeen Wrong
+type_of known = fold-TypeName (Result TypeSeen Wrong) (type_step known)
+
+-- what is seen of an expression in a scope, or the first wrong thing in it
+abbrev pub Judge : Type 0
+Judge = Scope → Result Seen Wrong
+
+-- an expression of a type, on parts of this height
+abbrev pub seen_as : Ty → ℕ → ℕ → Result Seen Wrong
+seen_as ty height at = Ok (record { ty = ty; height = above height; at = at })
+
+-- An expression whose type may be deeper than those of its parts is no deeper than 64.
+abbrev pub made : Around → Ty → ℕ → ℕ → Result Seen Wrong
+made around ty height at =
+    unless (nat_lt 64 (depth_of around.known.depths ty)) Limit at >>= (λ _. seen_as ty height at)
+
+-- What may have no value stands in no translation.
+abbrev pub total : Around → Bool → ℕ → Test
+total around may_fault at = unless (around.is_total && may_fault) NotTotal at
+
+-- A chain is nested to the left: each link makes one of what stands before it.
+abbrev pub nested : {A : Type 0} → A → List (A → A) → A
+nested left [] = left
+nested left (link ∷ links) = nested (link left) links
+
+abbrev pub On : Type 0
+On = Judge → Judge
+
+-- what is seen of `if` with its braces
+pub record ArmJudge : Type 0 where
+  pub cond : Judge
+  pub value : Judge
+
+-- a field of a new record, and what is seen of its value
+pub record SetJudge : Type 0 where
+  pub name : Id
+  pub value : Judge
+
+-- "or" and "and": both bool
+abbrev pub tail_step : Tail-F Judge On ArmJudge SetJudge On On → On
+tail_step tail first scope =
+    first scope >>= (λ left.
+    wanted ty.Bool left >>= (λ _.
+    tail.value scope >>= (λ right.
+    wanted ty.Bool right >>= (λ _.
+    seen_as ty.Bool (max left.height right.height) tail.at))))
+
+-- "++" joins two lists of one type, and the other signs take and give whole numbers.
+abbrev pub operand : Sign → Seen → Result Ty Wrong
+operand sign.PlusPlus seen = item_type seen >>= (λ item. Ok (ty.List item))
+operand _ seen = wanted ty.Int seen >>= (λ _. Ok ty.Int)
+
+-- "+|", "-|" and "*|" always have a value.
+abbrev pub sign_may_fault : Sign → Bool
+sign_may_fault sign.PlusBar = false
+sign_may_fault sign.MinusBar = false
+sign_may_fault sign.StarBar = false
+sign_may_fault _ = true
+
+abbrev pub sign_tail_step : Around → SignTail-F Judge On ArmJudge SetJudge On On → On
+sign_tail_step around tail first scope =
+    first scope >>= (λ left.
+    operand tail.sign left >>= (λ ty.
+    tail.value scope >>= (λ right.
+    wanted ty right >>= (λ _.
+    total around (sign_may_fault tail.sign) tail.at >>= (λ _.
+    seen_as ty (max left.height right.height) tail.at)))))
+
+-- the fields of a type, if it is a record
+abbrev pub fields_of : Known → Ty → Option (List Field)
+fields_of known own = elim (out-Ty own) [
+  | layer.Rec number ↦ option_and_then (λ (def : Def). fields def.shape) (slice_get known.types number)
+  | _ ↦ None
+]
+
+-- the field of a name
+abbrev pub field_named : List Field → List ℕ → Option Field
+field_named fields name = option_and_then (slice_get fields) (position (λ (field : Field). bytes_eq field.name name) fields)
+
+-- e.f: e is a record that has the field
+abbrev pub field_of : Known → Seen → Id → Result Ty Wrong
+field_of known seen name =
+    elim (fields_of known seen.ty) [
+      | None ↦ wrong WrongType seen.at
+      | Some fields ↦ elim (field_named fields name.name) [ None ↦ wrong Unknown name.at | Some field ↦ Ok field.ty ]
+    ]
+
+abbrev pub suffix_step : Around → Suffix-F Judge On ArmJudge SetJudge On On → On
+suffix_step around (Suffix-F.Field at name) first scope =
+    first scope >>= (λ seen.
+    field_of around.known seen name >>= (λ ty.
+    made around ty seen.height at))
+-- e[i]: a list and a whole number
+suffix_step around (Suffix-F.Index at value) first scope =
+    first scope >>= (λ list.
+    item_type list >>= (λ item.
+    value scope >>= (λ index.
+    wanted ty.Int index >>= (λ _.
+    total around true at >>= (λ _.
+    seen_as item (max list.height index.height) at)))))
+-- e!: an option
+suffix_step around (Suffix-F.Unwrap at) first scope =
+    first scope >>= (λ option.
+    held_type option >>= (λ inner.
+    total around true at >>= (λ _.
+    seen_as inner option.height at)))
+
+-- the greatest height of parts that have these types
+abbrev pub fit : List Judge → List Ty → ℕ → Scope → Result ℕ Wrong
+fit (part ∷ parts) (ty ∷ tys) height scope =
+    part scope >>= (λ seen.
+    wanted ty seen >>= (λ _.
+    fit parts tys (max height seen.height) scope))
+fit _ _ height scope = Ok height
+
+-- arguments, as many as there are parameters and of their types
+abbrev pub fit_all : Id → List Judge → List Ty → Scope → Result ℕ Wrong
+fit_all name args params scope =
+    unless (not (length args == length params)) WrongType name.at >>= (λ _. fit args params 0 scope)
+
+-- the greatest height of parts that all have one type
+abbrev pub all_of : Ty → List Judge → ℕ → Scope → Result ℕ Wrong
+all_of ty [] height scope = Ok height
+all_of ty (part ∷ parts) height scope =
+    part scope >>= (λ seen.
+    wanted ty seen >>= (λ _.
+    all_of ty parts (max height seen.height) scope))
+
+-- [e, ..]: all of the first one's type
+abbrev pub list_of : Around → ℕ → List Judge → Judge
+list_of around at [] scope = wrong WrongType at
+list_of around at (first ∷ rest) scope =
+    first scope >>= (λ seen.
+    all_of seen.ty rest seen.height scope >>= (λ height.
+    total around true at >>= (λ _.
+    made around (ty.List seen.ty) height at)))
+
+-- a name that is used
+abbrev pub name_of : Around → Id → Judge
+name_of around id scope =
+    elim (bound_to scope id.name) [ None ↦ wrong Unknown id.at | Some bound ↦ made around bound.ty 0 id.at ]
+
+-- the function of a name that is declared before
+abbrev pub func_named : List Func → List ℕ → Option Func
+func_named funcs name = option_and_then (slice_get funcs) (position (λ (func : Func). bytes_eq func.name name) funcs)
+
+-- A call: arguments of the parameters' types. It is as much higher as the function's body is high.
+abbrev pub call_of : Around → Id → Func → List Judge → Judge
+call_of around name func args scope =
+    fit_all name args func.params scope >>= (λ height.
+    total around true name.at >>= (λ _.
+    Ok (record { ty = func.result; height = capped (height + 1 + func.height); at = name.at })))
+
+abbrev pub call_to : Around → Id → List Judge → Judge
+call_to around name args scope =
+    elim (func_named around.known.funcs name.name) [ None ↦ wrong Unknown name.at | Some func ↦ call_of around name func args scope ]
+
+-- E::v: an enum that is declared before, and one of its variants
+abbrev pub variant_of : Known → Id → Id → ℕ → Result Seen Wrong
+variant_of known owner variant number =
+    elim (slice_get known.types number) [
+      | None ↦ wrong Unknown owner.at
+      | Some def ↦ elim (fields def.shape) [
+        | Some own ↦ wrong Unknown owner.at
+        | None ↦
+            unless (not (list_any (λ name. bytes_eq name variant.name) (variants def.shape))) Unknown variant.at >>= (λ _.
+            seen_as (ty.Enum number) 0 owner.at)
+      ]
+    ]
+
+-- Each of these names is a field's.
+abbrev pub all_fields : List Field → List SetJudge → Test
+all_fields fields [] = Ok tt
+all_fields fields (set ∷ sets) =
+    unless (not (list_any (λ (field : Field). bytes_eq field.name set.name.name) fields)) Unknown set.name.at >>= (λ _.
+    all_fields fields sets)
+
+-- whether these are all fields, in their order
+abbrev pub in_order : List Field → List SetJudge → Bool
+in_order [] [] = true
+in_order (field ∷ fields) (set ∷ sets) = bytes_eq field.name set.name.name && in_order fields sets
+in_order _ _ = false
+
+-- new R{f: e, ..}: a record that is declared before, all its fields in order, each value of its field's type
+abbrev pub record_of : ℕ → Id → ℕ → List Field → List SetJudge → Judge
+record_of at owner number fields sets scope =
+    all_fields fields sets >>= (λ _.
+    unless (not (in_order fields sets)) WrongType owner.at >>= (λ _.
+    fit (map (λ (set : SetJudge). set.value) sets) (map (λ (field : Field). field.ty) fields) 0 scope >>= (λ height.
+    seen_as (ty.Rec number) height at)))
+
+abbrev pub new_of : Known → ℕ → Id → List SetJudge → Judge
+new_of known at owner sets scope =
+    elim (declared_type known owner) [
+      | None ↦ wrong Unknown owner.at
+      | Some number ↦ elim (fields_of known (ty.Rec number)) [
+        | None ↦ wrong Unknown owner.at
+        | Some fields ↦ record_of at owner number fields sets scope
+      ]
+    ]
+
+-- the table of builtins
+abbrev pub row_of : Key → Row
+row_of key.SomeOf = record { parts = part.Any ∷ []; gives = gives.Opt; may_fault = false }
+row_of key.Len = record { parts = part.List ∷ []; gives = gives.Int; may_fault = false }
+row_of key.IsSome = record { parts = part.Opt ∷ []; gives = gives.Bool; may_fault = false }
+row_of key.Min = record { parts = part.Int ∷ part.Int ∷ []; gives = gives.Int; may_fault = false }
+row_of key.Max = record { parts = part.Int ∷ part.Int ∷ []; gives = gives.Int; may_fault = false }
+row_of key.Range = record { parts = part.Int ∷ part.Int ∷ []; gives = gives.Ints; may_fault = true }
+row_of key.Push = record { parts = part.List ∷ part.Item ∷ []; gives = gives.List; may_fault = true }
+row_of key.Put = record { parts = part.List ∷ part.Int ∷ part.Item ∷ []; gives = gives.List; may_fault = true }
+row_of key.Take = record { parts = part.List ∷ part.Int ∷ []; gives = gives.List; may_fault = false }
+row_of key.Skip = record { parts = part.List ∷ part.Int ∷ []; gives = gives.List; may_fault = false }
+row_of _ = record { parts = []; gives = gives.Int; may_fault = false }
+
+-- what T is behind an argument, where it was this before
+abbrev pub part_type : Part → Ty → Seen → Result Ty Wrong
+part_type part.Any before seen = Ok seen.ty
+part_type part.List before seen = item_type seen
+part_type part.Opt before seen = held_type seen
+part_type part.Int before seen = wanted ty.Int seen >>= (λ _. Ok before)
+part_type part.Item before seen = wanted before seen >>= (λ _. Ok before)
+
+-- what is seen of arguments: T, and the greatest height
+pub record Fitted : Type 0 where
+  pub ty : Ty
+  pub height : ℕ
+
+abbrev pub fit_parts : List Judge → List Part → Ty → ℕ → Scope → Result Fitted Wrong
+fit_parts (arg ∷ args) (own ∷ parts) before height scope =
+    arg scope >>= (λ seen.
+    part_type own before seen >>= (λ ty.
+    fit_parts args parts ty (max height seen.height) scope))
+fit_parts _ _ before height scope = Ok (record { ty = before; height = height })
+
+abbrev pub given_type : Gives → Ty → Ty
+given_type gives.Int item = ty.Int
+given_type gives.Bool item = ty.Bool
+given_type gives.Opt item = ty.Opt item
+given_type gives.List item = ty.List item
+given_type gives.Ints item = ty.List ty.Int
+
+-- a builtin by its row
+abbrev pub builtin_of : Around → Row → ℕ → List Judge → Judge
+builtin_of around row at args scope =
+    unless (not (length args == length row.parts)) WrongType at >>= (λ _.
+    fit_parts args row.parts ty.Int 0 scope >>= (λ fitted.
+    total around row.may_fault at >>= (λ _.
+    made around (given_type row.gives fitted.ty) fitted.height at)))
+
+-- "==" and "!=" compare values of one type, and the other signs whole numbers.
+abbrev pub compared : Sign → Seen → Result Ty Wrong
+compared sign.EqualEqual left = Ok left.ty
+compared sign.NotEqual left = Ok left.ty
+compared _ left = wanted ty.Int left >>= (λ _. Ok ty.Int)
+
+-- a condition, if there is one: its height
+abbrev pub test_of : Option Judge → ℕ → Scope → Result ℕ Wrong
+test_of None height scope = Ok height
+test_of (Some cond) height scope =
+    cond scope >>= (λ test. wanted ty.Bool test >>= (λ _. Ok (max height test.height)))
+
+-- [for x in l if c : e]: l a list, c bool; x stands before l
+abbrev pub each_of : Around → ℕ → Id → Judge → Option Judge → Judge → Judge
+each_of around at name list cond value scope =
+    fresh around name scope >>= (λ _.
+    list scope >>= (λ items.
+    item_type items >>= (λ item.
+    test_of cond items.height (scope ++ fixed name item ∷ []) >>= (λ height.
+    value (scope ++ fixed name item ∷ []) >>= (λ seen.
+    made around (ty.List seen.ty) (max height seen.height) at)))))
+
+-- further arms of an `if`: conditions bool, values of the first arm's type
+abbrev pub arms_of : Ty → List ArmJudge → ℕ → Scope → Result ℕ Wrong
+arms_of ty [] height scope = Ok height
+arms_of ty (arm ∷ arms) height scope =
+    test_of (Some arm.cond) height scope >>= (λ tested.
+    arm.value scope >>= (λ seen.
+    wanted ty seen >>= (λ _.
+    arms_of ty arms (max tested seen.height) scope)))
+
+abbrev pub if_of : ℕ → List ArmJudge → Judge → Judge
+if_of at [] other scope = other scope
+if_of at (arm ∷ arms) other scope =
+    test_of (Some arm.cond) 0 scope >>= (λ tested.
+    arm.value scope >>= (λ first.
+    arms_of first.ty arms (max tested first.height) scope >>= (λ height.
+    other scope >>= (λ last.
+    wanted first.ty last >>= (λ _.
+    seen_as first.ty (max height last.height) at)))))
+
+abbrev pub judge_step : Around → Expr-F Judge On ArmJudge SetJudge On On → Judge
+-- a ?? b: opt<T>, T
+judge_step around (Expr-F.OrElse at left right) scope =
+    left scope >>= (λ option.
+    held_type option >>= (λ inner.
+    right scope >>= (λ other.
+    wanted inner other >>= (λ _.
+    seen_as inner (max option.height other.height) at))))
+judge_step around (Expr-F.Or first rest) scope = nested first rest scope
+judge_step around (Expr-F.And first rest) scope = nested first rest scope
+-- not: bool
+judge_step around (Expr-F.Not at inner) scope =
+    inner scope >>= (λ seen. wanted ty.Bool seen >>= (λ _. seen_as ty.Bool seen.height at))
+judge_step around (Expr-F.Compare which at left right) scope =
+    left scope >>= (λ one.
+    compared which one >>= (λ own.
+    right scope >>= (λ other.
+    wanted own other >>= (λ _.
+    seen_as ty.Bool (max one.height other.height) at))))
+judge_step around (Expr-F.Sum first rest) scope = nested first rest scope
+judge_step around (Expr-F.Mul first rest) scope = nested first rest scope
+-- -e: a whole number
+judge_step around (Expr-F.Neg at inner) scope =
+    inner scope >>= (λ seen.
+    wanted ty.Int seen >>= (λ _.
+    total around true at >>= (λ _.
+    seen_as ty.Int seen.height at)))
+judge_step around (Expr-F.Post first suffixes) scope = nested first suffixes scope
+judge_step around (Expr-F.Number at value) scope = seen_as ty.Int 0 at
+judge_step around (Expr-F.Truth at value) scope = seen_as ty.Bool 0 at
+judge_step around (Expr-F.Elapsed at) scope =
+    unless (not around.has_elapsed) Unknown at >>= (λ _. seen_as ty.Int 0 at)
+judge_step around (Expr-F.Name id) scope = name_of around id scope
+judge_step around (Expr-F.Call name args) scope = call_to around name args scope
+judge_step around (Expr-F.Variant owner variant) scope =
+    elim (declared_type around.known owner) [
+      | None ↦ wrong Unknown owner.at
+      | Some number ↦ variant_of around.known owner variant number
+    ]
+judge_step around (Expr-F.New at owner sets) scope = new_of around.known at owner sets scope
+-- none<T>
+judge_step around (Expr-F.NoneOf at own) scope =
+    type_of around.known own >>= (λ seen. made around (ty.Opt seen.ty) 0 at)
+-- empty<T>
+judge_step around (Expr-F.EmptyOf at own) scope =
+    type_of around.known own >>= (λ seen. made around (ty.List seen.ty) 0 at)
+judge_step around (Expr-F.Builtin which at args) scope = builtin_of around (row_of which) at args scope
+-- (e) is as e is, with its place and height.
+judge_step around (Expr-F.Paren at inner) scope = inner scope
+judge_step around (Expr-F.List at items) scope = list_of around at items scope
+judge_step around (Expr-F.Each at name list cond value) scope = each_of around at name list cond value scope
+judge_step around (Expr-F.If at arms other) scope = if_of at arms other scope
+
+abbrev pub arm_step : ExprArm-F Judge On ArmJudge SetJudge On On → ArmJudge
+arm_step arm = record { cond = arm.cond; value = arm.value }
+
+abbrev pub set_step : FieldSet-F Judge On ArmJudge SetJudge On On → SetJudge
+set_step set = record { name = set.name; value = set.value }
+
+-- what is seen of an expression, or the first wrong thing in it
+abbrev pub judge : Around → Expr → Judge
+judge around = fold-Expr Judge On ArmJudge SetJudge On On (judge_step around) (suffix_step around) arm_step set_step (sign_tail_step around) tail_step

@@ -1,0 +1,36 @@
+//! What declarations declare, as others see it.
+
+use dsde_values::{Seq, Text, Ty};
+
+/// A function that is declared.
+#[derive(Debug, Drop)]
+pub struct Func {
+    pub name: Text,
+    pub params: Seq<Ty>,
+    pub result: Ty,
+    /// The height of its body; counted up to 513.
+    pub height: u32,
+}
+
+/// A port.
+#[derive(Debug, Drop)]
+pub struct Port {
+    pub out: bool,
+    pub name: Text,
+    pub ty: Ty,
+}
+
+/// A model of a file, atomic or a network, by its text.
+#[derive(Debug, Drop)]
+pub struct ModelSig {
+    pub name: Text,
+    pub params: Seq<Ty>,
+    pub ports: Seq<Port>,
+}
+
+/// The identifier of components of a structure, and the number of their one model.
+#[derive(Debug, Drop)]
+pub struct Family {
+    pub name: Text,
+    pub model: u32,
+}
