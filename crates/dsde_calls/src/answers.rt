@@ -95,7 +95,7 @@ fn tell_word(told: &mut String, word: &str) -> Result<(), Memory> {
 fn tell_record(told: &mut String, arrival: &Arrival) -> Result<(), Memory> {
     let (line, time) = (arrival.line, arrival.time);
     write!(told, "{line}:{time}")?;
-    for item in arrival.items.as_slice() {
+    for item in arrival.items.iter() {
         let port = item.port;
         match item.value {
             Value::Int(number) => write!(told, " {port}={number}")?,

@@ -139,7 +139,7 @@ fn comes_back(
 /// Whether a model's tokens are spelled as these.
 fn has_tokens(alloc: Global, model: &Model, tokens: &[Token]) -> Result<bool, Memory> {
     let own = tokens_of(alloc, model)?;
-    let mut pairs = own.as_slice().iter().zip(tokens);
+    let mut pairs = own.iter().zip(tokens);
     Ok(own.len() == tokens.len() && pairs.all(|(left, right)| is_alike(left, &right.tok)))
 }
 
