@@ -1,4 +1,4 @@
-//! Tests of what is kept: counts, banks, schedules, trees.
+//! Tests of what is kept: counts, banks, schedules, trees, tables by name.
 #![tactic(auto)]
 
 #[cfg(test)]
