@@ -49,20 +49,6 @@ pub struct Fault {
     pub column: u32,
 }
 
-/// What is wrong with a model that is shaped as the grammar says.
-#[derive(Clone, Copy, Debug, PartialEq, Eq)]
-pub enum WrongKind {
-    Duplicate,
-    Unknown,
-    WrongType,
-    NotTotal,
-    BadLink,
-    NoExternal,
-    MixedFamily,
-    NoTop,
-    Limit,
-}
-
 /// Why a component's start, output or move did not come to its end. The number is the place of
 /// the token at which the fault comes; while models keep no places it is 0.
 #[derive(Clone, Copy, Debug, PartialEq, Eq)]

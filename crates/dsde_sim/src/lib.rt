@@ -9,7 +9,7 @@ mod plain;
 mod text;
 
 pub use event::{Event, Finish, InputKind, MoveKind};
-pub use fault::{Fault, FaultKind, LeafEnd, Site, TurnEnd, WrongKind};
+pub use fault::{Fault, FaultKind, LeafEnd, Site, TurnEnd};
 pub use leaf::{Leaf, Sent};
 pub use plain::{Plain, Step};
 pub use text::{input_text, write_end, write_event, write_fault};

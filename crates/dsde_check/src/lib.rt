@@ -1,0 +1,7 @@
+//! Every rule of the language, checked before a model runs.
+#![tactic(auto)]
+
+mod whole;
+
+pub use dsde_scope::CheckError;
+pub use whole::check;
