@@ -1,8 +1,9 @@
 -- What is seen of an expression, or the first wrong thing in it. Each construct has one step, which
 -- is read beside its rule above it; its parts are looked at from left to right.
-use Rattle.std.specs.Prelude.{ℕ, ◌+◌, ◌==◌, max, nat_lt, Bool, true, false, not, ◌&&◌, if◌then◌else◌, List, [], ◌∷◌, ◌++◌, length, map, take, Option, Some, None, Result, Ok, position, slice_get, unwrap_or, option_and_then}
+use Rattle.std.specs.Prelude.{ℕ, ◌+◌, ◌==◌, min, max, nat_lt, Bool, true, false, not, ◌&&◌, if◌then◌else◌, List, [], ◌∷◌, ◌++◌, length, map, Option, Some, None, Result, Ok, position, slice_get, unwrap_or}
 use Rattle.std.specs.List.{list_any}
 use Rattle.std.specs.Str.{bytes_eq}
+use Rattle.dsde_names.specs.Table.{named, is_among}
 use Rattle.dsde_words.specs.declared.key.Key.{Key}
 use Rattle.dsde_words.specs.declared.key.Key.TheVariants as key
 use Rattle.dsde_syntax.specs.declared.token.Sign.{Sign}
@@ -17,41 +18,27 @@ use Rattle.dsde_syntax.specs.declared.expr.Expr.TheFolds.{fold-Expr}
 use Rattle.dsde_values.specs.declared.types.Ty.{Ty, out-Ty}
 use Rattle.dsde_values.specs.declared.types.Ty.TheOpen as layer
 use Rattle.dsde_values.specs.declared.types.Ty.TheVariants as ty
-use Rattle.dsde_values.specs.declared.types.Def.{Def}
 use Rattle.dsde_values.specs.declared.types.Field.{Field}
-use Rattle.dsde_values.specs.Value.{variants, fields}
+use Rattle.dsde_values.specs.declared.types.Shape.{Shape}
+use Rattle.dsde_values.specs.declared.types.Shape.TheVariants as shape
 use Rattle.dsde_rules.specs.declared.builtin.Gives.{Gives}
 use Rattle.dsde_rules.specs.declared.builtin.Gives.TheVariants as gives
 use Rattle.dsde_rules.specs.declared.builtin.Part.{Part}
 use Rattle.dsde_rules.specs.declared.builtin.Part.TheVariants as part
 use Rattle.dsde_rules.specs.declared.builtin.Row.{Row}
-use Rattle.dsde_rules.specs.declared.signatures.Func.{Func}
-use Rattle.dsde_rules.specs.declared.signatures.ModelSig.{ModelSig}
+use Rattle.dsde_rules.specs.declared.known.Around.{Around}
+use Rattle.dsde_rules.specs.declared.known.Known.{Known}
 use Rattle.dsde_rules.specs.declared.seen.Binding.{Binding}
+use Rattle.dsde_rules.specs.declared.seen.BindingKind.TheVariants as kind
+use Rattle.dsde_rules.specs.declared.seen.Fitted.{Fitted}
 use Rattle.dsde_rules.specs.declared.seen.Seen.{Seen}
+use Rattle.dsde_rules.specs.declared.seen.TypeSeen.{TypeSeen}
+use Rattle.dsde_rules.specs.declared.signatures.Func.{Func}
 use Rattle.dsde_rules.specs.declared.wrong.Wrong.{Wrong}
-use Rattle.dsde_rules.specs.declared.wrong.WrongKind.TheVariants.{Unknown, WrongType, NotTotal, Limit}
-use Rattle.dsde_rules.specs.Steps.{◌>>=◌, Test, wrong, unless, apart, capped, above}
-use Rattle.dsde_rules.specs.Types.{depth_of, wanted, item_type, held_type}
-use Rattle.dsde_rules.specs.Tables.{number_of}
-
--- What is known of a file: the identifiers of types, the types that it declares and how deep each
--- is, its models; of these types, how many are declared before, and the functions that are.
-pub record Known : Type 0 where
-  pub names : List (List ℕ)
-  pub types : List Def
-  pub depths : List ℕ
-  pub models : List ModelSig
-  pub declared : ℕ
-  pub funcs : List Func
-
--- What stands round an expression: what is known, the names of its function or body, which no other
--- name may have, whether it sees `elapsed`, and whether it must have a value.
-pub record Around : Type 0 where
-  pub known : Known
-  pub reserved : List (List ℕ)
-  pub has_elapsed : Bool
-  pub is_total : Bool
+use Rattle.dsde_rules.specs.declared.wrong.WrongKind.TheVariants.{Duplicate, Unknown, WrongType, NotTotal, Limit}
+use Rattle.dsde_rules.specs.Steps.{◌>>=◌, Test, wrong, unless, apart, above}
+use Rattle.dsde_rules.specs.Types.{depth_of, deeper, wanted, item_type, held_type}
+use Rattle.dsde_rules.specs.Tables.{binding_name, field_name, func_name}
 
 -- the names that are seen, and what they are bound to
 abbrev pub Scope : Type 0
@@ -59,52 +46,48 @@ Scope = List Binding
 
 -- what a name is bound to
 abbrev pub bound_to : Scope → List ℕ → Option Binding
-bound_to scope name = option_and_then (slice_get scope) (position (λ (bound : Binding). bytes_eq bound.name name) scope)
+bound_to = named binding_name
 
--- A name that is bound differs from those of its function or body and from those in scope.
+-- A name differs from those in scope.
+abbrev pub unbound : Scope → Id → Test
+unbound scope id = unless (is_among binding_name scope id.name) Duplicate id.at
+
+-- A name that is bound differs from those of its body and from those in scope.
 abbrev pub fresh : Around → Id → Scope → Test
-fresh around id scope =
-    apart around.reserved id >>= (λ _. apart (map (λ (bound : Binding). bound.name) scope) id)
+fresh around id scope = apart around.reserved id >>= (λ _. unbound scope id)
 
 -- a name that is bound and not assigned to
 abbrev pub fixed : Id → Ty → Binding
-fixed id ty = record { name = id.name; ty = ty; mutable = false }
-
--- the number of a type that is declared before
-abbrev pub declared_type : Known → Id → Option ℕ
-declared_type known id = number_of (take known.declared known.names) id.name
-
--- what is seen of a type as it is written
-pub record TypeSeen : Type 0 where
-  pub ty : Ty
-  pub depth : ℕ
+fixed id ty = record { name = id.name; ty = ty; kind = kind.Fixed }
 
 -- a type that is no deeper than 64
 abbrev pub made_type : Ty → ℕ → ℕ → Result TypeSeen Wrong
 made_type ty depth at = if nat_lt 64 depth then wrong Limit at else Ok (record { ty = ty; depth = depth })
 
--- the type that a definition with this number is
-abbrev pub type_at : Known → ℕ → Ty
-type_at known number =
-    elim (slice_get known.types number) [
-      | None ↦ ty.Rec number
-      | Some def ↦ elim (fields def.shape) [ None ↦ ty.Enum number | Some own ↦ ty.Rec number ]
-    ]
+-- the number of a type that is declared before
+abbrev pub declared_type : Known → List ℕ → Option ℕ
+declared_type known name = position (λ own. bytes_eq own name) known.before
+
+-- the type with a number
+abbrev pub shaped_type : ℕ → Option Shape → Ty
+shaped_type number (Some (shape.Enum variants)) = ty.Enum number
+shaped_type number _ = ty.Rec number
 
 -- An identifier is that of an enum or a record that is declared before.
 abbrev pub type_of_id : Known → Id → Result TypeSeen Wrong
 type_of_id known id =
-    elim (declared_type known id) [
+    elim (declared_type known id.name) [
       | None ↦ wrong Unknown id.at
-      | Some number ↦ Ok (record { ty = type_at known number; depth = unwrap_or (slice_get known.depths number) 0 })
+      | Some number ↦
+          Ok (record { ty = shaped_type number (slice_get known.types number); depth = unwrap_or (slice_get known.depths number) 0 })
     ]
 
 abbrev pub type_step : Known → TypeName-F (Result TypeSeen Wrong) → Result TypeSeen Wrong
 type_step known (TypeName-F.Int at) = Ok (record { ty = ty.Int; depth = 0 })
 type_step known (TypeName-F.Bool at) = Ok (record { ty = ty.Bool; depth = 0 })
 type_step known (TypeName-F.Named id) = type_of_id known id
-type_step known (TypeName-F.List at inner) = inner >>= (λ seen. made_type (ty.List seen.ty) (seen.depth + 1) at)
-type_step known (TypeName-F.Opt at inner) = inner >>= (λ seen. made_type (ty.Opt seen.ty) (seen.depth + 1) at)
+type_step known (TypeName-F.List at inner) = inner >>= (λ seen. made_type (ty.List seen.ty) (deeper seen.depth) at)
+type_step known (TypeName-F.Opt at inner) = inner >>= (λ seen. made_type (ty.Opt seen.ty) (deeper seen.depth) at)
 
 -- a type as it is written
 abbrev pub type_of : Known → TypeName → Result TypeSeen Wrong
@@ -127,18 +110,34 @@ made around ty height at =
 abbrev pub total : Around → Bool → ℕ → Test
 total around may_fault at = unless (around.is_total && may_fault) NotTotal at
 
+-- what a link of a chain makes of what is seen of all that stands before it
+abbrev pub Link : Type 0
+Link = Seen → Judge
+
 -- A chain is nested to the left: each link makes one of what stands before it.
-abbrev pub nested : {A : Type 0} → A → List (A → A) → A
-nested left [] = left
-nested left (link ∷ links) = nested (link left) links
+abbrev pub links_from : Seen → List Link → Judge
+links_from left [] scope = Ok left
+links_from left (link ∷ links) scope = link left scope >>= (λ seen. links_from seen links scope)
 
-abbrev pub On : Type 0
-On = Judge → Judge
+abbrev pub chain : Judge → List Link → Judge
+chain first links scope = first scope >>= (λ left. links_from left links scope)
 
--- what is seen of `if` with its braces
-pub record ArmJudge : Type 0 where
-  pub cond : Judge
-  pub value : Judge
+-- A value behind a condition, if there is one: the condition is bool. The height is that of the
+-- higher of them, and of what came before them.
+abbrev pub Guarded : Type 0
+Guarded = ℕ → Judge
+
+-- a condition, if there is one: its height, or that of what came before it
+abbrev pub test_of : Option Judge → ℕ → Scope → Result ℕ Wrong
+test_of None height scope = Ok height
+test_of (Some cond) height scope =
+    cond scope >>= (λ test. wanted ty.Bool test >>= (λ _. Ok (max height test.height)))
+
+abbrev pub guarded : Option Judge → Judge → Guarded
+guarded cond value height scope =
+    test_of cond height scope >>= (λ tested.
+    value scope >>= (λ seen.
+    Ok (record { ty = seen.ty; height = max tested seen.height; at = seen.at })))
 
 -- a field of a new record, and what is seen of its value
 pub record SetJudge : Type 0 where
@@ -146,13 +145,12 @@ pub record SetJudge : Type 0 where
   pub value : Judge
 
 -- "or" and "and": both bool
-abbrev pub tail_step : Tail-F Judge On ArmJudge SetJudge On On → On
-tail_step tail first scope =
-    first scope >>= (λ left.
+abbrev pub tail_step : Tail-F Judge Link Guarded SetJudge Link Link → Link
+tail_step tail left scope =
     wanted ty.Bool left >>= (λ _.
     tail.value scope >>= (λ right.
     wanted ty.Bool right >>= (λ _.
-    seen_as ty.Bool (max left.height right.height) tail.at))))
+    seen_as ty.Bool (max left.height right.height) tail.at)))
 
 -- "++" joins two lists of one type, and the other signs take and give whole numbers.
 abbrev pub operand : Sign → Seen → Result Ty Wrong
@@ -166,55 +164,48 @@ sign_may_fault sign.MinusBar = false
 sign_may_fault sign.StarBar = false
 sign_may_fault _ = true
 
-abbrev pub sign_tail_step : Around → SignTail-F Judge On ArmJudge SetJudge On On → On
-sign_tail_step around tail first scope =
-    first scope >>= (λ left.
+abbrev pub sign_tail_step : Around → SignTail-F Judge Link Guarded SetJudge Link Link → Link
+sign_tail_step around tail left scope =
     operand tail.sign left >>= (λ ty.
     tail.value scope >>= (λ right.
     wanted ty right >>= (λ _.
     total around (sign_may_fault tail.sign) tail.at >>= (λ _.
-    seen_as ty (max left.height right.height) tail.at)))))
+    seen_as ty (max left.height right.height) tail.at))))
+
+-- the fields of the record with a number
+abbrev pub fields_at : Known → ℕ → Option (List Field)
+fields_at known number = elim (slice_get known.types number) [ Some (shape.Rec fields) ↦ Some fields | _ ↦ None ]
 
 -- the fields of a type, if it is a record
 abbrev pub fields_of : Known → Ty → Option (List Field)
-fields_of known own = elim (out-Ty own) [
-  | layer.Rec number ↦ option_and_then (λ (def : Def). fields def.shape) (slice_get known.types number)
-  | _ ↦ None
-]
+fields_of known own = elim (out-Ty own) [ layer.Rec number ↦ fields_at known number | _ ↦ None ]
 
 -- the field of a name
-abbrev pub field_named : List Field → List ℕ → Option Field
-field_named fields name = option_and_then (slice_get fields) (position (λ (field : Field). bytes_eq field.name name) fields)
+abbrev pub field_in : List Field → Id → Result Ty Wrong
+field_in fields name = elim (named field_name fields name.name) [ None ↦ wrong Unknown name.at | Some field ↦ Ok field.ty ]
 
 -- e.f: e is a record that has the field
 abbrev pub field_of : Known → Seen → Id → Result Ty Wrong
 field_of known seen name =
-    elim (fields_of known seen.ty) [
-      | None ↦ wrong WrongType seen.at
-      | Some fields ↦ elim (field_named fields name.name) [ None ↦ wrong Unknown name.at | Some field ↦ Ok field.ty ]
-    ]
+    elim (fields_of known seen.ty) [ None ↦ wrong WrongType seen.at | Some fields ↦ field_in fields name ]
 
-abbrev pub suffix_step : Around → Suffix-F Judge On ArmJudge SetJudge On On → On
+abbrev pub suffix_step : Around → Suffix-F Judge Link Guarded SetJudge Link Link → Link
 suffix_step around (Suffix-F.Field at name) first scope =
-    first scope >>= (λ seen.
-    field_of around.known seen name >>= (λ ty.
-    made around ty seen.height at))
+    field_of around.known first name >>= (λ ty. made around ty first.height at)
 -- e[i]: a list and a whole number
 suffix_step around (Suffix-F.Index at value) first scope =
-    first scope >>= (λ list.
-    item_type list >>= (λ item.
+    item_type first >>= (λ item.
     value scope >>= (λ index.
     wanted ty.Int index >>= (λ _.
     total around true at >>= (λ _.
-    seen_as item (max list.height index.height) at)))))
+    seen_as item (max first.height index.height) at))))
 -- e!: an option
 suffix_step around (Suffix-F.Unwrap at) first scope =
-    first scope >>= (λ option.
-    held_type option >>= (λ inner.
+    held_type first >>= (λ inner.
     total around true at >>= (λ _.
-    seen_as inner option.height at)))
+    seen_as inner first.height at))
 
--- the greatest height of parts that have these types
+-- the greatest height of parts that have these types, and of what came before them
 abbrev pub fit : List Judge → List Ty → ℕ → Scope → Result ℕ Wrong
 fit (part ∷ parts) (ty ∷ tys) height scope =
     part scope >>= (λ seen.
@@ -227,7 +218,7 @@ abbrev pub fit_all : Id → List Judge → List Ty → Scope → Result ℕ Wron
 fit_all name args params scope =
     unless (not (length args == length params)) WrongType name.at >>= (λ _. fit args params 0 scope)
 
--- the greatest height of parts that all have one type
+-- the greatest height of parts that all have one type, and of what came before them
 abbrev pub all_of : Ty → List Judge → ℕ → Scope → Result ℕ Wrong
 all_of ty [] height scope = Ok height
 all_of ty (part ∷ parts) height scope =
@@ -249,40 +240,41 @@ abbrev pub name_of : Around → Id → Judge
 name_of around id scope =
     elim (bound_to scope id.name) [ None ↦ wrong Unknown id.at | Some bound ↦ made around bound.ty 0 id.at ]
 
--- the function of a name that is declared before
-abbrev pub func_named : List Func → List ℕ → Option Func
-func_named funcs name = option_and_then (slice_get funcs) (position (λ (func : Func). bytes_eq func.name name) funcs)
-
 -- A call: arguments of the parameters' types. It is as much higher as the function's body is high.
 abbrev pub call_of : Around → Id → Func → List Judge → Judge
 call_of around name func args scope =
     fit_all name args func.params scope >>= (λ height.
     total around true name.at >>= (λ _.
-    Ok (record { ty = func.result; height = capped (height + 1 + func.height); at = name.at })))
+    seen_as func.result (min height 512 + min func.height 512) name.at))
 
+-- f(..): a function that is declared before
 abbrev pub call_to : Around → Id → List Judge → Judge
 call_to around name args scope =
-    elim (func_named around.known.funcs name.name) [ None ↦ wrong Unknown name.at | Some func ↦ call_of around name func args scope ]
+    elim (named func_name around.known.funcs name.name) [ None ↦ wrong Unknown name.at | Some func ↦ call_of around name func args scope ]
+
+-- a variant of the enum with this number
+abbrev pub variant_in : ℕ → List (List ℕ) → Id → ℕ → Result Seen Wrong
+variant_in number variants variant at =
+    unless (not (list_any (λ name. bytes_eq name variant.name) variants)) Unknown variant.at >>= (λ _.
+    seen_as (ty.Enum number) 0 at)
+
+abbrev pub variant_at : Known → Id → Id → ℕ → Result Seen Wrong
+variant_at known owner variant number =
+    elim (slice_get known.types number) [
+      | Some (shape.Enum variants) ↦ variant_in number variants variant owner.at
+      | _ ↦ wrong Unknown owner.at
+    ]
 
 -- E::v: an enum that is declared before, and one of its variants
-abbrev pub variant_of : Known → Id → Id → ℕ → Result Seen Wrong
-variant_of known owner variant number =
-    elim (slice_get known.types number) [
-      | None ↦ wrong Unknown owner.at
-      | Some def ↦ elim (fields def.shape) [
-        | Some own ↦ wrong Unknown owner.at
-        | None ↦
-            unless (not (list_any (λ name. bytes_eq name variant.name) (variants def.shape))) Unknown variant.at >>= (λ _.
-            seen_as (ty.Enum number) 0 owner.at)
-      ]
-    ]
+abbrev pub variant_of : Known → Id → Id → Result Seen Wrong
+variant_of known owner variant =
+    elim (declared_type known owner.name) [ None ↦ wrong Unknown owner.at | Some number ↦ variant_at known owner variant number ]
 
 -- Each of these names is a field's.
 abbrev pub all_fields : List Field → List SetJudge → Test
 all_fields fields [] = Ok tt
 all_fields fields (set ∷ sets) =
-    unless (not (list_any (λ (field : Field). bytes_eq field.name set.name.name) fields)) Unknown set.name.at >>= (λ _.
-    all_fields fields sets)
+    unless (not (is_among field_name fields set.name.name)) Unknown set.name.at >>= (λ _. all_fields fields sets)
 
 -- whether these are all fields, in their order
 abbrev pub in_order : List Field → List SetJudge → Bool
@@ -290,23 +282,30 @@ in_order [] [] = true
 in_order (field ∷ fields) (set ∷ sets) = bytes_eq field.name set.name.name && in_order fields sets
 in_order _ _ = false
 
--- new R{f: e, ..}: a record that is declared before, all its fields in order, each value of its field's type
+-- the values of a new record, each of its field's type
+abbrev pub fill : List SetJudge → List Field → ℕ → Scope → Result ℕ Wrong
+fill (set ∷ sets) (field ∷ fields) height scope =
+    set.value scope >>= (λ seen.
+    wanted field.ty seen >>= (λ _.
+    fill sets fields (max height seen.height) scope))
+fill _ _ height scope = Ok height
+
+-- new R{f: e, ..}: all fields in their order, each value of its field's type
 abbrev pub record_of : ℕ → Id → ℕ → List Field → List SetJudge → Judge
 record_of at owner number fields sets scope =
     all_fields fields sets >>= (λ _.
     unless (not (in_order fields sets)) WrongType owner.at >>= (λ _.
-    fit (map (λ (set : SetJudge). set.value) sets) (map (λ (field : Field). field.ty) fields) 0 scope >>= (λ height.
+    fill sets fields 0 scope >>= (λ height.
     seen_as (ty.Rec number) height at)))
 
+abbrev pub record_at : Known → ℕ → Id → ℕ → List SetJudge → Judge
+record_at known at owner number sets scope =
+    elim (fields_at known number) [ None ↦ wrong Unknown owner.at | Some fields ↦ record_of at owner number fields sets scope ]
+
+-- a record that is declared before
 abbrev pub new_of : Known → ℕ → Id → List SetJudge → Judge
 new_of known at owner sets scope =
-    elim (declared_type known owner) [
-      | None ↦ wrong Unknown owner.at
-      | Some number ↦ elim (fields_of known (ty.Rec number)) [
-        | None ↦ wrong Unknown owner.at
-        | Some fields ↦ record_of at owner number fields sets scope
-      ]
-    ]
+    elim (declared_type known owner.name) [ None ↦ wrong Unknown owner.at | Some number ↦ record_at known at owner number sets scope ]
 
 -- the table of builtins
 abbrev pub row_of : Key → Row
@@ -330,11 +329,7 @@ part_type part.Opt before seen = held_type seen
 part_type part.Int before seen = wanted ty.Int seen >>= (λ _. Ok before)
 part_type part.Item before seen = wanted before seen >>= (λ _. Ok before)
 
--- what is seen of arguments: T, and the greatest height
-pub record Fitted : Type 0 where
-  pub ty : Ty
-  pub height : ℕ
-
+-- arguments of these kinds: T, and the greatest height
 abbrev pub fit_parts : List Judge → List Part → Ty → ℕ → Scope → Result Fitted Wrong
 fit_parts (arg ∷ args) (own ∷ parts) before height scope =
     arg scope >>= (λ seen.
@@ -363,42 +358,33 @@ compared sign.EqualEqual left = Ok left.ty
 compared sign.NotEqual left = Ok left.ty
 compared _ left = wanted ty.Int left >>= (λ _. Ok ty.Int)
 
--- a condition, if there is one: its height
-abbrev pub test_of : Option Judge → ℕ → Scope → Result ℕ Wrong
-test_of None height scope = Ok height
-test_of (Some cond) height scope =
-    cond scope >>= (λ test. wanted ty.Bool test >>= (λ _. Ok (max height test.height)))
-
 -- [for x in l if c : e]: l a list, c bool; x stands before l
 abbrev pub each_of : Around → ℕ → Id → Judge → Option Judge → Judge → Judge
 each_of around at name list cond value scope =
     fresh around name scope >>= (λ _.
     list scope >>= (λ items.
     item_type items >>= (λ item.
-    test_of cond items.height (scope ++ fixed name item ∷ []) >>= (λ height.
-    value (scope ++ fixed name item ∷ []) >>= (λ seen.
-    made around (ty.List seen.ty) (max height seen.height) at)))))
+    guarded cond value items.height (scope ++ fixed name item ∷ []) >>= (λ seen.
+    made around (ty.List seen.ty) seen.height at))))
 
--- further arms of an `if`: conditions bool, values of the first arm's type
-abbrev pub arms_of : Ty → List ArmJudge → ℕ → Scope → Result ℕ Wrong
+-- further arms of an `if`: values of the first arm's type
+abbrev pub arms_of : Ty → List Guarded → ℕ → Scope → Result ℕ Wrong
 arms_of ty [] height scope = Ok height
 arms_of ty (arm ∷ arms) height scope =
-    test_of (Some arm.cond) height scope >>= (λ tested.
-    arm.value scope >>= (λ seen.
+    arm height scope >>= (λ seen.
     wanted ty seen >>= (λ _.
-    arms_of ty arms (max tested seen.height) scope)))
+    arms_of ty arms seen.height scope))
 
-abbrev pub if_of : ℕ → List ArmJudge → Judge → Judge
+abbrev pub if_of : ℕ → List Guarded → Judge → Judge
 if_of at [] other scope = other scope
 if_of at (arm ∷ arms) other scope =
-    test_of (Some arm.cond) 0 scope >>= (λ tested.
-    arm.value scope >>= (λ first.
-    arms_of first.ty arms (max tested first.height) scope >>= (λ height.
+    arm 0 scope >>= (λ first.
+    arms_of first.ty arms first.height scope >>= (λ height.
     other scope >>= (λ last.
     wanted first.ty last >>= (λ _.
-    seen_as first.ty (max height last.height) at)))))
+    seen_as first.ty (max height last.height) at))))
 
-abbrev pub judge_step : Around → Expr-F Judge On ArmJudge SetJudge On On → Judge
+abbrev pub judge_step : Around → Expr-F Judge Link Guarded SetJudge Link Link → Judge
 -- a ?? b: opt<T>, T
 judge_step around (Expr-F.OrElse at left right) scope =
     left scope >>= (λ option.
@@ -406,8 +392,8 @@ judge_step around (Expr-F.OrElse at left right) scope =
     right scope >>= (λ other.
     wanted inner other >>= (λ _.
     seen_as inner (max option.height other.height) at))))
-judge_step around (Expr-F.Or first rest) scope = nested first rest scope
-judge_step around (Expr-F.And first rest) scope = nested first rest scope
+judge_step around (Expr-F.Or first rest) scope = chain first rest scope
+judge_step around (Expr-F.And first rest) scope = chain first rest scope
 -- not: bool
 judge_step around (Expr-F.Not at inner) scope =
     inner scope >>= (λ seen. wanted ty.Bool seen >>= (λ _. seen_as ty.Bool seen.height at))
@@ -417,26 +403,22 @@ judge_step around (Expr-F.Compare which at left right) scope =
     right scope >>= (λ other.
     wanted own other >>= (λ _.
     seen_as ty.Bool (max one.height other.height) at))))
-judge_step around (Expr-F.Sum first rest) scope = nested first rest scope
-judge_step around (Expr-F.Mul first rest) scope = nested first rest scope
+judge_step around (Expr-F.Sum first rest) scope = chain first rest scope
+judge_step around (Expr-F.Mul first rest) scope = chain first rest scope
 -- -e: a whole number
 judge_step around (Expr-F.Neg at inner) scope =
     inner scope >>= (λ seen.
     wanted ty.Int seen >>= (λ _.
     total around true at >>= (λ _.
     seen_as ty.Int seen.height at)))
-judge_step around (Expr-F.Post first suffixes) scope = nested first suffixes scope
+judge_step around (Expr-F.Post first suffixes) scope = chain first suffixes scope
 judge_step around (Expr-F.Number at value) scope = seen_as ty.Int 0 at
 judge_step around (Expr-F.Truth at value) scope = seen_as ty.Bool 0 at
 judge_step around (Expr-F.Elapsed at) scope =
     unless (not around.has_elapsed) Unknown at >>= (λ _. seen_as ty.Int 0 at)
 judge_step around (Expr-F.Name id) scope = name_of around id scope
 judge_step around (Expr-F.Call name args) scope = call_to around name args scope
-judge_step around (Expr-F.Variant owner variant) scope =
-    elim (declared_type around.known owner) [
-      | None ↦ wrong Unknown owner.at
-      | Some number ↦ variant_of around.known owner variant number
-    ]
+judge_step around (Expr-F.Variant owner variant) scope = variant_of around.known owner variant
 judge_step around (Expr-F.New at owner sets) scope = new_of around.known at owner sets scope
 -- none<T>
 judge_step around (Expr-F.NoneOf at own) scope =
@@ -451,12 +433,12 @@ judge_step around (Expr-F.List at items) scope = list_of around at items scope
 judge_step around (Expr-F.Each at name list cond value) scope = each_of around at name list cond value scope
 judge_step around (Expr-F.If at arms other) scope = if_of at arms other scope
 
-abbrev pub arm_step : ExprArm-F Judge On ArmJudge SetJudge On On → ArmJudge
-arm_step arm = record { cond = arm.cond; value = arm.value }
+abbrev pub arm_step : ExprArm-F Judge Link Guarded SetJudge Link Link → Guarded
+arm_step arm = guarded (Some arm.cond) arm.value
 
-abbrev pub set_step : FieldSet-F Judge On ArmJudge SetJudge On On → SetJudge
+abbrev pub set_step : FieldSet-F Judge Link Guarded SetJudge Link Link → SetJudge
 set_step set = record { name = set.name; value = set.value }
 
 -- what is seen of an expression, or the first wrong thing in it
 abbrev pub judge : Around → Expr → Judge
-judge around = fold-Expr Judge On ArmJudge SetJudge On On (judge_step around) (suffix_step around) arm_step set_step (sign_tail_step around) tail_step
+judge around = fold-Expr Judge Link Guarded SetJudge Link Link (judge_step around) (suffix_step around) arm_step set_step (sign_tail_step around) tail_step

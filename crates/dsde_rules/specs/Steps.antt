@@ -29,13 +29,9 @@ unless fails kind at = if fails then wrong kind at else Ok tt
 abbrev pub apart : List (List ℕ) → Id → Test
 apart names id = unless (list_any (λ name. bytes_eq name id.name) names) Duplicate id.at
 
--- a height, counted up to 513, which is above the limit
-abbrev pub capped : ℕ → ℕ
-capped height = min height 513
-
--- the height of what stands on parts of this height
+-- the height of what stands on parts of this height; counted up to 513, which is above the limit
 abbrev pub above : ℕ → ℕ
-above height = capped (height + 1)
+above height = min height 512 + 1
 
 -- Parts are no higher than 512.
 abbrev pub within : ℕ → ℕ → Test

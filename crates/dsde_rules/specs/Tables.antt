@@ -1,7 +1,10 @@
--- What a file declares, by its text: types, and models with their parameters and ports.
-use Rattle.std.specs.Prelude.{ℕ, Bool, true, false, if◌then◌else◌, List, [], ◌∷◌, ◌++◌, map, Option, position, slice_get, unwrap_or}
-use Rattle.std.specs.List.{list_any, flat_map}
+-- What a file declares, by its text: types, and models with their parameters and ports. Of two items
+-- of one name in a table the first counts.
+use Rattle.std.specs.Prelude.{ℕ, Bool, true, false, if◌then◌else◌, List, [], ◌∷◌, ◌++◌, map, Option, Some, None, slice_get}
+use Rattle.std.specs.List.{list_any}
+use Rattle.std.specs.Option.{option_map_or}
 use Rattle.std.specs.Str.{bytes_eq}
+use Rattle.dsde_names.specs.Table.{place_of, named, is_among}
 use Rattle.dsde_syntax.specs.declared.id.Id.{Id}
 use Rattle.dsde_syntax.specs.declared.type_name.TypeName.{TypeName}
 use Rattle.dsde_syntax.specs.declared.type_name.TypeName.TheOpen.{TypeName-F}
@@ -10,105 +13,171 @@ use Rattle.dsde_syntax.specs.declared.decl.Decl.{Decl}
 use Rattle.dsde_syntax.specs.declared.decl.Decl.TheVariants as decl
 use Rattle.dsde_syntax.specs.declared.decl.Typed.{Typed}
 use Rattle.dsde_syntax.specs.declared.decl.PortDecl.{PortDecl}
+use Rattle.dsde_values.specs.declared.types.Field.{Field}
 use Rattle.dsde_values.specs.declared.types.Ty.{Ty}
 use Rattle.dsde_values.specs.declared.types.Ty.TheVariants as ty
-use Rattle.dsde_values.specs.declared.types.Def.{Def}
+use Rattle.dsde_values.specs.declared.types.Shape.{Shape}
 use Rattle.dsde_values.specs.declared.types.Shape.TheVariants as shape
+use Rattle.dsde_rules.specs.declared.known.Known.{Known}
+use Rattle.dsde_rules.specs.declared.seen.Binding.{Binding}
+use Rattle.dsde_rules.specs.declared.signatures.Family.{Family}
+use Rattle.dsde_rules.specs.declared.signatures.Func.{Func}
 use Rattle.dsde_rules.specs.declared.signatures.ModelSig.{ModelSig}
 use Rattle.dsde_rules.specs.declared.signatures.Port.{Port}
+use Rattle.dsde_rules.specs.declared.signatures.TypeWord.{TypeWord}
+use Rattle.dsde_rules.specs.Types.{depths_from}
+
+-- the names of what stands in tables
+abbrev pub type_word : TypeWord → List ℕ
+type_word own = own.name
+
+abbrev pub field_name : Field → List ℕ
+field_name field = field.name
+
+abbrev pub port_name : Port → List ℕ
+port_name port = port.name
+
+abbrev pub model_name : ModelSig → List ℕ
+model_name model = model.name
+
+abbrev pub func_name : Func → List ℕ
+func_name func = func.name
+
+abbrev pub family_name : Family → List ℕ
+family_name family = family.name
+
+abbrev pub binding_name : Binding → List ℕ
+binding_name bound = bound.name
+
+-- a table with an item behind the others, unless one has its name
+abbrev pub added : {T : Type 0} → (T → List ℕ) → List T → T → List T
+added name_of items item = if is_among name_of items (name_of item) then items else items ++ item ∷ []
+
+-- names with one more, unless it is among them
+abbrev pub with_name : List (List ℕ) → List ℕ → List (List ℕ)
+with_name names name = if list_any (λ own. bytes_eq own name) names then names else names ++ name ∷ []
+
+-- names with those of identifiers
+abbrev pub with_names : List (List ℕ) → List Id → List (List ℕ)
+with_names names [] = names
+with_names names (id ∷ ids) = with_names (with_name names id.name) ids
+
+abbrev pub with_word : List TypeWord → Bool → Id → List TypeWord
+with_word words is_enum id = added type_word words (record { name = id.name; is_enum = is_enum })
 
 -- the identifiers of the types that are declared, in text order
-abbrev pub declared_types : List Decl → List (List ℕ)
-declared_types [] = []
-declared_types (decl.Enum name variants ∷ decls) = name.name ∷ declared_types decls
-declared_types (decl.Rec name fields ∷ decls) = name.name ∷ declared_types decls
-declared_types (_ ∷ decls) = declared_types decls
+abbrev pub declared_word : List TypeWord → Decl → List TypeWord
+declared_word words (decl.Enum name variants) = with_word words true name
+declared_word words (decl.Rec name fields) = with_word words false name
+declared_word words _ = words
 
--- whether each of them is an enum
-abbrev pub declared_enums : List Decl → List Bool
-declared_enums [] = []
-declared_enums (decl.Enum name variants ∷ decls) = true ∷ declared_enums decls
-declared_enums (decl.Rec name fields ∷ decls) = false ∷ declared_enums decls
-declared_enums (_ ∷ decls) = declared_enums decls
+abbrev pub declared_words : List TypeWord → List Decl → List TypeWord
+declared_words words [] = words
+declared_words words (own ∷ decls) = declared_words (declared_word words own) decls
 
--- the identifiers in a type, at most one
-abbrev pub used_step : TypeName-F (List (List ℕ)) → List (List ℕ)
-used_step (TypeName-F.Int at) = []
-used_step (TypeName-F.Bool at) = []
-used_step (TypeName-F.Named id) = id.name ∷ []
+-- the identifier in a type, if there is one
+abbrev pub used_step : TypeName-F (Option Id) → Option Id
+used_step (TypeName-F.Int at) = None
+used_step (TypeName-F.Bool at) = None
+used_step (TypeName-F.Named id) = Some id
 used_step (TypeName-F.List at part) = part
 used_step (TypeName-F.Opt at part) = part
 
-abbrev pub used_in : TypeName → List (List ℕ)
-used_in = fold-TypeName (List (List ℕ)) used_step
+abbrev pub used_in : TypeName → Option Id
+used_in = fold-TypeName (Option Id) used_step
 
--- the identifiers of types that fields, parameters and ports of models name, in text order
-abbrev pub used_types : List Decl → List (List ℕ)
-used_types [] = []
-used_types (decl.Rec name fields ∷ decls) =
-    flat_map (λ (field : Typed). used_in field.ty) fields ++ used_types decls
-used_types (decl.Atomic at name params body ∷ decls) =
-    flat_map (λ (param : Typed). used_in param.ty) params
-    ++ flat_map (λ (port : PortDecl). used_in port.ty) body.ports
-    ++ used_types decls
-used_types (decl.Network at name params ports exec_at body items ∷ decls) =
-    flat_map (λ (param : Typed). used_in param.ty) params
-    ++ flat_map (λ (port : PortDecl). used_in port.ty) ports
-    ++ used_types decls
-used_types (_ ∷ decls) = used_types decls
+-- identifiers with the one in a type
+abbrev pub used_word : List TypeWord → TypeName → List TypeWord
+used_word words own = elim (used_in own) [ None ↦ words | Some id ↦ with_word words false id ]
 
--- names, each once, in the order in which each comes first
-abbrev pub each_once : List (List ℕ) → List (List ℕ) → List (List ℕ)
-each_once seen [] = seen
-each_once seen (name ∷ names) =
-    if list_any (λ own. bytes_eq own name) seen then each_once seen names else each_once (seen ++ name ∷ []) names
+abbrev pub used_typed : List TypeWord → List Typed → List TypeWord
+used_typed words [] = words
+used_typed words (typed ∷ rest) = used_typed (used_word words typed.ty) rest
+
+abbrev pub used_ports : List TypeWord → List PortDecl → List TypeWord
+used_ports words [] = words
+used_ports words (port ∷ ports) = used_ports (used_word words port.ty) ports
+
+-- identifiers with those that fields, parameters and ports of models name, in text order
+abbrev pub used_decl : List TypeWord → Decl → List TypeWord
+used_decl words (decl.Rec name fields) = used_typed words fields
+used_decl words (decl.Atomic at name params body) = used_ports (used_typed words params) body.ports
+used_decl words (decl.Network at name params ports exec_at body items) = used_ports (used_typed words params) ports
+used_decl words _ = words
+
+abbrev pub used_words : List TypeWord → List Decl → List TypeWord
+used_words words [] = words
+used_words words (own ∷ decls) = used_words (used_decl words own) decls
 
 -- the identifiers of types: those that are declared, and then the others that are named
-abbrev pub type_names : List Decl → List (List ℕ)
-type_names decls = each_once [] (declared_types decls ++ used_types decls)
+abbrev pub type_words : List Decl → List TypeWord
+type_words decls = used_words (declared_words [] decls) decls
 
--- the number of a name among names
-abbrev pub number_of : List (List ℕ) → List ℕ → Option ℕ
-number_of names name = position (λ own. bytes_eq own name) names
-
--- the type with this number: an enum, where it is declared as one
-abbrev pub numbered : List Bool → ℕ → Ty
-numbered enums number = if unwrap_or (slice_get enums number) false then ty.Enum number else ty.Rec number
+-- the type with a number: an enum, where its identifier is declared as one
+abbrev pub numbered : ℕ → Option TypeWord → Ty
+numbered number own = if option_map_or (λ (own : TypeWord). own.is_enum) own false then ty.Enum number else ty.Rec number
 
 -- A type by its text alone: its identifier may be declared later, or not at all.
-abbrev pub text_step : List (List ℕ) → List Bool → TypeName-F Ty → Ty
-text_step names enums (TypeName-F.Int at) = ty.Int
-text_step names enums (TypeName-F.Bool at) = ty.Bool
-text_step names enums (TypeName-F.Named id) = numbered enums (unwrap_or (number_of names id.name) 0)
-text_step names enums (TypeName-F.List at part) = ty.List part
-text_step names enums (TypeName-F.Opt at part) = ty.Opt part
+abbrev pub text_type : List TypeWord → Id → Ty
+text_type words id =
+    elim (place_of type_word words id.name) [ None ↦ ty.Rec 0 | Some number ↦ numbered number (slice_get words number) ]
 
-abbrev pub by_text : List (List ℕ) → List Bool → TypeName → Ty
-by_text names enums = fold-TypeName Ty (text_step names enums)
+abbrev pub text_step : List TypeWord → TypeName-F Ty → Ty
+text_step words (TypeName-F.Int at) = ty.Int
+text_step words (TypeName-F.Bool at) = ty.Bool
+text_step words (TypeName-F.Named id) = text_type words id
+text_step words (TypeName-F.List at part) = ty.List part
+text_step words (TypeName-F.Opt at part) = ty.Opt part
+
+abbrev pub by_text : List TypeWord → TypeName → Ty
+by_text words = fold-TypeName Ty (text_step words)
+
+-- the fields of a record
+abbrev pub text_fields : List TypeWord → List Field → List Typed → List Field
+text_fields words fields [] = fields
+text_fields words fields (typed ∷ rest) =
+    text_fields words (added field_name fields (record { name = typed.name.name; ty = by_text words typed.ty })) rest
 
 -- the types that are declared, in text order
-abbrev pub defs_of : List (List ℕ) → List Bool → List Decl → List Def
-defs_of names enums [] = []
-defs_of names enums (decl.Enum name variants ∷ decls) =
-    record { name = name.name; shape = shape.Enum (map (λ (id : Id). id.name) variants) } ∷ defs_of names enums decls
-defs_of names enums (decl.Rec name fields ∷ decls) =
-    record {
-      name = name.name;
-      shape = shape.Rec (map (λ (field : Typed). record { name = field.name.name; ty = by_text names enums field.ty }) fields);
-    } ∷ defs_of names enums decls
-defs_of names enums (_ ∷ decls) = defs_of names enums decls
+abbrev pub with_shape : List TypeWord → List Shape → Decl → List Shape
+with_shape words shapes (decl.Enum name variants) = shapes ++ shape.Enum (with_names [] variants) ∷ []
+with_shape words shapes (decl.Rec name fields) = shapes ++ shape.Rec (text_fields words [] fields) ∷ []
+with_shape words shapes _ = shapes
 
-abbrev pub param_types : List (List ℕ) → List Bool → List Typed → List Ty
-param_types names enums = map (λ (param : Typed). by_text names enums param.ty)
+abbrev pub shapes_from : List TypeWord → List Shape → List Decl → List Shape
+shapes_from words shapes [] = shapes
+shapes_from words shapes (own ∷ decls) = shapes_from words (with_shape words shapes own) decls
 
-abbrev pub ports_of : List (List ℕ) → List Bool → List PortDecl → List Port
-ports_of names enums = map (λ (port : PortDecl). record { out = port.out; name = port.name.name; ty = by_text names enums port.ty })
+abbrev pub text_params : List TypeWord → List Typed → List Ty
+text_params words = map (λ (param : Typed). by_text words param.ty)
+
+abbrev pub text_ports : List TypeWord → List Port → List PortDecl → List Port
+text_ports words ports [] = ports
+text_ports words ports (port ∷ rest) =
+    text_ports words (added port_name ports (record { out = port.out; name = port.name.name; ty = by_text words port.ty })) rest
 
 -- the models of a file, in text order
-abbrev pub models_of : List (List ℕ) → List Bool → List Decl → List ModelSig
-models_of names enums [] = []
-models_of names enums (decl.Atomic at name params body ∷ decls) =
-    record { name = name.name; params = param_types names enums params; ports = ports_of names enums body.ports } ∷ models_of names enums decls
-models_of names enums (decl.Network at name params ports exec_at body items ∷ decls) =
-    record { name = name.name; params = param_types names enums params; ports = ports_of names enums ports } ∷ models_of names enums decls
-models_of names enums (_ ∷ decls) = models_of names enums decls
+abbrev pub with_model : List TypeWord → List ModelSig → Decl → List ModelSig
+with_model words models (decl.Atomic at name params body) =
+    added model_name models (record { name = name.name; params = text_params words params; ports = text_ports words [] body.ports })
+with_model words models (decl.Network at name params ports exec_at body items) =
+    added model_name models (record { name = name.name; params = text_params words params; ports = text_ports words [] ports })
+with_model words models _ = models
+
+abbrev pub models_from : List TypeWord → List ModelSig → List Decl → List ModelSig
+models_from words models [] = models
+models_from words models (own ∷ decls) = models_from words (with_model words models own) decls
+
+-- what is known before the first declaration
+abbrev pub known_of : List Decl → Known
+known_of decls =
+    let words = type_words decls in
+    let types = shapes_from words [] decls in
+    record {
+      words = words;
+      types = types;
+      depths = depths_from [] types;
+      models = models_from words [] decls;
+      before = [];
+      funcs = [];
+    }

@@ -1,8 +1,7 @@
 -- Types: whether two are the same, how deep one is, and what is one of them.
-use Rattle.std.specs.Prelude.{ℕ, ◌+◌, ◌==◌, max, Bool, true, false, if◌then◌else◌, List, [], ◌∷◌, ◌++◌, Result, Ok, slice_get, unwrap_or}
+use Rattle.std.specs.Prelude.{ℕ, ◌+◌, ◌==◌, min, max, Bool, true, false, if◌then◌else◌, List, [], ◌∷◌, ◌++◌, Result, Ok, slice_get, unwrap_or}
 use Rattle.dsde_values.specs.declared.types.Ty.{Ty, Ty-F, out-Ty, fold-Ty}
 use Rattle.dsde_values.specs.declared.types.Ty.TheOpen as layer
-use Rattle.dsde_values.specs.declared.types.Def.{Def}
 use Rattle.dsde_values.specs.declared.types.Field.{Field}
 use Rattle.dsde_values.specs.declared.types.Shape.{Shape}
 use Rattle.dsde_values.specs.declared.types.Shape.TheVariants as shape
@@ -25,6 +24,10 @@ same_step _ _ = false
 unfoldable pub same : Ty → Ty → Bool
 same = fold-Ty (Ty → Bool) (λ parts ty. same_step parts (out-Ty ty))
 
+-- a depth, counted up to 65, which is above the limit
+abbrev pub deeper : ℕ → ℕ
+deeper depth = min depth 64 + 1
+
 -- `int`, `bool` and enums have depth 0, `list` and `opt` one more than their part, and a record has
 -- the depth that stands in its place among those of the types that are declared.
 abbrev pub depth_step : List ℕ → Ty-F ℕ → ℕ
@@ -32,27 +35,27 @@ depth_step depths layer.Int = 0
 depth_step depths layer.Bool = 0
 depth_step depths (layer.Enum number) = 0
 depth_step depths (layer.Rec number) = unwrap_or (slice_get depths number) 0
-depth_step depths (layer.List part) = part + 1
-depth_step depths (layer.Opt part) = part + 1
+depth_step depths (layer.List part) = deeper part
+depth_step depths (layer.Opt part) = deeper part
 
 -- how deep a type is
 unfoldable pub depth_of : List ℕ → Ty → ℕ
 depth_of depths = fold-Ty ℕ (depth_step depths)
 
--- the deepest of some fields
-abbrev pub deepest : List ℕ → List Field → ℕ
-deepest depths [] = 0
-deepest depths (field ∷ fields) = max (depth_of depths field.ty) (deepest depths fields)
+-- the deepest of some fields, and of what came before them
+abbrev pub deepest : List ℕ → ℕ → List Field → ℕ
+deepest depths depth [] = depth
+deepest depths depth (field ∷ fields) = deepest depths (max depth (depth_of depths field.ty)) fields
 
 -- a record is one deeper than its deepest field
 abbrev pub shape_depth : List ℕ → Shape → ℕ
 shape_depth depths (shape.Enum variants) = 0
-shape_depth depths (shape.Rec fields) = deepest depths fields + 1
+shape_depth depths (shape.Rec fields) = deeper (deepest depths 0 fields)
 
--- the depths of definitions, each by those before it
-abbrev pub depths_from : List ℕ → List Def → List ℕ
+-- the depths of types that are declared, each by those before it
+abbrev pub depths_from : List ℕ → List Shape → List ℕ
 depths_from depths [] = depths
-depths_from depths (def ∷ defs) = depths_from (depths ++ shape_depth depths def.shape ∷ []) defs
+depths_from depths (own ∷ shapes) = depths_from (depths ++ shape_depth depths own ∷ []) shapes
 
 -- The type is the wanted one.
 abbrev pub wanted : Ty → Seen → Test

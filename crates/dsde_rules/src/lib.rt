@@ -3,11 +3,13 @@
 #![tactic(auto)]
 
 mod builtin;
+mod known;
 mod seen;
 mod signatures;
 mod wrong;
 
 pub use builtin::{Gives, Part, Row};
-pub use seen::{Binding, Seen};
-pub use signatures::{Family, Func, ModelSig, Port};
+pub use known::{Around, Known, Site};
+pub use seen::{Binding, BindingKind, EndSeen, Fitted, Seen, TypeSeen};
+pub use signatures::{Family, Func, ModelSig, Port, TypeWord};
 pub use wrong::{Wrong, WrongKind};

@@ -2,6 +2,14 @@
 
 use dsde_values::{Seq, Text, Ty};
 
+/// The identifier of a type.
+#[derive(Debug, Drop)]
+pub struct TypeWord {
+    pub name: Text,
+    /// Whether the file declares it as an enum.
+    pub is_enum: bool,
+}
+
 /// A function that is declared.
 #[derive(Debug, Drop)]
 pub struct Func {
