@@ -11,6 +11,5 @@ use std::alloc::Global;
 pub fn check(alloc: Global, model: &Model) -> Result<(), CheckError>
     ensures { Says (rules model.now) result }
 {
-    let _ = (alloc, model);
     Err(CheckError::Memory)
 }

@@ -1,5 +1,5 @@
 -- The first wrong thing of statements, functions and bodies.
-use Rattle.std.specs.Prelude.{ℕ, ◌==◌, max, Bool, true, false, not, ◌&&◌, if◌then◌else◌, List, [], ◌∷◌, ◌++◌, map, Option, Some, None, Result, Ok, is_none}
+use Rattle.std.specs.Prelude.{ℕ, max, Bool, true, false, not, ◌&&◌, if◌then◌else◌, List, [], ◌∷◌, ◌++◌, map, Option, Some, None, Result, Ok, is_none}
 use Rattle.std.specs.List.{list_any}
 use Rattle.dsde_names.specs.Table.{named, is_among}
 use Rattle.dsde_syntax.specs.declared.id.Id.{Id}
@@ -135,12 +135,16 @@ stmt_arm_step around arm = arm_of (judge around arm.cond) arm.body
 abbrev pub walk : Around → List Port → Stmt → Walk
 walk around ports = fold-Stmt Walk ArmWalk (stmt_step around ports) (stmt_arm_step around)
 
+-- A field has a name that none of those before it has.
+abbrev pub new_field : List Field → Id → Test
+new_field found name = unless (is_among field_name found name.name) Duplicate name.at
+
 -- Fields behind those that were found: each differs from these, and each type is one that is
 -- declared before.
 abbrev pub fields_all : Known → List Field → List Typed → Result (List Field) Wrong
 fields_all known found [] = Ok found
 fields_all known found (typed ∷ rest) =
-    unless (is_among field_name found typed.name.name) Duplicate typed.name.at >>= (λ _.
+    new_field found typed.name >>= (λ _.
     type_of known typed.ty >>= (λ seen.
     fields_all known (found ++ record { name = typed.name.name; ty = seen.ty } ∷ []) rest))
 

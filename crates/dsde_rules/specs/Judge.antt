@@ -1,6 +1,6 @@
 -- What is seen of an expression, or the first wrong thing in it. Each construct has one step, which
 -- is read beside its rule above it; its parts are looked at from left to right.
-use Rattle.std.specs.Prelude.{ℕ, ◌+◌, ◌==◌, min, max, nat_lt, Bool, true, false, not, ◌&&◌, if◌then◌else◌, List, [], ◌∷◌, ◌++◌, length, map, Option, Some, None, Result, Ok, position, slice_get, unwrap_or}
+use Rattle.std.specs.Prelude.{ℕ, ◌+◌, ◌==◌, min, max, nat_lt, Bool, true, false, not, ◌&&◌, if◌then◌else◌, List, [], ◌∷◌, ◌++◌, length, Option, Some, None, Result, Ok, position, slice_get, unwrap_or, option_and_then}
 use Rattle.std.specs.List.{list_any}
 use Rattle.std.specs.Str.{bytes_eq}
 use Rattle.dsde_names.specs.Table.{named, is_among}
@@ -21,6 +21,7 @@ use Rattle.dsde_values.specs.declared.types.Ty.TheVariants as ty
 use Rattle.dsde_values.specs.declared.types.Field.{Field}
 use Rattle.dsde_values.specs.declared.types.Shape.{Shape}
 use Rattle.dsde_values.specs.declared.types.Shape.TheVariants as shape
+use Rattle.dsde_values.specs.Value.{fields}
 use Rattle.dsde_rules.specs.declared.builtin.Gives.{Gives}
 use Rattle.dsde_rules.specs.declared.builtin.Gives.TheVariants as gives
 use Rattle.dsde_rules.specs.declared.builtin.Part.{Part}
@@ -68,10 +69,21 @@ made_type ty depth at = if nat_lt 64 depth then wrong Limit at else Ok (record {
 abbrev pub declared_type : Known → List ℕ → Option ℕ
 declared_type known name = position (λ own. bytes_eq own name) known.before
 
+-- the variants of an enum
+abbrev pub variants_in : Shape → Option (List (List ℕ))
+variants_in (shape.Enum variants) = Some variants
+variants_in (shape.Rec _) = None
+
+-- the variants of the enum with a number, and the fields of the record with a number
+abbrev pub variants_at : Known → ℕ → Option (List (List ℕ))
+variants_at known number = option_and_then variants_in (slice_get known.types number)
+
+abbrev pub fields_at : Known → ℕ → Option (List Field)
+fields_at known number = option_and_then fields (slice_get known.types number)
+
 -- the type with a number
-abbrev pub shaped_type : ℕ → Option Shape → Ty
-shaped_type number (Some (shape.Enum variants)) = ty.Enum number
-shaped_type number _ = ty.Rec number
+abbrev pub type_at : Known → ℕ → Ty
+type_at known number = elim (variants_at known number) [ None ↦ ty.Rec number | Some variants ↦ ty.Enum number ]
 
 -- An identifier is that of an enum or a record that is declared before.
 abbrev pub type_of_id : Known → Id → Result TypeSeen Wrong
@@ -79,7 +91,7 @@ type_of_id known id =
     elim (declared_type known id.name) [
       | None ↦ wrong Unknown id.at
       | Some number ↦
-          Ok (record { ty = shaped_type number (slice_get known.types number); depth = unwrap_or (slice_get known.depths number) 0 })
+          Ok (record { ty = type_at known number; depth = unwrap_or (slice_get known.depths number) 0 })
     ]
 
 abbrev pub type_step : Known → TypeName-F (Result TypeSeen Wrong) → Result TypeSeen Wrong
@@ -172,10 +184,6 @@ sign_tail_step around tail left scope =
     total around (sign_may_fault tail.sign) tail.at >>= (λ _.
     seen_as ty (max left.height right.height) tail.at))))
 
--- the fields of the record with a number
-abbrev pub fields_at : Known → ℕ → Option (List Field)
-fields_at known number = elim (slice_get known.types number) [ Some (shape.Rec fields) ↦ Some fields | _ ↦ None ]
-
 -- the fields of a type, if it is a record
 abbrev pub fields_of : Known → Ty → Option (List Field)
 fields_of known own = elim (out-Ty own) [ layer.Rec number ↦ fields_at known number | _ ↦ None ]
@@ -260,9 +268,9 @@ variant_in number variants variant at =
 
 abbrev pub variant_at : Known → Id → Id → ℕ → Result Seen Wrong
 variant_at known owner variant number =
-    elim (slice_get known.types number) [
-      | Some (shape.Enum variants) ↦ variant_in number variants variant owner.at
-      | _ ↦ wrong Unknown owner.at
+    elim (variants_at known number) [
+      | None ↦ wrong Unknown owner.at
+      | Some variants ↦ variant_in number variants variant owner.at
     ]
 
 -- E::v: an enum that is declared before, and one of its variants

@@ -4,7 +4,7 @@ use Rattle.std.specs.Prelude.{ℕ, Bool, true, false, if◌then◌else◌, List,
 use Rattle.std.specs.List.{list_any}
 use Rattle.std.specs.Option.{option_map_or}
 use Rattle.std.specs.Str.{bytes_eq}
-use Rattle.dsde_names.specs.Table.{place_of, named, is_among}
+use Rattle.dsde_names.specs.Table.{place_of, is_among}
 use Rattle.dsde_syntax.specs.declared.id.Id.{Id}
 use Rattle.dsde_syntax.specs.declared.type_name.TypeName.{TypeName}
 use Rattle.dsde_syntax.specs.declared.type_name.TypeName.TheOpen.{TypeName-F}

@@ -1,6 +1,18 @@
-//! What is known where a part of a model is looked at: tables by name, and the small rules over them.
+//! The small rules: names that are seen, types as they are written, and what is seen of a part.
 #![tactic(auto)]
 
+mod around;
 mod error;
+mod headers;
+mod names;
+mod seeing;
+mod types;
+mod written;
 
+pub use around::Around;
 pub use error::CheckError;
+pub use headers::{body_names, fields_all, params_all, ports_all};
+pub use names::{add_name, apart, bind, unbound};
+pub use seeing::{above, held_type, item_type, seen_as, wanted, within};
+pub use types::{copy_type, depth_of, is_same};
+pub use written::{narrow, type_of};
