@@ -1,0 +1,44 @@
+//! Why a text is refused, beside what is wanted.
+
+use anyhow::{Context, Result, bail};
+use dsde_data::{Value, bytes_of, check_names, tell_text};
+use dsde_verdict::{ReadModel, Refusal, read_model};
+use std::alloc::Global;
+use std::str;
+
+/// What differs from what an entry wants, below its text; nothing where nothing differs.
+///
+/// An entry has its `text`, and where no model is accepted for it the `refused` kind with its place:
+/// `KIND LINE:COLUMN`.
+pub(crate) fn differences(alloc: Global, entry: &Value) -> Result<String> {
+    check_names(entry, &["text", "refused"])?;
+    let text = bytes_of(alloc, entry.get("text").context("text: left out")?)?;
+    let refused = refused(alloc, &text)?;
+    let mut lines = String::new(alloc);
+    tell_text(alloc, &mut lines, entry, "refused", refused.as_bytes())?;
+    if lines.is_empty() {
+        return Ok(lines);
+    }
+    let text = str::from_utf8(&text).unwrap_or("bytes that are no text");
+    Ok(format!(in alloc; "{text:?}:\n{lines}")?)
+}
+
+/// Why no model is accepted for a text, and where; nothing where one is.
+fn refused(alloc: Global, text: &[u8]) -> Result<String> {
+    let mut refused = String::new(alloc);
+    match read_model(alloc, text) {
+        Ok(_model) => {}
+        Err(
+            ReadModel::Refused {
+                kind: Refusal::Check(kind),
+                line,
+                column,
+            },
+        ) => write!(refused, "{kind:?} {line}:{column}")?,
+        Err(ReadModel::Refused { kind, line, column }) => {
+            write!(refused, "{kind:?} {line}:{column}")?
+        }
+        Err(ReadModel::Memory) => bail!("memory ran out"),
+    }
+    Ok(refused)
+}
