@@ -202,23 +202,3 @@ fn status_of(end: Finish) -> Status
         Finish::Fault(fault) => Status::ModelFault(fault),
     }
 }
-
-/// Writes the note of a status, if it has one, and answers the status. A write that failed changes
-/// nothing; where memory ran out, that is the status, and its note needs none.
-pub fn report<E: Sink>(alloc: Global, status: Status, notes: &mut E) -> Status
-    ensures same { (result ≡ status) ⊎ (result ≡ Status.Memory) }
-    ensures noted { result ≢ Status.Memory
-        → Noted (Rose (E.faults notes.old) (E.faults notes.new)) (E.written notes.old) (E.written notes.new) result }
-    ensures noted_front { IfSome (E.written notes.old) (λ written. WritesNoteFront written (E.written notes.new)) }
-    ensures counted { E.faults notes.old ≤ E.faults notes.new }
-{
-    let mut text = Text::new(alloc);
-    if write_note(&status, &mut text).is_err() {
-        let _ = write_all(notes, b"memory\n");
-        return Status::Memory;
-    }
-    match write_all(notes, text.as_slice()) {
-        Err(SinkEnd::Memory) => Status::Memory,
-        Ok(()) | Err(SinkEnd::Failed) => status,
-    }
-}
