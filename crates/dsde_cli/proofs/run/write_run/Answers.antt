@@ -5,8 +5,8 @@ use Rattle.dsde_sim.specs.Text.{trace_text}
 use Rattle.dsde_run.specs.Reading.{IsFront}
 use Rattle.dsde_run.specs.Run.{run, records_in}
 use Rattle.dsde_cli.proofs.Outcomes.{comes-part, front-tells}
-use Rattle.dsde_cli.proofs.call.write_run.Goals as goal
-use Rattle.dsde_cli.proofs.call.write_run.Goals.{in-Ok, in-Err-ReadFault}
+use Rattle.dsde_cli.proofs.run.write_run.Goals as goal
+use Rattle.dsde_cli.proofs.run.write_run.Goals.{in-Ok, in-Err-ReadFault}
 
 pub returns-in-Err-Failed-clause-comes : goal.returns-in-Err-Failed-clause-comes
 returns-in-Err-Failed-clause-comes g c =
