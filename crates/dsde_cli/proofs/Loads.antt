@@ -18,7 +18,7 @@ use Rattle.dsde_status.specs.declared.status.Status.TheVariants.{Done, Refused, 
 use Rattle.dsde_status.specs.declared.status.What.TheVariants as what
 use Rattle.dsde_status.specs.declared.status.Why.TheVariants as why
 use Rattle.dsde_cli.specs.Answer.{Answers, AnswersFront}
-use Rattle.dsde_cli.specs.Causes.{AcceptsSome, Runs, RunsSome, RefusesRun, Under, Has, Holds, HoldsModel, NoModel}
+use Rattle.dsde_cli.specs.Causes.{AcceptsSome, Runs, RunsSome, RefusesRun, Under, Has, Holds, HoldsModel, NoModel, Tells}
 use Rattle.dsde_cli.specs.Outcome.{Comes}
 use Rattle.dsde_cli.proofs.Outcomes.{front-none}
 
@@ -166,3 +166,101 @@ first-only name held bytes (Err status) told only = tt
 pub same_model : (this that : Model) → (◌≡◌ {A = Result Model ReadModel} (Ok this) (Ok that)) ⊎ (◌≡◌ {A = Result Model ReadModel} (Ok this) (Err read_model.Memory)) → that ≡ this
 same_model this that (inl same) = cc same
 same_model this that (inr other) = absurd (apart this read_model.Memory other)
+
+-- a refusal is one, with its place
+same_refusal : (this that : Refusal) (line other_line column other_column : ℕ) →
+    ◌≡◌ {A = Result Model ReadModel} (Err (read_model.Refused this line column)) (Err (read_model.Refused that other_line other_column)) → (this ≡ that) × (line ≡ other_line) × (column ≡ other_column)
+same_refusal this that line other_line column other_column same = (cc same, cc same, cc same)
+
+-- a text has one refusal
+one_refusal : OneVerdict → (bytes : List ℕ) (this that : Refusal) (line other_line column other_column : ℕ) → Refuses bytes this line column → Refuses bytes that other_line other_column →
+    (this ≡ that) × (line ≡ other_line) × (column ≡ other_column)
+one_refusal one bytes this that line other_line column other_column first other =
+    same_refusal this that line other_line column other_column
+    (one bytes (Err (read_model.Refused this line column)) (Err (read_model.Refused that other_line other_column)) first other)
+
+-- why a text is refused that is to be run
+data RunRefusal (bytes : List ℕ) (kind : Refusal) (line column : ℕ) : Type 0 where
+  unbuilt : kind ≡ refusal.NotBuilt → line ≡ 0 → column ≡ 0 → AcceptsSome bytes → RunRefusal bytes kind line column
+  verdict : Refuses bytes kind line column → RunRefusal bytes kind line column
+
+run_refusal : (bytes : List ℕ) (kind : Refusal) (line column : ℕ) → RefusesRun bytes kind line column → RunRefusal bytes kind line column
+run_refusal bytes refusal.NotBuilt line column is = unbuilt refl is.0 is.1 is.2
+run_refusal bytes refusal.BadByte line column is = verdict is
+run_refusal bytes refusal.BadNumber line column is = verdict is
+run_refusal bytes refusal.Syntax line column is = verdict is
+run_refusal bytes refusal.Nested line column is = verdict is
+run_refusal bytes (refusal.Check kind) line column is = verdict is
+
+one_run_refusal : OneVerdict → (bytes : List ℕ) (this that : Refusal) (line other_line column other_column : ℕ) → RunRefusal bytes this line column → RunRefusal bytes that other_line other_column →
+    (this ≡ that) × (line ≡ other_line) × (column ≡ other_column)
+one_run_refusal one bytes this that line other_line column other_column (unbuilt kind at_line at_column some) (unbuilt other_kind at_other at_other_column some_other) =
+    (kind ∙ sym other_kind, at_line ∙ sym at_other, at_column ∙ sym at_other_column)
+one_run_refusal one bytes this that line other_line column other_column (unbuilt kind at_line at_column some) (verdict other) = absurd (no_refusal one bytes that other_line other_column some other)
+one_run_refusal one bytes this that line other_line column other_column (verdict first) (unbuilt kind at_line at_column some) = absurd (no_refusal one bytes this line column some first)
+one_run_refusal one bytes this that line other_line column other_column (verdict first) (verdict other) = one_refusal one bytes this that line other_line column other_column first other
+
+-- a text that is refused is not too long
+not_long : OneVerdict → (bytes : List ℕ) (kind : Refusal) (line column : ℕ) → Refuses bytes kind line column → 1_048_576 < length bytes → ⊥
+not_long one bytes kind line column is long = length_apart (read_model.Refused kind line column) (λ same. cc same) (one bytes (Err (read_model.Refused kind line column)) (Err read_model.TooLong) is long)
+  where
+    length_apart : (error : ReadModel) → (error ≡ read_model.TooLong → ⊥) → ◌≡◌ {A = Result Model ReadModel} (Err error) (Err read_model.TooLong) → ⊥
+    length_apart error other same = other (cc same)
+
+run_not_long : OneVerdict → (bytes : List ℕ) (kind : Refusal) (line column : ℕ) → RunRefusal bytes kind line column → 1_048_576 < length bytes → ⊥
+run_not_long one bytes kind line column (unbuilt is at_line at_column some) long = no_length one bytes some long
+run_not_long one bytes kind line column (verdict is) long = not_long one bytes kind line column is long
+
+-- where bytes under the name are refused, that is told
+tells_refusal : (Reason : List ℕ → Refusal → ℕ → ℕ → Type 0) (name : List ℕ) (held : Option Bytes) (ShelfFails : Type 0) (status : Status) (kind : Refusal) (line column : ℕ) →
+    ((bytes : List ℕ) (told : Refusal) (told_line told_column : ℕ) → Reason bytes told told_line told_column → Reason bytes kind line column → (told ≡ kind) × (told_line ≡ line) × (told_column ≡ column)) →
+    ((bytes : List ℕ) → Reason bytes kind line column → 1_048_576 < length bytes → ⊥) →
+    NoModel Reason name held ShelfFails status → Has name held (λ bytes. Reason bytes kind line column) → Tells kind line column status
+tells_refusal Reason name None ShelfFails (Refused told told_line told_column) kind line column one short none has = absurd has
+tells_refusal Reason name (Some map) ShelfFails (Refused told told_line told_column) kind line column one short none has =
+    let both = meet (map name) (λ bytes. Reason bytes kind line column) (λ bytes. Reason bytes told told_line told_column) has none in
+    one both.0 told told_line told_column both.2 both.1
+tells_refusal Reason name held ShelfFails (Unread what.Model why.Absent) kind line column one short none has = absurd (never_absent name held (λ bytes. Reason bytes kind line column) has none)
+tells_refusal Reason name held ShelfFails (Unread what.Model why.TooLong) kind line column one short none has = absurd (never_both name held (λ bytes. Reason bytes kind line column) (λ bytes. 1_048_576 < length bytes) short has none)
+tells_refusal Reason name held ShelfFails (Unread what.Model why.Failed) kind line column one short none has = tt
+tells_refusal Reason name held ShelfFails Memory kind line column one short none has = tt
+tells_refusal Reason name held ShelfFails Done kind line column one short none has = none
+tells_refusal Reason name held ShelfFails Usage kind line column one short none has = none
+tells_refusal Reason name held ShelfFails (BadInput bad number) kind line column one short none has = none
+tells_refusal Reason name held ShelfFails (ModelFault fault) kind line column one short none has = none
+tells_refusal Reason name held ShelfFails (Unread what.Save because) kind line column one short none has = none
+tells_refusal Reason name held ShelfFails (Unread what.Input because) kind line column one short none has = none
+tells_refusal Reason name held ShelfFails (Unread what.Output because) kind line column one short none has = none
+tells_refusal Reason name held ShelfFails (Unwritten writing) kind line column one short none has = none
+tells_refusal Reason name held ShelfFails (BadSave fault) kind line column one short none has = none
+
+-- what is told of bytes under the name that a check refuses
+pub check_tells : OneVerdict → (name : List ℕ) (held : Option Bytes) (ShelfFails : Type 0) (status : Status) (kind : Refusal) (line column : ℕ) →
+    NoModel Refuses name held ShelfFails status → Has name held (λ bytes. Refuses bytes kind line column) → Tells kind line column status
+check_tells one name held ShelfFails status kind line column none has =
+    tells_refusal Refuses name held ShelfFails status kind line column
+    (λ bytes told told_line told_column first other. one_refusal one bytes told kind told_line line told_column column first other)
+    (λ bytes is. not_long one bytes kind line column is) none has
+
+-- and of those that a run refuses
+pub run_tells : OneVerdict → (name : List ℕ) (held : Option Bytes) (ShelfFails : Type 0) (status : Status) (kind : Refusal) (line column : ℕ) →
+    NoModel RefusesRun name held ShelfFails status → Has name held (λ bytes. RefusesRun bytes kind line column) → Tells kind line column status
+run_tells one name held ShelfFails status kind line column none has =
+    tells_refusal RefusesRun name held ShelfFails status kind line column
+    (λ bytes told told_line told_column first other.
+    one_run_refusal one bytes told kind told_line line told_column column (run_refusal bytes told told_line told_column first) (run_refusal bytes kind line column other))
+    (λ bytes is. run_not_long one bytes kind line column (run_refusal bytes kind line column is)) none has
+
+-- a model that was loaded is not refused
+pub check_unrefused : OneVerdict → (name : List ℕ) (held : Option Bytes) (kind : Refusal) (line column : ℕ) → Under name held AcceptsSome → Has name held (λ bytes. Refuses bytes kind line column) → ⊥
+check_unrefused one name held kind line column some has =
+    never_both name held (λ bytes. Refuses bytes kind line column) AcceptsSome (λ bytes is some. no_refusal one bytes kind line column some is) has some
+
+pub run_unrefused : OneVerdict → (name : List ℕ) (held : Option Bytes) (kind : Refusal) (line column : ℕ) → Under name held RunsSome → Has name held (λ bytes. RefusesRun bytes kind line column) → ⊥
+run_unrefused one name held kind line column some has =
+    never_both name held (λ bytes. RefusesRun bytes kind line column) RunsSome (λ bytes is some. no_run_refusal one bytes kind line column some is) has some
+
+-- a refusal is told in the report too, unless memory ran out
+pub tells_reported : (kind : Refusal) (line column : ℕ) (status result : Status) → Tells kind line column status → (result ≡ status) ⊎ (result ≡ Memory) → Tells kind line column result
+tells_reported kind line column status result tells (inl same) = subst (Tells kind line column) (sym same) tells
+tells_reported kind line column status result tells (inr ended) = subst (Tells kind line column) (sym ended) tt

@@ -94,6 +94,13 @@ HoldsNone name held = IsSomeAnd held (λ map. IfSome (map name) (λ bytes. ¬ (R
 abbrev pub HoldsNoModel : List ℕ → Option Bytes → Type 0
 HoldsNoModel name held = IsSomeAnd held (λ map. IfSome (map name) (λ bytes. ¬ (AcceptsSome bytes)))
 
+-- The status tells this refusal, unless the load failed or memory ran out.
+abbrev pub Tells : Refusal → ℕ → ℕ → Status → Type 0
+Tells kind line column (Refused told_kind told_line told_column) = (told_kind ≡ kind) × (told_line ≡ line) × (told_column ≡ column)
+Tells kind line column (Unread what.Model why.Failed) = ⊤
+Tells kind line column Memory = ⊤
+Tells kind line column other = ⊥
+
 -- The call ended before anything was run or written.
 abbrev pub IsBeforeRun : Status → Type 0
 IsBeforeRun Usage = ⊤

@@ -1,10 +1,12 @@
 //! The command `check`: it loads a model, and writes that it is accepted.
 
-ghost use Rattle.std.specs.Prelude.{◌≡◌, ◌≤◌, IfOk, IfSome};
+ghost use Rattle.std.specs.Prelude.{◌≡◌, ◌≤◌, ℕ, IfOk, IfSome};
 ghost use Rattle.dsde_io.specs.Fault.{Rose};
 ghost use Rattle.dsde_syntax.specs.declared.decl.Model.{Model};
 ghost use Rattle.dsde_cli.specs.Answer.{Answers, answer_of};
-ghost use Rattle.dsde_cli.specs.Causes.{CauseCheck, HoldsModel, HoldsNoModel, IsBeforeRun, IsOfAnswer};
+ghost use Rattle.dsde_cli.specs.Causes.{CauseCheck, Has, HoldsModel, HoldsNoModel, IsBeforeRun, IsOfAnswer, Tells};
+ghost use Rattle.dsde_verdict.specs.declared.refusal.Refusal.{Refusal};
+ghost use Rattle.dsde_verdict.specs.Verdict.{Refuses};
 
 use crate::load::load_accepted;
 use dsde_io::{Shelf, Sink, SinkEnd, write_all};
@@ -27,6 +29,8 @@ pub(crate) fn load_and_check<F: Shelf, W: Sink>(
         → IfSome (W.written out.old) (λ written. Answers (answer_of print model) written (W.written out.new) result) }
     ensures cause { CauseCheck name.now (F.held shelf.old) (Rose (F.faults shelf.old) (F.faults shelf.new))
         (Rose (W.faults out.old) (W.faults out.new)) result }
+    ensures refused { (kind : Refusal) → (line column : ℕ)
+        → Has name.now (F.held shelf.old) (λ bytes. Refuses bytes kind line column) → Tells kind line column result }
     ensures unanswered { HoldsNoModel name.now (F.held shelf.old) → out.new ≡ out.old }
     ensures untouched { IsBeforeRun result → out.new ≡ out.old }
     ensures kept { F.held shelf.new ≡ F.held shelf.old }

@@ -1,13 +1,14 @@
 //! The command `run`: it loads a model, runs it, and writes its trace.
 
-ghost use Rattle.std.specs.Prelude.{◌≡◌, ◌≤◌, IfSome};
+ghost use Rattle.std.specs.Prelude.{◌≡◌, ◌≤◌, ℕ, IfSome};
 ghost use Rattle.dsde_io.specs.Fault.{Rose};
 ghost use Rattle.dsde_sim.specs.Engine.{HasFewPorts};
 ghost use Rattle.dsde_first.specs.declared.first.FirstModel.{FirstModel};
 ghost use Rattle.dsde_first.specs.First.{IsFirst};
 ghost use Rattle.dsde_run.specs.Reading.{Told, TakesWanted};
 ghost use Rattle.dsde_run.specs.Run.{run, records_in};
-ghost use Rattle.dsde_cli.specs.Causes.{Cause, Holds, HoldsNone, IsBeforeRun, IsOfRun};
+ghost use Rattle.dsde_cli.specs.Causes.{Cause, Has, Holds, HoldsNone, IsBeforeRun, IsOfRun, RefusesRun, Tells};
+ghost use Rattle.dsde_verdict.specs.declared.refusal.Refusal.{Refusal};
 ghost use Rattle.dsde_cli.specs.Outcome.{Comes, SaysEnd, status_of};
 
 use crate::load::load_first;
@@ -40,6 +41,8 @@ pub(crate) fn load_and_run<F: Shelf, R: Source, W: Sink>(
     ensures idle { turns ≡ 0 → input.new ≡ input.old }
     ensures cause { Cause name.now (F.held shelf.old) (Rose (F.faults shelf.old) (F.faults shelf.new))
         (Rose (R.faults input.old) (R.faults input.new)) (Rose (W.faults out.old) (W.faults out.new)) result }
+    ensures refused { (kind : Refusal) → (line column : ℕ)
+        → Has name.now (F.held shelf.old) (λ bytes. RefusesRun bytes kind line column) → Tells kind line column result }
     ensures unrun { HoldsNone name.now (F.held shelf.old) → (input.new ≡ input.old) × (out.new ≡ out.old) }
     ensures untouched { IsBeforeRun result → (input.new ≡ input.old) × (out.new ≡ out.old) }
     ensures kept { F.held shelf.new ≡ F.held shelf.old }

@@ -3,7 +3,7 @@ use Rattle.std.specs.Prelude.{IfSome}
 use Rattle.dsde_run.specs.Reading.{Told, TakesWanted}
 use Rattle.dsde_run.specs.Run.{run, records_in}
 use Rattle.dsde_cli.specs.Outcome.{Comes}
-use Rattle.dsde_cli.proofs.Loads.{comes-cut, run_cut, told_same}
+use Rattle.dsde_cli.proofs.Loads.{comes-cut, run_cut, run_tells, run_unrefused, told_same}
 use Rattle.dsde_cli.proofs.run.load_and_run.Goals as goal
 
 pub returns-in-Ok-clause-runs : goal.returns-in-Ok-clause-runs
@@ -26,3 +26,11 @@ returns-in-Err-clause-runs g c = λ model holds.
     told_same left (λ bytes. IfSome out (λ written. Comes model (λ records. run model records c.args.turns) bytes left written out c.in-Err.status))
     (λ bytes is. told_same out (λ written. Comes model (λ records. run model records c.args.turns) bytes left written out c.in-Err.status)
     (λ written told. comes-cut model (λ records. run model records c.args.turns) bytes left written out c.in-Err.status cut told))
+
+pub returns-in-Ok-clause-refused : goal.returns-in-Ok-clause-refused
+returns-in-Ok-clause-refused g c = λ kind line column has.
+    absurd (run_unrefused c.one_verdict.ensures c.args.name.now (g.F.Shelf.held c.args.shelf.now) kind line column c.in-Ok.ensures.runs has)
+
+pub returns-in-Err-clause-refused : goal.returns-in-Err-clause-refused
+returns-in-Err-clause-refused g c = λ kind line column has.
+    run_tells c.one_verdict.ensures c.args.name.now (g.F.Shelf.held c.args.shelf.now) _ c.in-Err.status kind line column c.in-Err.ensures.none has
