@@ -3,7 +3,7 @@
 use anyhow::{Result, anyhow};
 use dsde_cli::{Refusal, SaveFault, Status, What, report};
 use dsde_io::{MemorySink, Sink};
-use dsde_sim::WrongKind;
+use dsde_rules::WrongKind;
 use dsde_values::{Path, Seq, Text};
 use std::str;
 

@@ -8,16 +8,17 @@ use Rattle.dsde_input.specs.Records.{Records}
 use Rattle.dsde_io.specs.Bytes.{GainsFront}
 use Rattle.dsde_io.specs.Held.{Bytes}
 use Rattle.dsde_cli.specs.Causes.{Under}
-use Rattle.dsde_cli.specs.Commands.{RunCommand}
+use Rattle.dsde_command.specs.Commands.{CheckCommand, RunCommand, Task, checks, runs}
+use Rattle.dsde_cli.specs.Answer.{Answers, AnswersFront}
 use Rattle.dsde_sim.specs.declared.event.Finish.{Finish}
 use Rattle.dsde_sim.specs.Text.{trace_text}
 use Rattle.dsde_run.specs.Reading.{IsFront}
 use Rattle.dsde_run.specs.Run.{Run, records_in}
 use Rattle.dsde_run.specs.Steps.{Tells}
-use Rattle.dsde_cli.specs.declared.status.Status.{Status}
-use Rattle.dsde_cli.specs.declared.status.Status.TheVariants.{Done, Refused, Usage, BadInput, ModelFault, Unread, Unwritten, Memory, BadSave}
-use Rattle.dsde_cli.specs.declared.status.What.TheVariants as what
-use Rattle.dsde_cli.specs.declared.status.Why.TheVariants as why
+use Rattle.dsde_status.specs.declared.status.Status.{Status}
+use Rattle.dsde_status.specs.declared.status.Status.TheVariants.{Done, Refused, Usage, BadInput, ModelFault, Unread, Unwritten, Memory, BadSave}
+use Rattle.dsde_status.specs.declared.status.What.TheVariants as what
+use Rattle.dsde_status.specs.declared.status.Why.TheVariants as why
 use Rattle.dsde_cli.specs.Outcome.{Writes, WritesFront, SaysEnd, Comes}
 
 -- the whole trace is a front of it
@@ -28,7 +29,7 @@ front-whole model run written out writes = record {
 }
 
 -- nothing is a front of the trace
-front-none : (model : FirstModel) (run : Run) (written : List ℕ) (out : Option (List ℕ)) → out ≡ Some written → WritesFront model run written out
+pub front-none : (model : FirstModel) (run : Run) (written : List ℕ) (out : Option (List ℕ)) → out ≡ Some written → WritesFront model run written out
 front-none model run written out same = record { count = 0; is = same ∙ ap Some (sym (append-nil written)) }
 
 -- Whatever comes, a front of the trace was written.
@@ -109,5 +110,51 @@ front-tells model tells begun text (Some input) how empty run =
     is_front-whole text (trace_text model (tells (records_in model input)).events)
     (run.text ∙ ap (λ begun. begun ++ trace_text model (tells (records_in model input)).events) empty)
 
-pub some_command : (one other : RunCommand) → Some one ≡ Some other → one ≡ other
-some_command one other same = cc same
+-- a task is for one command
+pub same_run : (one other : RunCommand) → Some (runs one) ≡ Some (runs other) → one ≡ other
+same_run one other same = cc same
+
+pub same_check : (one other : CheckCommand) → Some (checks one) ≡ Some (checks other) → one ≡ other
+same_check one other same = cc same
+
+-- no task is for both, and none is for no command
+pub no_run : (check : CheckCommand) (run : RunCommand) → Some (checks check) ≡ Some (runs run) → ⊥
+no_run check run same = cc same
+
+pub no_task : (task : Task) → None ≡ Some task → ⊥
+no_task task same = cc same
+
+-- the whole answer is a front of it
+answers-whole : (answer written : List ℕ) (out : Option (List ℕ)) → out ≡ Some (written ++ answer) → AnswersFront answer written out
+answers-whole answer written out writes = record { count = length answer; is = writes ∙ ap (λ text. Some (written ++ text)) (sym (take-length answer)) }
+
+-- nothing is a front of the answer
+answers-none : (answer written : List ℕ) (out : Option (List ℕ)) → out ≡ Some written → AnswersFront answer written out
+answers-none answer written out same = record { count = 0; is = same ∙ ap Some (sym (append-nil written)) }
+
+-- Whatever comes of a check, a front of the answer was written.
+answers-front : (answer written : List ℕ) (out : Option (List ℕ)) (status : Status) → Answers answer written out status → AnswersFront answer written out
+answers-front answer written out Done is = answers-whole answer written out is
+answers-front answer written out (Unread what.Model why.Failed) is = answers-none answer written out is
+answers-front answer written out (Unwritten what.Output) is = is
+answers-front answer written out Memory is = is
+answers-front answer written out (Unread what.Model why.Absent) is = absurd is
+answers-front answer written out (Unread what.Model why.TooLong) is = absurd is
+answers-front answer written out (Unread what.Input because) is = absurd is
+answers-front answer written out (Unread what.Save because) is = absurd is
+answers-front answer written out (Unread what.Output because) is = absurd is
+answers-front answer written out (Unwritten what.Input) is = absurd is
+answers-front answer written out (Unwritten what.Model) is = absurd is
+answers-front answer written out (Unwritten what.Save) is = absurd is
+answers-front answer written out (Refused kind line column) is = absurd is
+answers-front answer written out Usage is = absurd is
+answers-front answer written out (BadInput kind line) is = absurd is
+answers-front answer written out (ModelFault fault) is = absurd is
+answers-front answer written out (BadSave fault) is = absurd is
+
+-- What comes of a check is told, unless memory ran out.
+pub answers-reported : (answer : List ℕ) (before after : Option (List ℕ)) (status result : Status) →
+    IfSome before (λ written. Answers answer written after status) → (result ≡ status) ⊎ (result ≡ Memory) → IfSome before (λ written. Answers answer written after result)
+answers-reported answer None after status result answers reported = tt
+answers-reported answer (Some written) after status result answers (inl same) = subst (Answers answer written after) (sym same) answers
+answers-reported answer (Some written) after status result answers (inr ended) = subst (Answers answer written after) (sym ended) (answers-front answer written after status answers)

@@ -1,75 +1,126 @@
 -- Why a status comes.
-use Rattle.std.specs.Prelude.{ℕ, ◌≡◌, ◌<◌, ◌≤◌, ⊤, List, length, Option, None, IfSome, IsSomeAnd}
+use Rattle.std.specs.Prelude.{ℕ, ◌≡◌, ◌<◌, ⊤, List, length, Option, None, IfSome, IsSomeAnd}
+use Rattle.dsde_syntax.specs.declared.decl.Model.{Model}
 use Rattle.dsde_first.specs.declared.first.FirstModel.{FirstModel}
 use Rattle.dsde_first.specs.First.{Spells}
 use Rattle.dsde_io.specs.declared.shelf.ShelfEnd.{ShelfEnd}
 use Rattle.dsde_io.specs.declared.shelf.ShelfEnd.TheVariants as shelf_end
 use Rattle.dsde_io.specs.Held.{Bytes}
-use Rattle.dsde_cli.specs.declared.status.Refusal.TheVariants.{NotBuilt}
-use Rattle.dsde_cli.specs.declared.status.Status.{Status}
-use Rattle.dsde_cli.specs.declared.status.Status.TheVariants.{Done, Refused, Usage, BadInput, ModelFault, Unread, Unwritten, Memory}
-use Rattle.dsde_cli.specs.declared.status.What.{What}
-use Rattle.dsde_cli.specs.declared.status.What.TheVariants as what
-use Rattle.dsde_cli.specs.declared.status.Why.{Why}
-use Rattle.dsde_cli.specs.declared.status.Why.TheVariants as why
+use Rattle.dsde_verdict.specs.declared.refusal.Refusal.{Refusal}
+use Rattle.dsde_verdict.specs.declared.refusal.Refusal.TheVariants.{NotBuilt}
+use Rattle.dsde_verdict.specs.Verdict.{Accepts, Refuses}
+use Rattle.dsde_status.specs.declared.status.Status.{Status}
+use Rattle.dsde_status.specs.declared.status.Status.TheVariants.{Done, Refused, Usage, BadInput, ModelFault, Unread, Unwritten, Memory}
+use Rattle.dsde_status.specs.declared.status.What.{What}
+use Rattle.dsde_status.specs.declared.status.What.TheVariants as what
+use Rattle.dsde_status.specs.declared.status.Why.{Why}
+use Rattle.dsde_status.specs.declared.status.Why.TheVariants as why
 
--- The bytes spell a model.
+-- The bytes are accepted.
+pub record AcceptsSome (bytes : List ℕ) : Type 0 where
+  pub model : Model
+  pub accepts : Accepts bytes model
+
+-- The bytes spell a model of the form that runs.
 pub record SpellSome (bytes : List ℕ) : Type 0 where
   pub model : FirstModel
   pub spells : Spells bytes model
 
--- The bytes are no more than a model may have, and spell none.
-pub record SpellNone (bytes : List ℕ) : Type 0 where
-  pub within : length bytes ≤ 1_048_576
-  pub none : ¬ SpellSome bytes
+-- The bytes are accepted, and spell this model of the form that runs.
+pub record Runs (bytes : List ℕ) (model : FirstModel) : Type 0 where
+  pub accepted : AcceptsSome bytes
+  pub spells : Spells bytes model
+
+-- The bytes are accepted, and spell some model of that form.
+pub record RunsSome (bytes : List ℕ) : Type 0 where
+  pub model : FirstModel
+  pub runs : Runs bytes model
+
+-- Why bytes that are to be run are refused, and where: that is their verdict, or they are accepted
+-- and spell no model of the form that runs.
+abbrev pub RefusesRun : List ℕ → Refusal → ℕ → ℕ → Type 0
+RefusesRun bytes NotBuilt line column = (line ≡ 0) × (column ≡ 0) × AcceptsSome bytes × ¬ (SpellSome bytes)
+RefusesRun bytes kind line column = Refuses bytes kind line column
 
 -- The shelf, where it tells what it holds, has bytes under the name, and this holds of them.
 abbrev pub Under : List ℕ → Option Bytes → (List ℕ → Type 0) → Type 0
 Under name held Holds = IfSome held (λ map. IsSomeAnd (map name) Holds)
 
--- Why something was not read. The shelf's or the source's faults rose where it failed.
-abbrev pub CauseUnread : List ℕ → Option Bytes → (ShelfFails SourceFails : Type 0) → What → Why → Type 0
-CauseUnread name held ShelfFails SourceFails what.Model why.Absent = IfSome held (λ map. map name ≡ None)
-CauseUnread name held ShelfFails SourceFails what.Model why.TooLong = Under name held (λ bytes. 1_048_576 < length bytes)
-CauseUnread name held ShelfFails SourceFails what.Model why.Failed = ShelfFails
-CauseUnread name held ShelfFails SourceFails what.Input why.Failed = Under name held SpellSome × SourceFails
-CauseUnread name held ShelfFails SourceFails reading because = ⊥
+-- Why the model was not read. The shelf's faults rose where it failed.
+abbrev pub CauseUnread : List ℕ → Option Bytes → (ShelfFails : Type 0) → Why → Type 0
+CauseUnread name held ShelfFails why.Absent = IfSome held (λ map. map name ≡ None)
+CauseUnread name held ShelfFails why.TooLong = Under name held (λ bytes. 1_048_576 < length bytes)
+CauseUnread name held ShelfFails why.Failed = ShelfFails
 
 -- Why a status comes where the words ask for a run of the model of this name. Only want of memory
 -- comes without a cause.
 abbrev pub Cause : List ℕ → Option Bytes → (ShelfFails SourceFails SinkFails : Type 0) → Status → Type 0
-Cause name held ShelfFails SourceFails SinkFails Done = Under name held SpellSome
-Cause name held ShelfFails SourceFails SinkFails (BadInput kind line) = Under name held SpellSome
-Cause name held ShelfFails SourceFails SinkFails (ModelFault fault) = Under name held SpellSome
-Cause name held ShelfFails SourceFails SinkFails (Refused kind line column) =
-    (kind ≡ NotBuilt) × (line ≡ 0) × (column ≡ 0) × Under name held SpellNone
-Cause name held ShelfFails SourceFails SinkFails (Unread reading because) = CauseUnread name held ShelfFails SourceFails reading because
-Cause name held ShelfFails SourceFails SinkFails (Unwritten what.Output) = Under name held SpellSome × SinkFails
+Cause name held ShelfFails SourceFails SinkFails Done = Under name held RunsSome
+Cause name held ShelfFails SourceFails SinkFails (BadInput kind line) = Under name held RunsSome
+Cause name held ShelfFails SourceFails SinkFails (ModelFault fault) = Under name held RunsSome
+Cause name held ShelfFails SourceFails SinkFails (Refused kind line column) = Under name held (λ bytes. RefusesRun bytes kind line column)
+Cause name held ShelfFails SourceFails SinkFails (Unread what.Model because) = CauseUnread name held ShelfFails because
+Cause name held ShelfFails SourceFails SinkFails (Unread what.Input why.Failed) = Under name held RunsSome × SourceFails
+Cause name held ShelfFails SourceFails SinkFails (Unwritten what.Output) = Under name held RunsSome × SinkFails
 Cause name held ShelfFails SourceFails SinkFails Memory = ⊤
 Cause name held ShelfFails SourceFails SinkFails other = ⊥
 
--- The shelf tells that bytes are under the name which spell the model.
+-- Why a status comes where the words ask for a check of the model of this name.
+abbrev pub CauseCheck : List ℕ → Option Bytes → (ShelfFails SinkFails : Type 0) → Status → Type 0
+CauseCheck name held ShelfFails SinkFails Done = Under name held AcceptsSome
+CauseCheck name held ShelfFails SinkFails (Refused kind line column) = Under name held (λ bytes. Refuses bytes kind line column)
+CauseCheck name held ShelfFails SinkFails (Unread what.Model because) = CauseUnread name held ShelfFails because
+CauseCheck name held ShelfFails SinkFails (Unwritten what.Output) = Under name held AcceptsSome × SinkFails
+CauseCheck name held ShelfFails SinkFails Memory = ⊤
+CauseCheck name held ShelfFails SinkFails other = ⊥
+
+-- The shelf tells that bytes are under the name, and this holds of them.
+abbrev pub Has : List ℕ → Option Bytes → (List ℕ → Type 0) → Type 0
+Has name held Holds = IsSomeAnd held (λ map. IsSomeAnd (map name) Holds)
+
+-- The shelf tells that bytes are under the name which are accepted, and spell the model.
 abbrev pub Holds : List ℕ → Option Bytes → FirstModel → Type 0
-Holds name held model = IsSomeAnd held (λ map. IsSomeAnd (map name) (λ bytes. Spells bytes model))
+Holds name held model = Has name held (λ bytes. Runs bytes model)
 
--- The shelf tells what it holds, and nothing under the name spells a model.
+-- The shelf tells that bytes are under the name which are accepted, with this model.
+abbrev pub HoldsModel : List ℕ → Option Bytes → Model → Type 0
+HoldsModel name held model = Has name held (λ bytes. Accepts bytes model)
+
+-- The shelf tells what it holds, and nothing under the name is a model that runs.
 abbrev pub HoldsNone : List ℕ → Option Bytes → Type 0
-HoldsNone name held = IsSomeAnd held (λ map. IfSome (map name) (λ bytes. ¬ SpellSome bytes))
+HoldsNone name held = IsSomeAnd held (λ map. IfSome (map name) (λ bytes. ¬ (RunsSome bytes)))
 
--- The call ended before its run began.
+-- The shelf tells what it holds, and nothing under the name is accepted.
+abbrev pub HoldsNoModel : List ℕ → Option Bytes → Type 0
+HoldsNoModel name held = IsSomeAnd held (λ map. IfSome (map name) (λ bytes. ¬ (AcceptsSome bytes)))
+
+-- The status tells this refusal, unless the load failed or memory ran out.
+abbrev pub Tells : Refusal → ℕ → ℕ → Status → Type 0
+Tells kind line column (Refused told_kind told_line told_column) = (told_kind ≡ kind) × (told_line ≡ line) × (told_column ≡ column)
+Tells kind line column (Unread what.Model why.Failed) = ⊤
+Tells kind line column Memory = ⊤
+Tells kind line column other = ⊥
+
+-- The call ended before anything was run or written.
 abbrev pub IsBeforeRun : Status → Type 0
 IsBeforeRun Usage = ⊤
 IsBeforeRun (Refused kind line column) = ⊤
 IsBeforeRun (Unread what.Model because) = ⊤
 IsBeforeRun other = ⊥
 
--- Why no model is run.
-abbrev pub NoModel : List ℕ → Option Bytes → Type 0 → Status → Type 0
-NoModel name held ShelfFails (Refused kind line column) =
-    (kind ≡ NotBuilt) × (line ≡ 0) × (column ≡ 0) × Under name held SpellNone
-NoModel name held ShelfFails (Unread what.Model because) = CauseUnread name held ShelfFails ⊥ what.Model because
-NoModel name held ShelfFails Memory = ⊤
-NoModel name held ShelfFails other = ⊥
+-- Why there is no model, where bytes are refused for this.
+abbrev pub NoModel : (List ℕ → Refusal → ℕ → ℕ → Type 0) → List ℕ → Option Bytes → Type 0 → Status → Type 0
+NoModel Reason name held ShelfFails (Refused kind line column) = Under name held (λ bytes. Reason bytes kind line column)
+NoModel Reason name held ShelfFails (Unread what.Model because) = CauseUnread name held ShelfFails because
+NoModel Reason name held ShelfFails Memory = ⊤
+NoModel Reason name held ShelfFails other = ⊥
+
+-- Why bytes give no model, where they are refused for this.
+abbrev pub NoneIn : (List ℕ → Refusal → ℕ → ℕ → Type 0) → List ℕ → Status → Type 0
+NoneIn Reason bytes (Refused kind line column) = Reason bytes kind line column
+NoneIn Reason bytes (Unread what.Model why.TooLong) = 1_048_576 < length bytes
+NoneIn Reason bytes Memory = ⊤
+NoneIn Reason bytes other = ⊥
 
 -- The status of a model that was not loaded.
 abbrev pub unread_model : ShelfEnd → Status
@@ -87,3 +138,10 @@ IsOfRun SourceFails SinkFails (Unread what.Input why.Failed) = SourceFails
 IsOfRun SourceFails SinkFails (Unwritten what.Output) = SinkFails
 IsOfRun SourceFails SinkFails Memory = ⊤
 IsOfRun SourceFails SinkFails other = ⊥
+
+-- The status is one of an answer, and the sink failed where it says so.
+abbrev pub IsOfAnswer : Type 0 → Status → Type 0
+IsOfAnswer SinkFails Done = ⊤
+IsOfAnswer SinkFails (Unwritten what.Output) = SinkFails
+IsOfAnswer SinkFails Memory = ⊤
+IsOfAnswer SinkFails other = ⊥

@@ -1,6 +1,4 @@
+pub mod Answer
 pub mod Causes
-pub mod Commands
-pub mod Given
 pub mod Loaded
-pub mod Note
 pub mod Outcome

@@ -5,9 +5,10 @@ use Rattle.dsde_io.specs.Held.{Bytes}
 use Rattle.dsde_input.specs.Records.{Records}
 use Rattle.dsde_run.specs.Run.{Run, run}
 use Rattle.dsde_cli.specs.Causes.{Holds}
-use Rattle.dsde_cli.specs.Commands.{Asked}
+use Rattle.dsde_command.specs.Commands.{Asked}
 
--- The words ask for a run, and the shelf tells that bytes are under its model's name which spell this model.
+-- The words ask for a run, and the shelf tells that bytes are under its model's name which are
+-- accepted, and spell this model of the form that runs.
 pub record Loaded (words : List (List ℕ)) (held : Option Bytes) : Type 0 where
   pub asked : Asked words
   pub model : FirstModel

@@ -7,12 +7,12 @@ use Rattle.dsde_sim.specs.declared.event.Finish.TheVariants as how
 use Rattle.dsde_sim.specs.Text.{trace_text}
 use Rattle.dsde_run.specs.Reading.{IsCutShort}
 use Rattle.dsde_run.specs.Run.{Run, records_in}
-use Rattle.dsde_cli.specs.declared.status.Status.{Status}
-use Rattle.dsde_cli.specs.declared.status.Status.TheVariants.{Done, BadInput, ModelFault, Unread, Unwritten, Memory}
-use Rattle.dsde_cli.specs.declared.status.What.{What}
-use Rattle.dsde_cli.specs.declared.status.What.TheVariants as what
-use Rattle.dsde_cli.specs.declared.status.Why.{Why}
-use Rattle.dsde_cli.specs.declared.status.Why.TheVariants as why
+use Rattle.dsde_status.specs.declared.status.Status.{Status}
+use Rattle.dsde_status.specs.declared.status.Status.TheVariants.{Done, BadInput, ModelFault, Unread, Unwritten, Memory}
+use Rattle.dsde_status.specs.declared.status.What.{What}
+use Rattle.dsde_status.specs.declared.status.What.TheVariants as what
+use Rattle.dsde_status.specs.declared.status.Why.{Why}
+use Rattle.dsde_status.specs.declared.status.Why.TheVariants as why
 
 -- The sink gained the whole trace of the run.
 abbrev pub Writes : FirstModel → Run → List ℕ → Option (List ℕ) → Type 0

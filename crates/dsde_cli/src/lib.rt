@@ -2,9 +2,9 @@
 #![tactic(auto)]
 
 mod call;
-mod command;
-mod note;
-mod status;
+mod check;
+mod load;
+mod run;
 
-pub use call::{dsde, report};
-pub use status::{Refusal, SaveFault, Status, What, Why};
+pub use call::dsde;
+pub use dsde_status::{Refusal, SaveFault, Status, What, Why, report};

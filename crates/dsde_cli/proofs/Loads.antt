@@ -1,0 +1,266 @@
+-- What is known of bytes under a name, and where no model was loaded.
+use Rattle.std.proofs.Common.{◌≡◌, ℕ, ◌<◌, ◌⊎◌, inl, inr, List, [], ◌++◌, length, take, Result, Ok, Err, refl, sym, ap, subst, ◌∙◌}
+use Rattle.std.specs.Prelude.{Option, Some, None, ⊤, IfSome, IfOk, IsSomeAnd}
+use Rattle.std.proofs.lemmas.List.{append-nil}
+use Rattle.dsde_syntax.specs.declared.decl.Model.{Model}
+use Rattle.dsde_first.specs.declared.first.FirstModel.{FirstModel}
+use Rattle.dsde_first.specs.First.{Spells}
+use Rattle.dsde_input.specs.Records.{Records}
+use Rattle.dsde_io.specs.Held.{Bytes}
+use Rattle.dsde_run.specs.Run.{Run, records_in}
+use Rattle.dsde_verdict.specs.declared.refusal.Refusal.{Refusal}
+use Rattle.dsde_verdict.specs.declared.refusal.Refusal.TheVariants as refusal
+use Rattle.dsde_verdict.specs.declared.refusal.ReadModel.{ReadModel}
+use Rattle.dsde_verdict.specs.declared.refusal.ReadModel.TheVariants as read_model
+use Rattle.dsde_verdict.specs.Verdict.{Accepts, Refuses, IsVerdict}
+use Rattle.dsde_status.specs.declared.status.Status.{Status}
+use Rattle.dsde_status.specs.declared.status.Status.TheVariants.{Done, Refused, Usage, BadInput, ModelFault, Unread, Unwritten, Memory, BadSave}
+use Rattle.dsde_status.specs.declared.status.What.TheVariants as what
+use Rattle.dsde_status.specs.declared.status.Why.TheVariants as why
+use Rattle.dsde_cli.specs.Answer.{Answers, AnswersFront}
+use Rattle.dsde_cli.specs.Causes.{AcceptsSome, Runs, RunsSome, RefusesRun, Under, Has, Holds, HoldsModel, NoModel, Tells}
+use Rattle.dsde_cli.specs.Outcome.{Comes}
+use Rattle.dsde_cli.proofs.Outcomes.{front-none}
+
+-- no text has two verdicts
+abbrev pub OneVerdict : Type 0
+OneVerdict = (bytes : List ℕ) (this that : Result Model ReadModel) → IsVerdict bytes this → IsVerdict bytes that → this ≡ that
+
+-- a model is no refusal
+apart : (model : Model) (error : ReadModel) → Ok model ≡ Err error → ⊥
+apart model error same = cc same
+
+-- what is accepted is not refused
+no_refusal : OneVerdict → (bytes : List ℕ) (kind : Refusal) (line column : ℕ) → AcceptsSome bytes → Refuses bytes kind line column → ⊥
+no_refusal one bytes kind line column some is =
+    apart some.model (read_model.Refused kind line column) (one bytes (Ok some.model) (Err (read_model.Refused kind line column)) some.accepts is)
+
+-- nor is it too long
+no_length : OneVerdict → (bytes : List ℕ) → AcceptsSome bytes → 1_048_576 < length bytes → ⊥
+no_length one bytes some long = apart some.model read_model.TooLong (one bytes (Ok some.model) (Err read_model.TooLong) some.accepts long)
+
+-- what runs is not refused where it is to be run
+no_run_refusal : OneVerdict → (bytes : List ℕ) (kind : Refusal) (line column : ℕ) → RunsSome bytes → RefusesRun bytes kind line column → ⊥
+no_run_refusal one bytes refusal.NotBuilt line column some is = is.3 (record { model = some.model; spells = some.runs.spells })
+no_run_refusal one bytes refusal.BadByte line column some is = no_refusal one bytes refusal.BadByte line column some.runs.accepted is
+no_run_refusal one bytes refusal.BadNumber line column some is = no_refusal one bytes refusal.BadNumber line column some.runs.accepted is
+no_run_refusal one bytes refusal.Syntax line column some is = no_refusal one bytes refusal.Syntax line column some.runs.accepted is
+no_run_refusal one bytes refusal.Nested line column some is = no_refusal one bytes refusal.Nested line column some.runs.accepted is
+no_run_refusal one bytes (refusal.Check kind) line column some is = no_refusal one bytes (refusal.Check kind) line column some.runs.accepted is
+
+-- what holds of the bytes under a name, and what else does
+meet : (found : Option (List ℕ)) (P Q : List ℕ → Type 0) → IsSomeAnd found P → IsSomeAnd found Q → (bytes : List ℕ) × P bytes × Q bytes
+meet None P Q has other = absurd has
+meet (Some bytes) P Q has other = (bytes, has, other)
+
+-- what does not hold of the same bytes does not hold under a name
+never_both : (name : List ℕ) (held : Option Bytes) (P Q : List ℕ → Type 0) → ((bytes : List ℕ) → P bytes → Q bytes → ⊥) → Has name held P → Under name held Q → ⊥
+never_both name None P Q never has other = has
+never_both name (Some map) P Q never has other = let both = meet (map name) P Q has other in never both.0 both.1 both.2
+
+-- a name that has bytes is not absent
+never_absent : (name : List ℕ) (held : Option Bytes) (P : List ℕ → Type 0) → Has name held P → IfSome held (λ map. map name ≡ None) → ⊥
+never_absent name None P has none = has
+never_absent name (Some map) P has none = let gone : IsSomeAnd None P = subst (λ found. IsSomeAnd found P) none has in gone
+
+-- what holds of the bytes under a name holds of those that were loaded
+has-told : (name : List ℕ) (held : Option Bytes) (bytes : List ℕ) (P : List ℕ → Type 0) → IfSome held (λ map. map name ≡ Some bytes) → Has name held P → P bytes
+has-told name None bytes P told has = absurd has
+has-told name (Some map) bytes P told has = let here : IsSomeAnd (Some bytes) P = subst (λ found. IsSomeAnd found P) told has in here
+
+-- what follows from what holds of the bytes under a name holds of them too
+has-some : (found : Option (List ℕ)) (P Q : List ℕ → Type 0) → ((bytes : List ℕ) → P bytes → Q bytes) → IsSomeAnd found P → IsSomeAnd found Q
+has-some None P Q then has = absurd has
+has-some (Some bytes) P Q then has = then bytes has
+
+pub has-then : (name : List ℕ) (held : Option Bytes) (P Q : List ℕ → Type 0) → ((bytes : List ℕ) → P bytes → Q bytes) → Has name held P → Has name held Q
+has-then name None P Q then has = absurd has
+has-then name (Some map) P Q then has = has-some (map name) P Q then has
+
+-- the status is one that may come though there is a model to load
+abbrev pub IsCut : Status → Type 0
+IsCut (Unread what.Model why.Failed) = ⊤
+IsCut Memory = ⊤
+IsCut other = ⊥
+
+-- there is no other reason for no model where bytes are under the name that are not refused
+pub cut_short : (Reason : List ℕ → Refusal → ℕ → ℕ → Type 0) (P : List ℕ → Type 0) (name : List ℕ) (held : Option Bytes) (ShelfFails : Type 0) (status : Status) →
+    ((bytes : List ℕ) (kind : Refusal) (line column : ℕ) → P bytes → Reason bytes kind line column → ⊥) → ((bytes : List ℕ) → P bytes → 1_048_576 < length bytes → ⊥) →
+    NoModel Reason name held ShelfFails status → Has name held P → IsCut status
+cut_short Reason P name held ShelfFails (Refused kind line column) never short none has = absurd (never_both name held P (λ bytes. Reason bytes kind line column) (λ bytes. never bytes kind line column) has none)
+cut_short Reason P name held ShelfFails (Unread what.Model why.Absent) never short none has = absurd (never_absent name held P has none)
+cut_short Reason P name held ShelfFails (Unread what.Model why.TooLong) never short none has = absurd (never_both name held P (λ bytes. 1_048_576 < length bytes) short has none)
+cut_short Reason P name held ShelfFails (Unread what.Model why.Failed) never short none has = tt
+cut_short Reason P name held ShelfFails Memory never short none has = tt
+cut_short Reason P name held ShelfFails Done never short none has = none
+cut_short Reason P name held ShelfFails Usage never short none has = none
+cut_short Reason P name held ShelfFails (BadInput kind line) never short none has = none
+cut_short Reason P name held ShelfFails (ModelFault fault) never short none has = none
+cut_short Reason P name held ShelfFails (Unread what.Save because) never short none has = none
+cut_short Reason P name held ShelfFails (Unread what.Input because) never short none has = none
+cut_short Reason P name held ShelfFails (Unread what.Output because) never short none has = none
+cut_short Reason P name held ShelfFails (Unwritten writing) never short none has = none
+cut_short Reason P name held ShelfFails (BadSave fault) never short none has = none
+
+-- a check of a model that is under the name is cut short, and nothing was written
+pub answers-cut : (answer written : List ℕ) (out : Option (List ℕ)) (status : Status) → IsCut status → out ≡ Some written → Answers answer written out status
+answers-cut answer written out (Unread what.Model why.Failed) is same = same
+answers-cut answer written out Memory is same = record { count = 0; is = same ∙ ap Some (sym (append-nil written)) }
+answers-cut answer written out (Unread what.Model why.Absent) is same = absurd is
+answers-cut answer written out (Unread what.Model why.TooLong) is same = absurd is
+answers-cut answer written out (Unread what.Save because) is same = absurd is
+answers-cut answer written out (Unread what.Input because) is same = absurd is
+answers-cut answer written out (Unread what.Output because) is same = absurd is
+answers-cut answer written out (Refused kind line column) is same = absurd is
+answers-cut answer written out Done is same = absurd is
+answers-cut answer written out Usage is same = absurd is
+answers-cut answer written out (BadInput kind line) is same = absurd is
+answers-cut answer written out (ModelFault fault) is same = absurd is
+answers-cut answer written out (Unwritten writing) is same = absurd is
+answers-cut answer written out (BadSave fault) is same = absurd is
+
+-- a run of a model that is under the name is cut short, and nothing was written
+pub comes-cut : (model : FirstModel) (tells : Records → Run) (input : List ℕ) (left : Option (List ℕ)) (written : List ℕ) (out : Option (List ℕ)) (status : Status) →
+    IsCut status → out ≡ Some written → Comes model tells input left written out status
+comes-cut model tells input left written out (Unread what.Model why.Failed) is same = same
+comes-cut model tells input left written out Memory is same = front-none model (tells (records_in model input)) written out same
+comes-cut model tells input left written out (Unread what.Model why.Absent) is same = absurd is
+comes-cut model tells input left written out (Unread what.Model why.TooLong) is same = absurd is
+comes-cut model tells input left written out (Unread what.Save because) is same = absurd is
+comes-cut model tells input left written out (Unread what.Input because) is same = absurd is
+comes-cut model tells input left written out (Unread what.Output because) is same = absurd is
+comes-cut model tells input left written out (Refused kind line column) is same = absurd is
+comes-cut model tells input left written out Done is same = absurd is
+comes-cut model tells input left written out Usage is same = absurd is
+comes-cut model tells input left written out (BadInput kind line) is same = absurd is
+comes-cut model tells input left written out (ModelFault fault) is same = absurd is
+comes-cut model tells input left written out (Unwritten writing) is same = absurd is
+comes-cut model tells input left written out (BadSave fault) is same = absurd is
+
+-- what the shelf tells, if it tells anything
+pub told_same : (before : Option (List ℕ)) (P : List ℕ → Type 0) → ((written : List ℕ) → before ≡ Some written → P written) → IfSome before P
+told_same None P then = tt
+told_same (Some written) P then = then written refl
+
+-- where no model that is accepted was loaded though there is one, the load was cut short
+pub check_cut : OneVerdict → (name : List ℕ) (held : Option Bytes) (ShelfFails : Type 0) (status : Status) (model : Model) →
+    NoModel Refuses name held ShelfFails status → HoldsModel name held model → IsCut status
+check_cut one name held ShelfFails status model none holds =
+    cut_short Refuses AcceptsSome name held ShelfFails status (no_refusal one) (no_length one) none
+    (has-then name held (λ bytes. Accepts bytes model) AcceptsSome (λ bytes accepts. record { model = model; accepts = accepts }) holds)
+
+-- the same of a model that runs
+pub run_cut : OneVerdict → (name : List ℕ) (held : Option Bytes) (ShelfFails : Type 0) (status : Status) (model : FirstModel) →
+    NoModel RefusesRun name held ShelfFails status → Holds name held model → IsCut status
+run_cut one name held ShelfFails status model none holds =
+    cut_short RefusesRun RunsSome name held ShelfFails status (no_run_refusal one) (λ bytes some. no_length one bytes some.runs.accepted) none
+    (has-then name held (λ bytes. Runs bytes model) RunsSome (λ bytes runs. record { model = model; runs = runs }) holds)
+
+-- the one model of the bytes that were loaded is the one under the name
+pub first-only : (name : List ℕ) (held : Option Bytes) (bytes : List ℕ) (result : Result FirstModel Status) → IfSome held (λ map. map name ≡ Some bytes) →
+    IfOk result (λ model. (other : FirstModel) → Spells bytes other → other ≡ model) → IfOk result (λ model. (other : FirstModel) → Holds name held other → other ≡ model)
+first-only name held bytes (Ok model) told only = λ other holds. only other (has-told name held bytes (λ bytes. Runs bytes other) told holds).spells
+first-only name held bytes (Err status) told only = tt
+
+-- a text that is read gives one model
+pub same_model : (this that : Model) → (◌≡◌ {A = Result Model ReadModel} (Ok this) (Ok that)) ⊎ (◌≡◌ {A = Result Model ReadModel} (Ok this) (Err read_model.Memory)) → that ≡ this
+same_model this that (inl same) = cc same
+same_model this that (inr other) = absurd (apart this read_model.Memory other)
+
+-- a refusal is one, with its place
+same_refusal : (this that : Refusal) (line other_line column other_column : ℕ) →
+    ◌≡◌ {A = Result Model ReadModel} (Err (read_model.Refused this line column)) (Err (read_model.Refused that other_line other_column)) → (this ≡ that) × (line ≡ other_line) × (column ≡ other_column)
+same_refusal this that line other_line column other_column same = (cc same, cc same, cc same)
+
+-- a text has one refusal
+one_refusal : OneVerdict → (bytes : List ℕ) (this that : Refusal) (line other_line column other_column : ℕ) → Refuses bytes this line column → Refuses bytes that other_line other_column →
+    (this ≡ that) × (line ≡ other_line) × (column ≡ other_column)
+one_refusal one bytes this that line other_line column other_column first other =
+    same_refusal this that line other_line column other_column
+    (one bytes (Err (read_model.Refused this line column)) (Err (read_model.Refused that other_line other_column)) first other)
+
+-- why a text is refused that is to be run
+data RunRefusal (bytes : List ℕ) (kind : Refusal) (line column : ℕ) : Type 0 where
+  unbuilt : kind ≡ refusal.NotBuilt → line ≡ 0 → column ≡ 0 → AcceptsSome bytes → RunRefusal bytes kind line column
+  verdict : Refuses bytes kind line column → RunRefusal bytes kind line column
+
+run_refusal : (bytes : List ℕ) (kind : Refusal) (line column : ℕ) → RefusesRun bytes kind line column → RunRefusal bytes kind line column
+run_refusal bytes refusal.NotBuilt line column is = unbuilt refl is.0 is.1 is.2
+run_refusal bytes refusal.BadByte line column is = verdict is
+run_refusal bytes refusal.BadNumber line column is = verdict is
+run_refusal bytes refusal.Syntax line column is = verdict is
+run_refusal bytes refusal.Nested line column is = verdict is
+run_refusal bytes (refusal.Check kind) line column is = verdict is
+
+one_run_refusal : OneVerdict → (bytes : List ℕ) (this that : Refusal) (line other_line column other_column : ℕ) → RunRefusal bytes this line column → RunRefusal bytes that other_line other_column →
+    (this ≡ that) × (line ≡ other_line) × (column ≡ other_column)
+one_run_refusal one bytes this that line other_line column other_column (unbuilt kind at_line at_column some) (unbuilt other_kind at_other at_other_column some_other) =
+    (kind ∙ sym other_kind, at_line ∙ sym at_other, at_column ∙ sym at_other_column)
+one_run_refusal one bytes this that line other_line column other_column (unbuilt kind at_line at_column some) (verdict other) = absurd (no_refusal one bytes that other_line other_column some other)
+one_run_refusal one bytes this that line other_line column other_column (verdict first) (unbuilt kind at_line at_column some) = absurd (no_refusal one bytes this line column some first)
+one_run_refusal one bytes this that line other_line column other_column (verdict first) (verdict other) = one_refusal one bytes this that line other_line column other_column first other
+
+-- a text that is refused is not too long
+not_long : OneVerdict → (bytes : List ℕ) (kind : Refusal) (line column : ℕ) → Refuses bytes kind line column → 1_048_576 < length bytes → ⊥
+not_long one bytes kind line column is long = length_apart (read_model.Refused kind line column) (λ same. cc same) (one bytes (Err (read_model.Refused kind line column)) (Err read_model.TooLong) is long)
+  where
+    length_apart : (error : ReadModel) → (error ≡ read_model.TooLong → ⊥) → ◌≡◌ {A = Result Model ReadModel} (Err error) (Err read_model.TooLong) → ⊥
+    length_apart error other same = other (cc same)
+
+run_not_long : OneVerdict → (bytes : List ℕ) (kind : Refusal) (line column : ℕ) → RunRefusal bytes kind line column → 1_048_576 < length bytes → ⊥
+run_not_long one bytes kind line column (unbuilt is at_line at_column some) long = no_length one bytes some long
+run_not_long one bytes kind line column (verdict is) long = not_long one bytes kind line column is long
+
+-- where bytes under the name are refused, that is told
+tells_refusal : (Reason : List ℕ → Refusal → ℕ → ℕ → Type 0) (name : List ℕ) (held : Option Bytes) (ShelfFails : Type 0) (status : Status) (kind : Refusal) (line column : ℕ) →
+    ((bytes : List ℕ) (told : Refusal) (told_line told_column : ℕ) → Reason bytes told told_line told_column → Reason bytes kind line column → (told ≡ kind) × (told_line ≡ line) × (told_column ≡ column)) →
+    ((bytes : List ℕ) → Reason bytes kind line column → 1_048_576 < length bytes → ⊥) →
+    NoModel Reason name held ShelfFails status → Has name held (λ bytes. Reason bytes kind line column) → Tells kind line column status
+tells_refusal Reason name None ShelfFails (Refused told told_line told_column) kind line column one short none has = absurd has
+tells_refusal Reason name (Some map) ShelfFails (Refused told told_line told_column) kind line column one short none has =
+    let both = meet (map name) (λ bytes. Reason bytes kind line column) (λ bytes. Reason bytes told told_line told_column) has none in
+    one both.0 told told_line told_column both.2 both.1
+tells_refusal Reason name held ShelfFails (Unread what.Model why.Absent) kind line column one short none has = absurd (never_absent name held (λ bytes. Reason bytes kind line column) has none)
+tells_refusal Reason name held ShelfFails (Unread what.Model why.TooLong) kind line column one short none has = absurd (never_both name held (λ bytes. Reason bytes kind line column) (λ bytes. 1_048_576 < length bytes) short has none)
+tells_refusal Reason name held ShelfFails (Unread what.Model why.Failed) kind line column one short none has = tt
+tells_refusal Reason name held ShelfFails Memory kind line column one short none has = tt
+tells_refusal Reason name held ShelfFails Done kind line column one short none has = none
+tells_refusal Reason name held ShelfFails Usage kind line column one short none has = none
+tells_refusal Reason name held ShelfFails (BadInput bad number) kind line column one short none has = none
+tells_refusal Reason name held ShelfFails (ModelFault fault) kind line column one short none has = none
+tells_refusal Reason name held ShelfFails (Unread what.Save because) kind line column one short none has = none
+tells_refusal Reason name held ShelfFails (Unread what.Input because) kind line column one short none has = none
+tells_refusal Reason name held ShelfFails (Unread what.Output because) kind line column one short none has = none
+tells_refusal Reason name held ShelfFails (Unwritten writing) kind line column one short none has = none
+tells_refusal Reason name held ShelfFails (BadSave fault) kind line column one short none has = none
+
+-- what is told of bytes under the name that a check refuses
+pub check_tells : OneVerdict → (name : List ℕ) (held : Option Bytes) (ShelfFails : Type 0) (status : Status) (kind : Refusal) (line column : ℕ) →
+    NoModel Refuses name held ShelfFails status → Has name held (λ bytes. Refuses bytes kind line column) → Tells kind line column status
+check_tells one name held ShelfFails status kind line column none has =
+    tells_refusal Refuses name held ShelfFails status kind line column
+    (λ bytes told told_line told_column first other. one_refusal one bytes told kind told_line line told_column column first other)
+    (λ bytes is. not_long one bytes kind line column is) none has
+
+-- and of those that a run refuses
+pub run_tells : OneVerdict → (name : List ℕ) (held : Option Bytes) (ShelfFails : Type 0) (status : Status) (kind : Refusal) (line column : ℕ) →
+    NoModel RefusesRun name held ShelfFails status → Has name held (λ bytes. RefusesRun bytes kind line column) → Tells kind line column status
+run_tells one name held ShelfFails status kind line column none has =
+    tells_refusal RefusesRun name held ShelfFails status kind line column
+    (λ bytes told told_line told_column first other.
+    one_run_refusal one bytes told kind told_line line told_column column (run_refusal bytes told told_line told_column first) (run_refusal bytes kind line column other))
+    (λ bytes is. run_not_long one bytes kind line column (run_refusal bytes kind line column is)) none has
+
+-- a model that was loaded is not refused
+pub check_unrefused : OneVerdict → (name : List ℕ) (held : Option Bytes) (kind : Refusal) (line column : ℕ) → Under name held AcceptsSome → Has name held (λ bytes. Refuses bytes kind line column) → ⊥
+check_unrefused one name held kind line column some has =
+    never_both name held (λ bytes. Refuses bytes kind line column) AcceptsSome (λ bytes is some. no_refusal one bytes kind line column some is) has some
+
+pub run_unrefused : OneVerdict → (name : List ℕ) (held : Option Bytes) (kind : Refusal) (line column : ℕ) → Under name held RunsSome → Has name held (λ bytes. RefusesRun bytes kind line column) → ⊥
+run_unrefused one name held kind line column some has =
+    never_both name held (λ bytes. RefusesRun bytes kind line column) RunsSome (λ bytes is some. no_run_refusal one bytes kind line column some is) has some
+
+-- a refusal is told in the report too, unless memory ran out
+pub tells_reported : (kind : Refusal) (line column : ℕ) (status result : Status) → Tells kind line column status → (result ≡ status) ⊎ (result ≡ Memory) → Tells kind line column result
+tells_reported kind line column status result tells (inl same) = subst (Tells kind line column) (sym same) tells
+tells_reported kind line column status result tells (inr ended) = subst (Tells kind line column) (sym ended) tt

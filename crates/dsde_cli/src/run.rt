@@ -1,0 +1,106 @@
+//! The command `run`: it loads a model, runs it, and writes its trace.
+
+ghost use Rattle.std.specs.Prelude.{◌≡◌, ◌≤◌, ℕ, IfSome};
+ghost use Rattle.dsde_io.specs.Fault.{Rose};
+ghost use Rattle.dsde_sim.specs.Engine.{HasFewPorts};
+ghost use Rattle.dsde_first.specs.declared.first.FirstModel.{FirstModel};
+ghost use Rattle.dsde_first.specs.First.{IsFirst};
+ghost use Rattle.dsde_run.specs.Reading.{Told, TakesWanted};
+ghost use Rattle.dsde_run.specs.Run.{run, records_in};
+ghost use Rattle.dsde_cli.specs.Causes.{Cause, Has, Holds, HoldsNone, IsBeforeRun, IsOfRun, RefusesRun, Tells};
+ghost use Rattle.dsde_verdict.specs.declared.refusal.Refusal.{Refusal};
+ghost use Rattle.dsde_cli.specs.Outcome.{Comes, SaysEnd, status_of};
+
+use crate::load::load_first;
+use dsde_first::FirstModel;
+use dsde_io::{Shelf, Sink, SinkEnd, Source, write_all};
+use dsde_run::{Cut, run_model};
+use dsde_sim::Finish;
+use dsde_status::{Status, What, Why};
+use dsde_values::Text;
+use dsde_verdict::one_verdict;
+use std::alloc::Global;
+
+/// Runs the model of a name for at most so many turns, and writes its trace.
+pub(crate) fn load_and_run<F: Shelf, R: Source, W: Sink>(
+    alloc: Global,
+    name: &str,
+    turns: u64,
+    shelf: &mut F,
+    input: &mut R,
+    out: &mut W,
+) -> Status
+    requires { turns ≤ 1_000_000_000 }
+    ensures runs { (model : FirstModel) → Holds name.now (F.held shelf.old) model
+        → IfSome (R.left input.old) (λ bytes. IfSome (W.written out.old) (λ written.
+        Comes model (λ records. run model records turns) bytes (R.left input.new) written (W.written out.new) result)) }
+    ensures ends { (model : FirstModel) → Holds name.now (F.held shelf.old) model
+        → IfSome (R.left input.old) (λ bytes. SaysEnd (run model (records_in model bytes) turns).end (R.left input.new) result) }
+    ensures taken { (model : FirstModel) → Holds name.now (F.held shelf.old) model
+        → Told (R.left input.old) (R.left input.new) (λ before. TakesWanted (λ records. run model records turns) (records_in model before) before) }
+    ensures idle { turns ≡ 0 → input.new ≡ input.old }
+    ensures cause { Cause name.now (F.held shelf.old) (Rose (F.faults shelf.old) (F.faults shelf.new))
+        (Rose (R.faults input.old) (R.faults input.new)) (Rose (W.faults out.old) (W.faults out.new)) result }
+    ensures refused { (kind : Refusal) → (line column : ℕ)
+        → Has name.now (F.held shelf.old) (λ bytes. RefusesRun bytes kind line column) → Tells kind line column result }
+    ensures unrun { HoldsNone name.now (F.held shelf.old) → (input.new ≡ input.old) × (out.new ≡ out.old) }
+    ensures untouched { IsBeforeRun result → (input.new ≡ input.old) × (out.new ≡ out.old) }
+    ensures kept { F.held shelf.new ≡ F.held shelf.old }
+    ensures shelf_counted { F.faults shelf.old ≤ F.faults shelf.new }
+    ensures input_counted { R.faults input.old ≤ R.faults input.new }
+    ensures out_counted { W.faults out.old ≤ W.faults out.new }
+{
+    // A law: a text has one verdict.
+    one_verdict();
+    match load_first(alloc, name, shelf) {
+        Ok(model) => write_run(alloc, &model, turns, input, out),
+        Err(status) => status,
+    }
+}
+
+/// Runs the model on the input, and then writes its whole trace, or what a failed read left of it.
+fn write_run<R: Source, W: Sink>(
+    alloc: Global,
+    model: &FirstModel,
+    turns: u64,
+    input: &mut R,
+    out: &mut W,
+) -> Status
+    requires form { IsFirst model.now }
+    requires ports { HasFewPorts model.now }
+    requires turns { turns ≤ 1_000_000_000 }
+    ensures comes { IfSome (R.left input.old) (λ bytes. IfSome (W.written out.old) (λ written.
+        Comes model.now (λ records. run model.now records turns) bytes (R.left input.new) written (W.written out.new) result)) }
+    ensures ends { IfSome (R.left input.old) (λ bytes. SaysEnd (run model.now (records_in model.now bytes) turns).end (R.left input.new) result) }
+    ensures taken { Told (R.left input.old) (R.left input.new) (λ before.
+        TakesWanted (λ records. run model.now records turns) (records_in model.now before) before) }
+    ensures idle { turns ≡ 0 → input.new ≡ input.old }
+    ensures cause { IsOfRun (Rose (R.faults input.old) (R.faults input.new)) (Rose (W.faults out.old) (W.faults out.new)) result }
+    ensures input_counted { R.faults input.old ≤ R.faults input.new }
+    ensures out_counted { W.faults out.old ≤ W.faults out.new }
+{
+    let mut text = Text::new(alloc);
+    let status = match run_model(alloc, model, turns, input, &mut text) {
+        Ok(end) => status_of(end),
+        Err(Cut::ReadFault) => Status::Unread {
+            what: What::Input,
+            why: Why::Failed,
+        },
+        Err(Cut::Memory) => return Status::Memory,
+    };
+    match write_all(out, text.as_slice()) {
+        Ok(()) => status,
+        Err(SinkEnd::Failed) => Status::Unwritten(What::Output),
+        Err(SinkEnd::Memory) => Status::Memory,
+    }
+}
+
+fn status_of(end: Finish) -> Status
+    ensures { result ≡ status_of end }
+{
+    match end {
+        Finish::Bound | Finish::Quiet => Status::Done,
+        Finish::Input { kind, line } => Status::BadInput { kind, line },
+        Finish::Fault(fault) => Status::ModelFault(fault),
+    }
+}

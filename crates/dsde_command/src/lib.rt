@@ -1,0 +1,8 @@
+//! The words of the program's commands, and what they ask for.
+#![tactic(auto)]
+
+mod command;
+mod given;
+mod number;
+
+pub use command::{Command, read_command};

@@ -1,0 +1,2 @@
+pub mod OffenceLemmas
+pub mod VerdictLemmas
