@@ -8,11 +8,12 @@ ghost use Rattle.dsde_rules.specs.Tables.{binding_name, port_name};
 ghost use Rattle.dsde_rules.specs.Blocks.{advance_of, body_of, external_of, new_state, state_of, walk_all};
 ghost use Rattle.dsde_scope.specs.Says.{Says, Walks};
 
+use crate::headers::own_type;
 use crate::phases::phases;
 use dsde_judge::judge;
 use dsde_names::Names;
 use dsde_rules::{BindingKind, WrongKind};
-use dsde_scope::{Around, CheckError, bind, type_of, unbound, wanted};
+use dsde_scope::{Around, CheckError, bind, unbound, wanted};
 use dsde_syntax::{Body, Boxed, Expr, Id, PortDecl, StateDecl};
 use dsde_tables::{Local, PortEntry};
 use dsde_values::Ty;
@@ -61,7 +62,7 @@ fn state<'m>(
     ensures { Walks (state_of around.now ports.now state.now scope.old) result scope.new }
 {
     new_state(ports, scope, &state.name)?;
-    let own = type_of(around.alloc(), around.known(), &state.ty)?;
+    let own = own_type(around, &state.ty)?;
     let seen = judge(around, &state.value, scope)?;
     wanted(&own.ty, &seen)?;
     bind(scope, &state.name, own.ty, BindingKind::State)?;

@@ -1,18 +1,18 @@
 //! Functions.
 
-ghost use Rattle.std.specs.Prelude.{◌≡◌, map, IfOk};
+ghost use Rattle.std.specs.Prelude.{◌≡◌, [], map};
 ghost use Rattle.dsde_rules.specs.Judge.{judge};
-ghost use Rattle.dsde_rules.specs.Blocks.{func_height, func_of, return_of};
-ghost use Rattle.dsde_rules.specs.declared.seen.Binding.{Binding};
-ghost use Rattle.dsde_scope.specs.Says.{Says};
+ghost use Rattle.dsde_rules.specs.Blocks.{func_height, func_in, func_of, return_of, walk, walk_all};
+ghost use Rattle.dsde_scope.specs.Says.{Says, Walks};
 
+use crate::headers::{own_params, own_type, types_of};
 use crate::statements::stmts;
 use dsde_judge::judge;
 use dsde_names::Names;
-use dsde_scope::{Around, CheckError, above, copy_type, params_all, type_of, wanted, within};
-use dsde_syntax::{Expr, Id, Memory, Stmt, TypeName, Typed};
+use dsde_scope::{Around, CheckError, above, wanted, within};
+use dsde_syntax::{Expr, Id, Stmt, TypeName, Typed};
 use dsde_tables::{Callee, Known, Local};
-use dsde_values::{Seq, Ty};
+use dsde_values::Ty;
 use std::alloc::Global;
 
 /// A function, over what is declared before it.
@@ -29,23 +29,26 @@ pub fn func<'m>(
 {
     let reserved = Names::new(alloc);
     let around = Around::new(alloc, known, &reserved);
-    let mut scope = params_all(alloc, known, params)?;
-    let types = types_of(alloc, &scope)?;
-    let own = type_of(alloc, known, result_type)?;
-    let height = func_height(&around, stmts, value, &own.ty, &mut scope)?;
-    within(name.at, height)?;
-    Ok(Callee::new(name.name.as_slice(), types, own.ty, above(height)))
+    func_in(&around, name, params, result_type, stmts, value)
 }
 
-/// The types of names that are seen.
-fn types_of(alloc: Global, scope: &Names<Local<'_>>) -> Result<Seq<Ty>, Memory>
-    ensures { IfOk result (λ types. types ≡ map (λ (bound : Binding). bound.ty) scope.now) }
+/// The function itself, with a name that stays as long as its text.
+fn func_in<'m, 'n>(
+    around: &Around<'m>,
+    name: &'n Id,
+    params: &'m [Typed],
+    result_type: &TypeName,
+    stmts: &'m [Stmt],
+    value: &'m Expr,
+) -> Result<Callee<'n>, CheckError>
+    ensures { Says (func_in around.now name.now params.now result_type.now stmts.now value.now) result }
 {
-    let mut types = Seq::new(alloc);
-    for bound in scope.as_slice() {
-        types.push(copy_type(alloc, bound.get().ty())?)?;
-    }
-    Ok(types)
+    let mut scope = own_params(around, params)?;
+    let types = types_of(around.alloc(), &scope)?;
+    let own = own_type(around, result_type)?;
+    let height = func_height(around, stmts, value, &own.ty, &mut scope)?;
+    within(name.at, height)?;
+    Ok(Callee::new(name.name.as_slice(), types, own.ty, above(height)))
 }
 
 /// The height of a function's highest statement, `return` among them.
@@ -58,10 +61,21 @@ fn func_height<'m>(
 ) -> Result<u32, CheckError>
     ensures { Says (func_height around.now body.now value.now own.now scope.old) result }
 {
-    let ports = Names::new(around.alloc());
-    let highest = stmts(around, &ports, body, 0, scope)?;
+    let highest = sends_nothing(around, body, scope)?;
     let height = return_of(around, value, own, scope)?;
     Ok(highest.max(height))
+}
+
+/// The height of statements that send nothing.
+fn sends_nothing<'m>(
+    around: &Around<'m>,
+    body: &'m [Stmt],
+    scope: &mut Names<Local<'m>>,
+) -> Result<u32, CheckError>
+    ensures { Walks (walk_all (map (walk around.now []) body.now) 0 scope.old) result scope.new }
+{
+    let ports = Names::new(around.alloc());
+    stmts(around, &ports, body, 0, scope)
 }
 
 /// A function's value, which has the type of its result.

@@ -4,6 +4,7 @@
 mod assignments;
 mod bodies;
 mod functions;
+mod headers;
 mod phases;
 mod statements;
 

@@ -192,11 +192,11 @@ func_height around stmts value result params =
     Ok (max passed.height height)))
 
 -- the function, over what is declared before it
-abbrev pub func_of : Known → Id → List Typed → TypeName → List Stmt → Expr → Result Func Wrong
-func_of known name params result stmts value =
-    params_all known [] params >>= (λ scope.
-    type_of known result >>= (λ own.
-    func_height (around_func known) stmts value own.ty scope >>= (λ height.
+abbrev pub func_in : Around → Id → List Typed → TypeName → List Stmt → Expr → Result Func Wrong
+func_in around name params result stmts value =
+    params_all around.known [] params >>= (λ scope.
+    type_of around.known result >>= (λ own.
+    func_height around stmts value own.ty scope >>= (λ height.
     within name.at height >>= (λ _.
     Ok (record {
       name = name.name;
@@ -204,6 +204,9 @@ func_of known name params result stmts value =
       result = own.ty;
       height = above height;
     })))))
+
+abbrev pub func_of : Known → Id → List Typed → TypeName → List Stmt → Expr → Result Func Wrong
+func_of known = func_in (around_func known)
 
 -- A state variable has a name that no port and nothing in scope has.
 abbrev pub new_state : List Port → Scope → Id → Test
