@@ -1,8 +1,12 @@
 //! The first wrong thing of statements, functions and bodies.
 #![tactic(auto)]
 
+mod assignments;
 mod bodies;
 mod functions;
+mod headers;
+mod phases;
+mod statements;
 
 pub use bodies::body;
 pub use functions::func;

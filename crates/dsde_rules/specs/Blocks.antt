@@ -7,7 +7,8 @@ use Rattle.dsde_syntax.specs.declared.type_name.TypeName.{TypeName}
 use Rattle.dsde_syntax.specs.declared.expr.Expr.{Expr}
 use Rattle.dsde_syntax.specs.declared.stmt.Stmt.{Stmt}
 use Rattle.dsde_syntax.specs.declared.stmt.Stmt.TheOpen.{Stmt-F, StmtArm-F}
-use Rattle.dsde_syntax.specs.declared.stmt.Stmt.TheFolds.{fold-Stmt}
+use Rattle.dsde_syntax.specs.declared.stmt.Stmt.TheFolds.{fold-Stmt, fold-StmtArm}
+use Rattle.dsde_syntax.specs.declared.stmt.StmtArm.{StmtArm}
 use Rattle.dsde_syntax.specs.declared.decl.Body.{Body}
 use Rattle.dsde_syntax.specs.declared.decl.Phase.{Phase}
 use Rattle.dsde_syntax.specs.declared.decl.PortDecl.{PortDecl}
@@ -21,6 +22,7 @@ use Rattle.dsde_rules.specs.declared.known.Known.{Known}
 use Rattle.dsde_rules.specs.declared.seen.Binding.{Binding}
 use Rattle.dsde_rules.specs.declared.seen.BindingKind.{BindingKind}
 use Rattle.dsde_rules.specs.declared.seen.BindingKind.TheVariants as kind
+use Rattle.dsde_rules.specs.declared.seen.Seen.{Seen}
 use Rattle.dsde_rules.specs.declared.signatures.Func.{Func}
 use Rattle.dsde_rules.specs.declared.signatures.Port.{Port}
 use Rattle.dsde_rules.specs.declared.wrong.Wrong.{Wrong}
@@ -112,14 +114,16 @@ abbrev pub if_walk : List ArmWalk → Option (List Walk) → Walk
 if_walk arms other scope =
     arms_walk arms 0 scope >>= (λ height. last_walk other height scope >>= (λ last. walked scope last))
 
--- `for` runs over a list; its name is seen in its braces.
-abbrev pub for_walk : Around → Id → Judge → List Walk → Walk
-for_walk around name list body scope =
-    fresh around name scope >>= (λ _.
-    list scope >>= (λ items.
+-- `for` over these items, which are a list; its name is seen in its braces.
+abbrev pub for_items : Id → List Walk → Seen → Walk
+for_items name body items scope =
     item_type items >>= (λ item.
     inner body items.height (scope ++ fixed name item ∷ []) >>= (λ height.
-    walked scope height))))
+    walked scope height))
+
+abbrev pub for_walk : Around → Id → Judge → List Walk → Walk
+for_walk around name list body scope =
+    fresh around name scope >>= (λ _. list scope >>= (λ items. for_items name body items scope))
 
 -- a statement, where the out ports among these may be sent to
 abbrev pub stmt_step : Around → List Port → Stmt-F Walk ArmWalk → Walk
@@ -134,6 +138,9 @@ stmt_arm_step around arm = arm_of (judge around arm.cond) arm.body
 
 abbrev pub walk : Around → List Port → Stmt → Walk
 walk around ports = fold-Stmt Walk ArmWalk (stmt_step around ports) (stmt_arm_step around)
+
+abbrev pub walk_arm : Around → List Port → StmtArm → ArmWalk
+walk_arm around ports = fold-StmtArm Walk ArmWalk (stmt_step around ports) (stmt_arm_step around)
 
 -- A field has a name that none of those before it has.
 abbrev pub new_field : List Field → Id → Test
@@ -178,18 +185,18 @@ abbrev pub return_of : Judge → Ty → Scope → Result ℕ Wrong
 return_of value result scope = value scope >>= (λ seen. wanted result seen >>= (λ _. Ok (above seen.height)))
 
 -- the height of a function's highest statement, `return` among them
-abbrev pub func_height : Known → List Stmt → Expr → Ty → Scope → Result ℕ Wrong
-func_height known stmts value result params =
-    walk_all (map (walk (around_func known) []) stmts) 0 params >>= (λ passed.
-    return_of (judge (around_func known) value) result passed.scope >>= (λ height.
+abbrev pub func_height : Around → List Stmt → Expr → Ty → Scope → Result ℕ Wrong
+func_height around stmts value result params =
+    walk_all (map (walk around []) stmts) 0 params >>= (λ passed.
+    return_of (judge around value) result passed.scope >>= (λ height.
     Ok (max passed.height height)))
 
 -- the function, over what is declared before it
-abbrev pub func_of : Known → Id → List Typed → TypeName → List Stmt → Expr → Result Func Wrong
-func_of known name params result stmts value =
-    params_all known [] params >>= (λ scope.
-    type_of known result >>= (λ own.
-    func_height known stmts value own.ty scope >>= (λ height.
+abbrev pub func_in : Around → Id → List Typed → TypeName → List Stmt → Expr → Result Func Wrong
+func_in around name params result stmts value =
+    params_all around.known [] params >>= (λ scope.
+    type_of around.known result >>= (λ own.
+    func_height around stmts value own.ty scope >>= (λ height.
     within name.at height >>= (λ _.
     Ok (record {
       name = name.name;
@@ -197,6 +204,9 @@ func_of known name params result stmts value =
       result = own.ty;
       height = above height;
     })))))
+
+abbrev pub func_of : Known → Id → List Typed → TypeName → List Stmt → Expr → Result Func Wrong
+func_of known = func_in (around_func known)
 
 -- A state variable has a name that no port and nothing in scope has.
 abbrev pub new_state : List Port → Scope → Id → Test
@@ -213,11 +223,14 @@ state_of around ports state scope =
     wanted own.ty seen >>= (λ _.
     Ok (record { scope = scope ++ record { name = state.name.name; ty = own.ty; kind = kind.State } ∷ []; height = seen.height })))))
 
--- in ports as they are seen, behind other names: each by the list of the values that came
+-- an in port as it is seen, behind other names: by the list of the values that came
+abbrev pub input_seen : Scope → Port → Scope
+input_seen scope port =
+    if port.out then scope else added binding_name scope (record { name = port.name; ty = ty.List port.ty; kind = kind.Fixed })
+
 abbrev pub inputs_seen : Scope → List Port → Scope
 inputs_seen scope [] = scope
-inputs_seen scope (port ∷ ports) =
-    inputs_seen (if port.out then scope else added binding_name scope (record { name = port.name; ty = ty.List port.ty; kind = kind.Fixed })) ports
+inputs_seen scope (port ∷ ports) = inputs_seen (input_seen scope port) ports
 
 -- the block of a phase, if there is one: its height
 abbrev pub phase_of : Around → List Port → Option Phase → Scope → Result ℕ Wrong
@@ -256,11 +269,15 @@ abbrev pub advance_of : Around → Expr → Scope → Result ℕ Wrong
 advance_of around advance scope =
     judge around advance scope >>= (λ seen. wanted (ty.Opt ty.Int) seen >>= (λ _. Ok seen.height))
 
+-- a block that may assign to state variables, may see `elapsed` and sends nothing
+abbrev pub move_of : Around → Bool → Option Phase → Scope → Result ℕ Wrong
+move_of around has_elapsed phase scope = phase_of (moving around has_elapsed) [] phase scope
+
 -- external and confluent, which see the in ports and `elapsed`
 abbrev pub inputs_of : Around → Body → Scope → Result ℕ Wrong
 inputs_of around body scope =
-    phase_of (moving around true) [] body.external scope >>= (λ external.
-    phase_of (moving around true) [] body.confluent scope >>= (λ confluent.
+    move_of around true body.external scope >>= (λ external.
+    move_of around true body.confluent scope >>= (λ confluent.
     Ok (max external confluent)))
 
 -- The four blocks: output and internal see parameters and state variables, and internal may assign
@@ -268,7 +285,7 @@ inputs_of around body scope =
 abbrev pub phases_of : Around → List Port → Body → Scope → Result ℕ Wrong
 phases_of around ports body scope =
     phase_of around ports body.output scope >>= (λ output.
-    phase_of (moving around false) [] body.internal scope >>= (λ internal.
+    move_of around false body.internal scope >>= (λ internal.
     inputs_of around body (inputs_seen scope ports) >>= (λ inputs.
     Ok (max (max output internal) inputs))))
 
