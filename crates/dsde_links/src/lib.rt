@@ -1,6 +1,14 @@
 //! The first wrong thing of a structure.
 #![tactic(auto)]
 
+mod components;
+mod ends;
+mod families;
+mod items;
+mod links;
+mod site;
 mod structures;
+mod translations;
 
-pub use structures::{args, structure};
+pub use components::args;
+pub use structures::structure;
