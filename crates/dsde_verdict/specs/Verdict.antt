@@ -1,5 +1,5 @@
 -- The verdict of a text: the model that is accepted, or the one refusal with its place.
-use Rattle.std.specs.Prelude.{◌≡◌, ◌<◌, ℕ, List, length, map, Option, Some, None, Result, Ok, Err}
+use Rattle.std.specs.Prelude.{◌≡◌, ◌<◌, ℕ, List, length, map, Some, None, Result, Ok, Err}
 use Rattle.dsde_syntax.specs.declared.token.Token.{Token}
 use Rattle.dsde_syntax.specs.declared.decl.Model.{Model}
 use Rattle.dsde_syntax.specs.Grammar.{Tokens, tokens_of}
@@ -8,7 +8,6 @@ use Rattle.dsde_lexer.specs.declared.lexer.LexError.{LexError}
 use Rattle.dsde_lexer.specs.declared.lexer.LexError.TheVariants as lex_error
 use Rattle.dsde_lexer.specs.Lines.{line_of, column_of, place_of}
 use Rattle.dsde_lexer.specs.Tokens.{tokens}
-use Rattle.dsde_expressions.specs.declared.parser.ParseError.{ParseError}
 use Rattle.dsde_expressions.specs.declared.parser.ParseError.TheVariants as parse_error
 use Rattle.dsde_parser.specs.Depth.{IsShallow}
 use Rattle.dsde_parser.specs.Refusal.{IsRefused}
