@@ -1,6 +1,8 @@
 //! Every rule of the language, checked before a model runs.
 #![tactic(auto)]
 
+mod declared;
+mod own;
 mod whole;
 
 pub use dsde_scope::CheckError;

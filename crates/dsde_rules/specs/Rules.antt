@@ -12,6 +12,7 @@ use Rattle.dsde_syntax.specs.declared.decl.Model.{Model}
 use Rattle.dsde_syntax.specs.declared.decl.PortDecl.{PortDecl}
 use Rattle.dsde_syntax.specs.declared.decl.Typed.{Typed}
 use Rattle.dsde_syntax.specs.Grammar.{tokens_of}
+use Rattle.dsde_rules.specs.declared.known.Around.{Around}
 use Rattle.dsde_rules.specs.declared.known.Known.{Known}
 use Rattle.dsde_rules.specs.declared.signatures.Func.{Func}
 use Rattle.dsde_rules.specs.declared.signatures.Port.{Port}
@@ -20,7 +21,7 @@ use Rattle.dsde_rules.specs.declared.wrong.WrongKind.TheVariants.{NoTop, Limit}
 use Rattle.dsde_rules.specs.Steps.{◌>>=◌, Test, unless, apart, within}
 use Rattle.dsde_rules.specs.Tables.{added, func_name, with_name, known_of}
 use Rattle.dsde_rules.specs.Judge.{Scope}
-use Rattle.dsde_rules.specs.Blocks.{around_body, around_func, fields_all, params_all, ports_all, func_of, body_of}
+use Rattle.dsde_rules.specs.Blocks.{body_names, fields_all, params_all, ports_all, func_of, body_of}
 use Rattle.dsde_rules.specs.Structures.{args_of, structure_of}
 
 -- the name that a declaration takes: its identifier, and for `top` its own word, which is none
@@ -57,32 +58,37 @@ record_rule known name fields =
     fields_all known [] fields >>= (λ _.
     unless (nat_lt 64 (unwrap_or (slice_get known.depths (length known.before)) 0)) Limit name.at)
 
--- an atomic model
-abbrev pub atomic_rule : Known → ℕ → Id → List Typed → Body → Test
-atomic_rule known at name params body =
-    params_all known [] params >>= (λ scope.
-    ports_all known scope [] body.ports >>= (λ ports.
-    body_of (around_body known params body) at ports body scope >>= (λ passed.
+-- what stands round the parts of a declaration, where these names are reserved
+abbrev pub around_with : Known → List (List ℕ) → Around
+around_with known reserved =
+    record { known = known; reserved = reserved; has_elapsed = false; sets_states = false; is_total = false }
+
+-- an atomic model, with what stands round its body
+abbrev pub atomic_rule : Around → ℕ → Id → List Typed → Body → Test
+atomic_rule around at name params body =
+    params_all around.known [] params >>= (λ scope.
+    ports_all around.known scope [] body.ports >>= (λ ports.
+    body_of around at ports body scope >>= (λ passed.
     within name.at passed.height)))
 
 -- what stands in a network behind its own ports: its executive, and its structure
-abbrev pub inside_rule : Known → Id → List Typed → List Port → ℕ → Body → List Item → Scope → Test
-inside_rule known name params ports exec_at body items scope =
-    ports_all known scope [] body.ports >>= (λ execs.
-    body_of (around_body known params body) exec_at execs body scope >>= (λ passed.
-    structure_of (around_body known params body) ports execs items passed.scope >>= (λ height.
+abbrev pub inside_rule : Around → Id → List Port → ℕ → Body → List Item → Scope → Test
+inside_rule around name ports exec_at body items scope =
+    ports_all around.known scope [] body.ports >>= (λ execs.
+    body_of around exec_at execs body scope >>= (λ passed.
+    structure_of around ports execs items passed.scope >>= (λ height.
     within name.at (max passed.height height))))
 
 -- A network: its ports may share names with those of its executive.
-abbrev pub network_rule : Known → Id → List Typed → List PortDecl → ℕ → Body → List Item → Test
-network_rule known name params ports exec_at body items =
-    params_all known [] params >>= (λ scope.
-    ports_all known scope [] ports >>= (λ own.
-    inside_rule known name params own exec_at body items scope))
+abbrev pub network_rule : Around → Id → List Typed → List PortDecl → ℕ → Body → List Item → Test
+network_rule around name params ports exec_at body items =
+    params_all around.known [] params >>= (λ scope.
+    ports_all around.known scope [] ports >>= (λ own.
+    inside_rule around name own exec_at body items scope))
 
 -- The model of `top` is declared, and its arguments are of its parameters' types; they see no name.
-abbrev pub top_rule : Known → ℕ → Id → List Expr → Test
-top_rule known at name args = args_of (around_func known) name args [] >>= (λ height. within at height)
+abbrev pub top_rule : Around → ℕ → Id → List Expr → Test
+top_rule around at name args = args_of around name args [] >>= (λ height. within at height)
 
 -- Pass 2: a declaration, and what is known behind it.
 abbrev pub decl_rule : Known → Decl → Result Known Wrong
@@ -90,10 +96,11 @@ decl_rule known (decl.Enum name variants) = distinct [] variants >>= (λ _. Ok (
 decl_rule known (decl.Rec name fields) = record_rule known name fields >>= (λ _. Ok (behind_type known name))
 decl_rule known (decl.Func name params result stmts value) =
     func_of known name params result stmts value >>= (λ func. Ok (behind_func known func))
-decl_rule known (decl.Atomic at name params body) = atomic_rule known at name params body >>= (λ _. Ok known)
+decl_rule known (decl.Atomic at name params body) =
+    atomic_rule (around_with known (body_names params body)) at name params body >>= (λ _. Ok known)
 decl_rule known (decl.Network at name params ports exec_at body items) =
-    network_rule known name params ports exec_at body items >>= (λ _. Ok known)
-decl_rule known (decl.Top at name args) = top_rule known at name args >>= (λ _. Ok known)
+    network_rule (around_with known (body_names params body)) name params ports exec_at body items >>= (λ _. Ok known)
+decl_rule known (decl.Top at name args) = top_rule (around_with known []) at name args >>= (λ _. Ok known)
 
 -- declarations in text order, each over what is known behind those before it
 abbrev pub decls_rule : Known → List Decl → Test

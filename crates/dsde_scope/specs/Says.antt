@@ -1,5 +1,5 @@
 -- What a check answers.
-use Rattle.std.specs.Prelude.{◌≡◌, ℕ, Result, Ok, Err}
+use Rattle.std.specs.Prelude.{◌≡◌, ℕ, Option, None, Some, Result, Ok, Err}
 use Rattle.dsde_rules.specs.declared.wrong.Wrong.{Wrong}
 use Rattle.dsde_rules.specs.Judge.{Scope}
 use Rattle.dsde_rules.specs.Blocks.{Passed}
@@ -23,3 +23,9 @@ abbrev pub Leaves : {A : Type 0} → Result A Wrong → Result (Unit {0}) CheckE
 Leaves meant (Ok _) after = meant ≡ Ok after
 Leaves meant (Err (end_of.Wrong kind at)) after = meant ≡ Err (record { kind = kind; at = at })
 Leaves meant (Err end_of.Memory) after = Unit {0}
+
+-- The same of the first wrong thing, which there is none of where the answer is Ok.
+abbrev pub Tells : {A : Type 0} → Option Wrong → Result A CheckError → Type 0
+Tells first (Ok _) = first ≡ None
+Tells first (Err (end_of.Wrong kind at)) = first ≡ Some (record { kind = kind; at = at })
+Tells first (Err end_of.Memory) = Unit {0}

@@ -7,13 +7,13 @@ ghost use Rattle.dsde_rules.specs.Blocks.{new_field, fields_all, params_all, por
 ghost use Rattle.dsde_scope.specs.Says.{Says};
 
 use crate::CheckError;
-use crate::names::{add_name, bind, unbound};
+use crate::names::{bind, unbound};
 use crate::written::type_of;
 use dsde_lists::Memory;
 use dsde_names::Names;
 use dsde_rules::{BindingKind, WrongKind};
 use dsde_syntax::{Body, Id, PortDecl, StateDecl, Typed};
-use dsde_tables::{Known, Local, Member, PortEntry, Word};
+use dsde_tables::{Known, Local, Member, PortEntry, Word, add_name};
 use std::alloc::Global;
 
 /// The fields of a record: each differs from those before it, else `Duplicate` at it, and each type

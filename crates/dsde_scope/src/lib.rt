@@ -6,13 +6,12 @@ mod error;
 mod headers;
 mod names;
 mod seeing;
-mod types;
 mod written;
 
 pub use around::Around;
+pub use dsde_tables::{add_name, copy_type, depth_of, is_same, narrow};
 pub use error::CheckError;
 pub use headers::{body_names, fields_all, params_all, ports_all};
-pub use names::{add_name, apart, bind, unbound};
+pub use names::{apart, bind, unbound};
 pub use seeing::{above, held_type, item_type, seen_as, wanted, within};
-pub use types::{copy_type, depth_of, is_same};
-pub use written::{narrow, type_of};
+pub use written::type_of;

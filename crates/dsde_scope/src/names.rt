@@ -4,7 +4,7 @@ ghost use Rattle.std.specs.Prelude.{◌≡◌, ◌++◌, ◌∷◌, [], false, O
 ghost use Rattle.std.specs.List.{list_any};
 ghost use Rattle.std.specs.Str.{bytes_eq};
 ghost use Rattle.dsde_names.specs.Table.{is_among};
-ghost use Rattle.dsde_rules.specs.Tables.{binding_name, with_name};
+ghost use Rattle.dsde_rules.specs.Tables.{binding_name};
 ghost use Rattle.dsde_rules.specs.Steps.{apart};
 ghost use Rattle.dsde_rules.specs.Judge.{unbound};
 ghost use Rattle.dsde_scope.specs.Says.{Says};
@@ -24,14 +24,6 @@ pub fn apart(names: &Names<Word<'_>>, id: &Id) -> Result<(), CheckError>
     if names.has(id.name.as_slice()) {
         return Err(CheckError::Wrong(WrongKind::Duplicate, id.at));
     }
-    Ok(())
-}
-
-/// Adds a name, unless it is among them.
-pub fn add_name<'m>(names: &mut Names<Word<'m>>, name: &'m [u8]) -> Result<(), Memory>
-    ensures { OnOk result (names.new ≡ with_name names.old name.now) }
-{
-    names.insert(Word::of(name))?;
     Ok(())
 }
 

@@ -7,8 +7,8 @@ ghost use Rattle.dsde_rules.specs.Judge.{seen_as};
 ghost use Rattle.dsde_scope.specs.Says.{Says};
 
 use crate::CheckError;
-use crate::types::{copy_type, is_same};
 use dsde_rules::{Seen, WrongKind};
+use dsde_tables::{copy_type, is_same};
 use dsde_values::Ty;
 use std::alloc::Global;
 

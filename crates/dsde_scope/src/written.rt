@@ -1,15 +1,14 @@
 //! Types as they are written.
 
-ghost use Rattle.std.specs.Prelude.{◌≡◌, IfOk};
+ghost use Rattle.std.specs.Prelude.{◌≡◌};
 ghost use Rattle.dsde_rules.specs.Judge.{made_type, type_at, type_of, type_of_id};
 ghost use Rattle.dsde_scope.specs.Says.{Says};
 
 use crate::CheckError;
-use crate::types::{deeper, depth_at};
-use dsde_lists::{Boxed, Memory};
+use dsde_lists::Boxed;
 use dsde_rules::{TypeSeen, WrongKind};
 use dsde_syntax::{Id, TypeName};
-use dsde_tables::Known;
+use dsde_tables::{Known, deeper, depth_at, narrow};
 use dsde_values::Ty;
 use std::alloc::Global;
 
@@ -62,16 +61,6 @@ fn type_of_id(known: &Known<'_>, id: &Id) -> Result<TypeSeen, CheckError>
         ty: type_at(known, number),
         depth: depth_at(known.depths(), number),
     })
-}
-
-/// A number of 32 bits. A text has fewer tokens than 2^32, so that no number of its parts is more.
-pub fn narrow(number: usize) -> Result<u32, Memory>
-    ensures { IfOk result (λ narrow. narrow ≡ number) }
-{
-    match u32::try_from(number) {
-        Ok(narrow) => Ok(narrow),
-        Err(_) => Err(Memory),
-    }
 }
 
 /// The type with this number: an enum or a record.

@@ -1,11 +1,17 @@
 //! What is known of a file at a place in it.
 
-ghost use Rattle.std.specs.Prelude.{◌≡◌, slice_get};
-ghost use Rattle.std.specs.Option.{option_copied};
+ghost use Rattle.std.specs.Prelude.{◌≡◌, IfOk, OnOk};
+ghost use Rattle.dsde_rules.specs.Tables.{known_of};
+ghost use Rattle.dsde_rules.specs.Rules.{behind_type, behind_func};
 
+use crate::text::{depths, models, shapes};
+use crate::words::type_words;
 use crate::{Callee, Made, ModelEntry, TypeEntry, Word};
+use dsde_lists::Memory;
 use dsde_names::Names;
+use dsde_syntax::{Decl, Id};
 use dsde_values::Seq;
+use std::alloc::Global;
 use std::marker::Model;
 
 /// What is known of a file at a place in it. Contracts see it as the rules' `Known`.
@@ -31,6 +37,40 @@ impl<'m> Model for Known<'m> {
 }
 
 impl<'m> Known<'m> {
+    /// What is known before the first declaration.
+    pub fn of(alloc: Global, decls: &'m [Decl]) -> Result<Known<'m>, Memory>
+        ensures { IfOk result (λ known. known ≡ known_of decls.now) }
+    {
+        let words = type_words(alloc, decls)?;
+        let types = shapes(alloc, &words, decls)?;
+        let depths = depths(alloc, types.as_slice())?;
+        let models = models(alloc, &words, decls)?;
+        Ok(Known {
+            words,
+            types,
+            depths,
+            models,
+            before: Names::new(alloc),
+            funcs: Names::new(alloc),
+        })
+    }
+
+    /// Adds the identifier of a type that is declared.
+    pub fn behind_type(&mut self, name: &'m Id) -> Result<(), Memory>
+        ensures { OnOk result (self.new ≡ behind_type self.old name.now) }
+    {
+        self.before.insert(Word::of(name.name.as_slice()))?;
+        Ok(())
+    }
+
+    /// Adds a function that is declared.
+    pub fn behind_func(&mut self, func: Callee<'m>) -> Result<(), Memory>
+        ensures { OnOk result (self.new ≡ behind_func self.old func.entry) }
+    {
+        self.funcs.insert(func)?;
+        Ok(())
+    }
+
     /// The types that the file declares, each at its number.
     pub fn types(&self) -> &[Made<'m>]
         ensures { result.now ≡ self.now.types }

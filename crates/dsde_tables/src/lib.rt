@@ -5,9 +5,13 @@
 mod entries;
 mod known;
 mod made;
+mod text;
+mod types;
 mod word;
+mod words;
 
 pub use entries::{Callee, FamilyEntry, Local, Member, ModelEntry, PortEntry, TypeEntry};
 pub use known::Known;
 pub use made::Made;
-pub use word::Word;
+pub use types::{copy_type, deeper, depth_at, depth_of, is_same, narrow};
+pub use word::{Word, add_name};

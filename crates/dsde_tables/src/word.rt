@@ -1,8 +1,10 @@
 //! Names where they stand in a text.
 
-ghost use Rattle.std.specs.Prelude.{◌≡◌};
+ghost use Rattle.std.specs.Prelude.{◌≡◌, OnOk};
+ghost use Rattle.dsde_rules.specs.Tables.{with_name};
 
-use dsde_names::Named;
+use dsde_lists::Memory;
+use dsde_names::{Named, Names};
 use std::marker::Model;
 
 /// A name where it stands in a text. Contracts see it as the name.
@@ -34,4 +36,12 @@ impl<'m> Named for Word<'m> {
     fn name(&self) -> &[u8] {
         self.name
     }
+}
+
+/// Adds a name, unless it is among them.
+pub fn add_name<'m>(names: &mut Names<Word<'m>>, name: &'m [u8]) -> Result<(), Memory>
+    ensures { OnOk result (names.new ≡ with_name names.old name.now) }
+{
+    names.insert(Word::of(name))?;
+    Ok(())
 }

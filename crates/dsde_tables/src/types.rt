@@ -38,7 +38,7 @@ pub fn is_same(ty: &Ty, other: &Ty) -> bool
 }
 
 /// A depth one more than this; counted up to 65.
-pub(crate) fn deeper(depth: u32) -> u32
+pub fn deeper(depth: u32) -> u32
     ensures { result ≡ deeper depth }
 {
     depth.min(64) + 1
@@ -57,11 +57,21 @@ pub fn depth_of(depths: &[u32], ty: &Ty) -> u32
 }
 
 /// The depth of the record with this number.
-pub(crate) fn depth_at(depths: &[u32], number: u32) -> u32
+pub fn depth_at(depths: &[u32], number: u32) -> u32
     ensures { result ≡ unwrap_or (slice_get depths.now number) 0 }
 {
     match depths.get(number as usize) {
         Some(depth) => *depth,
         None => 0,
+    }
+}
+
+/// A number of 32 bits. A text has fewer tokens than 2^32, so that no number of its parts is more.
+pub fn narrow(number: usize) -> Result<u32, Memory>
+    ensures { IfOk result (λ narrow. narrow ≡ number) }
+{
+    match u32::try_from(number) {
+        Ok(narrow) => Ok(narrow),
+        Err(_) => Err(Memory),
     }
 }

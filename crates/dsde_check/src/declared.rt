@@ -1,0 +1,229 @@
+//! A declaration, over what is known before it.
+
+ghost use Rattle.std.specs.Prelude.{◌≡◌, [], length, slice_get, unwrap_or};
+ghost use Rattle.dsde_rules.specs.Rules.{around_with, decl_rule, record_rule, atomic_rule, inside_rule, network_rule, top_rule};
+ghost use Rattle.dsde_rules.specs.Blocks.{body_names};
+ghost use Rattle.dsde_scope.specs.Says.{Says, Leaves};
+
+use crate::CheckError;
+use crate::own::distinct;
+use dsde_blocks::{body as body_rule, func};
+use dsde_links::{args as args_rule, structure};
+use dsde_names::Names;
+use dsde_rules::WrongKind;
+use dsde_scope::{Around, body_names, fields_all, params_all, ports_all, within};
+use dsde_syntax::{Body, Decl, Expr, Id, Item, PortDecl, Typed};
+use dsde_tables::{Known, Local, PortEntry, Word};
+use std::alloc::Global;
+
+/// A declaration, over what is known before it, which becomes what is known behind it.
+pub(crate) fn decl_rule<'m>(
+    alloc: Global,
+    known: &mut Known<'m>,
+    decl: &'m Decl,
+) -> Result<(), CheckError>
+    ensures { Leaves (decl_rule known.old decl.now) result known.new }
+{
+    match decl {
+        Decl::Enum { name, variants } => {
+            distinct(alloc, variants.as_slice())?;
+            known.behind_type(name)?;
+        }
+        Decl::Rec { name, fields } => {
+            record_rule(alloc, known, name, fields.as_slice())?;
+            known.behind_type(name)?;
+        }
+        Decl::Func {
+            name,
+            params,
+            result: gives,
+            stmts,
+            value,
+        } => {
+            let callee = func(
+                alloc,
+                known,
+                name,
+                params.as_slice(),
+                gives,
+                stmts.as_slice(),
+                value,
+            )?;
+            known.behind_func(callee)?;
+        }
+        Decl::Atomic {
+            at,
+            name,
+            params,
+            body,
+        } => atomic(alloc, known, *at, name, params.as_slice(), body)?,
+        Decl::Network {
+            at: _,
+            name,
+            params,
+            ports,
+            exec_at,
+            body,
+            items,
+        } => network(
+            alloc,
+            known,
+            name,
+            params.as_slice(),
+            ports.as_slice(),
+            *exec_at,
+            body,
+            items.as_slice(),
+        )?,
+        Decl::Top { at, name, args } => top(alloc, known, *at, name, args.as_slice())?,
+    }
+    Ok(())
+}
+
+/// A record's fields differ and have types that are declared before, and it is no deeper than 64.
+fn record_rule(
+    alloc: Global,
+    known: &Known<'_>,
+    name: &Id,
+    fields: &[Typed],
+) -> Result<(), CheckError>
+    ensures { Says (record_rule known.now name.now fields.now) result }
+{
+    fields_all(alloc, known, fields)?;
+    if own_depth(known) > 64 {
+        return Err(CheckError::Wrong(WrongKind::Limit, name.at));
+    }
+    Ok(())
+}
+
+/// The depth of the type that is declared next.
+fn own_depth(known: &Known<'_>) -> u32
+    ensures { result ≡ unwrap_or (slice_get known.now.depths (length known.now.before)) 0 }
+{
+    match known.depths().get(known.before().len()) {
+        Some(depth) => *depth,
+        None => 0,
+    }
+}
+
+/// An atomic model.
+fn atomic(
+    alloc: Global,
+    known: &Known<'_>,
+    at: u32,
+    name: &Id,
+    params: &[Typed],
+    body: &Body,
+) -> Result<(), CheckError>
+    ensures { Says (atomic_rule (around_with known.now (body_names params.now body.now)) at name.now params.now body.now) result }
+{
+    let reserved = body_names(alloc, params, body)?;
+    atomic_rule(alloc, known, &reserved, at, name, params, body)
+}
+
+/// A network.
+fn network(
+    alloc: Global,
+    known: &Known<'_>,
+    name: &Id,
+    params: &[Typed],
+    ports: &[PortDecl],
+    exec_at: u32,
+    body: &Body,
+    items: &[Item],
+) -> Result<(), CheckError>
+    ensures { Says (network_rule (around_with known.now (body_names params.now body.now)) name.now params.now ports.now exec_at body.now items.now) result }
+{
+    let reserved = body_names(alloc, params, body)?;
+    network_rule(
+        alloc, known, &reserved, name, params, ports, exec_at, body, items,
+    )
+}
+
+/// The `top` of a file.
+fn top(
+    alloc: Global,
+    known: &Known<'_>,
+    at: u32,
+    name: &Id,
+    args: &[Expr],
+) -> Result<(), CheckError>
+    ensures { Says (top_rule (around_with known.now []) at name.now args.now) result }
+{
+    let reserved = Names::new(alloc);
+    top_rule(alloc, known, &reserved, at, name, args)
+}
+
+/// An atomic model, where these names are reserved.
+fn atomic_rule<'k>(
+    alloc: Global,
+    known: &'k Known<'k>,
+    reserved: &'k Names<Word<'k>>,
+    at: u32,
+    name: &Id,
+    params: &'k [Typed],
+    body: &'k Body,
+) -> Result<(), CheckError>
+    ensures { Says (atomic_rule (around_with known.now reserved.now) at name.now params.now body.now) result }
+{
+    let around = Around::new(alloc, known, reserved);
+    let mut scope = params_all(alloc, known, params)?;
+    let ports = ports_all(alloc, known, &scope, body.ports.as_slice())?;
+    let height = body_rule(&around, at, &ports, body, &mut scope)?;
+    within(name.at, height)
+}
+
+/// A network, where these names are reserved: its ports may share names with those of its executive.
+fn network_rule<'k>(
+    alloc: Global,
+    known: &'k Known<'k>,
+    reserved: &'k Names<Word<'k>>,
+    name: &Id,
+    params: &'k [Typed],
+    ports: &'k [PortDecl],
+    exec_at: u32,
+    body: &'k Body,
+    items: &'k [Item],
+) -> Result<(), CheckError>
+    ensures { Says (network_rule (around_with known.now reserved.now) name.now params.now ports.now exec_at body.now items.now) result }
+{
+    let around = Around::new(alloc, known, reserved);
+    let mut scope = params_all(alloc, known, params)?;
+    let own = ports_all(alloc, known, &scope, ports)?;
+    inside_rule(&around, name, &own, exec_at, body, items, &mut scope)
+}
+
+/// What stands in a network behind its own ports: its executive, and its structure.
+fn inside_rule<'k>(
+    around: &Around<'k>,
+    name: &Id,
+    ports: &Names<PortEntry<'k>>,
+    exec_at: u32,
+    body: &'k Body,
+    items: &'k [Item],
+    scope: &mut Names<Local<'k>>,
+) -> Result<(), CheckError>
+    ensures { Says (inside_rule around.now name.now ports.now exec_at body.now items.now scope.old) result }
+{
+    let execs = ports_all(around.alloc(), around.known(), scope, body.ports.as_slice())?;
+    let height = body_rule(around, exec_at, &execs, body, scope)?;
+    let most = structure(around, ports, &execs, items, scope)?;
+    within(name.at, height.max(most))
+}
+
+/// The model of `top` is declared, and its arguments are of its parameters' types; they see no name.
+fn top_rule<'k>(
+    alloc: Global,
+    known: &'k Known<'k>,
+    reserved: &'k Names<Word<'k>>,
+    at: u32,
+    name: &Id,
+    args: &'k [Expr],
+) -> Result<(), CheckError>
+    ensures { Says (top_rule (around_with known.now reserved.now) at name.now args.now) result }
+{
+    let around = Around::new(alloc, known, reserved);
+    let mut scope = Names::new(alloc);
+    let height = args_rule(&around, name, args, &mut scope)?;
+    within(at, height)
+}
