@@ -14,6 +14,8 @@ use dsde_syntax::{Bracket, EndPart, Id};
 use dsde_tables::{Local, PortEntry};
 use std::alloc::Global;
 
+/// An end at this port, which is an out port or an in port as it is wanted, else `BadLink` at its
+/// name.
 fn port_at(
     alloc: Global,
     name: &Id,
@@ -65,6 +67,7 @@ fn model_end(
     end_at(around.alloc(), entry.ports(), name, out, height, false)
 }
 
+/// An end at a component of the model with this number: its index, and then its port.
 fn kid_end<'m>(
     site: &Site<'_, 'm>,
     is_source: bool,

@@ -56,6 +56,7 @@ fn comp_family<'m>(
     with_comp(families, at, name, number)
 }
 
+/// The models of the components that an item makes, itself or in its braces.
 #[cycle(entering)]
 fn enter<'m>(
     known: &Known<'m>,
@@ -99,6 +100,7 @@ pub(crate) fn enter_all<'m>(
     Ok(())
 }
 
+/// The models of the components in the arms of a choice, in text order.
 #[cycle(entering)]
 fn enter_arms<'m>(
     known: &Known<'m>,

@@ -156,6 +156,7 @@ pub(crate) fn inner<'m>(
     Ok(height)
 }
 
+/// The height of the highest of items in text order, each in the scope that the one before left.
 #[cycle(walking)]
 fn walk_all<'m>(
     site: &Site<'_, 'm>,
@@ -190,6 +191,7 @@ fn arms_walk<'m>(
     Ok(height)
 }
 
+/// The height of an arm of a choice, on what came before it of this height.
 #[cycle(walking)]
 fn arm_walk<'m>(
     site: &Site<'_, 'm>,

@@ -80,6 +80,7 @@ fn fresh_key<'m>(
     Ok(())
 }
 
+/// The height of a translation of two names, which differ from all others and from each other.
 fn keyed_via<'m>(
     around: &Around<'m>,
     source: &Ty,
@@ -116,6 +117,7 @@ fn key_via<'m>(
     Ok(seen.height.max(height))
 }
 
+/// The height of a translation, which sees one name or two.
 fn via_of<'m>(
     around: &Around<'m>,
     source: &Ty,
