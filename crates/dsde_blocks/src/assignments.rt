@@ -95,6 +95,7 @@ pub(crate) fn send_to<'m>(
     }
 }
 
+/// A value that is sent through this port, whose name stands here.
 fn send_of<'m>(
     around: &Around<'m>,
     port: &PortEntry<'_>,

@@ -110,6 +110,7 @@ fn external(at: u32, body: &Body) -> Result<(), CheckError>
     Ok(())
 }
 
+/// Whether a port is an in port.
 fn has_input(ports: &[PortDecl]) -> bool
     ensures { result ≡ list_any (λ (port : PortDecl). not port.out) ports.now }
 {

@@ -93,6 +93,7 @@ fn inputs_seen<'m>(
     Ok(())
 }
 
+/// An in port is seen by the list of the values that came, behind other names.
 fn input_seen<'m>(
     alloc: Global,
     scope: &mut Names<Local<'m>>,

@@ -146,6 +146,7 @@ fn walk_arms<'m>(
     Ok(height)
 }
 
+/// The height of one arm.
 #[cycle(walking)]
 fn walk_arm<'m>(
     around: &Around<'m>,
