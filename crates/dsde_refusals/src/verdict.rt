@@ -38,6 +38,7 @@ fn refused(alloc: Global, text: &[u8]) -> Result<String> {
         Err(ReadModel::Refused { kind, line, column }) => {
             write!(refused, "{kind:?} {line}:{column}")?
         }
+        Err(ReadModel::TooLong) => write!(refused, "too long")?,
         Err(ReadModel::Memory) => bail!("memory ran out"),
     }
     Ok(refused)
