@@ -1,5 +1,5 @@
 -- What is known of bytes under a name, and where no model was loaded.
-use Rattle.std.proofs.Common.{◌≡◌, ℕ, ◌<◌, ◌⊎◌, inl, inr, List, [], ◌++◌, length, take, Result, Ok, Err, refl, sym, ap, subst, ◌∙◌}
+use Rattle.std.proofs.Common.{◌≡◌, ℕ, ◌<◌, ◌⊎◌, inl, inr, List, length, Result, Ok, Err, refl, sym, ap, subst, ◌∙◌}
 use Rattle.std.specs.Prelude.{Option, Some, None, ⊤, IfSome, IfOk, IsSomeAnd}
 use Rattle.std.proofs.lemmas.List.{append-nil}
 use Rattle.dsde_syntax.specs.declared.decl.Model.{Model}
@@ -17,7 +17,7 @@ use Rattle.dsde_status.specs.declared.status.Status.{Status}
 use Rattle.dsde_status.specs.declared.status.Status.TheVariants.{Done, Refused, Usage, BadInput, ModelFault, Unread, Unwritten, Memory, BadSave}
 use Rattle.dsde_status.specs.declared.status.What.TheVariants as what
 use Rattle.dsde_status.specs.declared.status.Why.TheVariants as why
-use Rattle.dsde_cli.specs.Answer.{Answers, AnswersFront}
+use Rattle.dsde_cli.specs.Answer.{Answers}
 use Rattle.dsde_cli.specs.Causes.{AcceptsSome, Runs, RunsSome, RefusesRun, Under, Has, Holds, HoldsModel, NoModel, Tells}
 use Rattle.dsde_cli.specs.Outcome.{Comes}
 use Rattle.dsde_cli.proofs.Outcomes.{front-none}

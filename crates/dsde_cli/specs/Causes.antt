@@ -11,7 +11,6 @@ use Rattle.dsde_verdict.specs.declared.refusal.Refusal.TheVariants.{NotBuilt}
 use Rattle.dsde_verdict.specs.Verdict.{Accepts, Refuses}
 use Rattle.dsde_status.specs.declared.status.Status.{Status}
 use Rattle.dsde_status.specs.declared.status.Status.TheVariants.{Done, Refused, Usage, BadInput, ModelFault, Unread, Unwritten, Memory}
-use Rattle.dsde_status.specs.declared.status.What.{What}
 use Rattle.dsde_status.specs.declared.status.What.TheVariants as what
 use Rattle.dsde_status.specs.declared.status.Why.{Why}
 use Rattle.dsde_status.specs.declared.status.Why.TheVariants as why

@@ -1,5 +1,3 @@
-use Rattle.std.proofs.Common.{◌≡◌, List, ℕ, Some}
-use Rattle.dsde_io.specs.Fault.{Rose}
 use Rattle.dsde_cli.specs.Answer.{Answers, answer_of}
 use Rattle.dsde_cli.proofs.Loads.{answers-cut, check_cut, check_tells, check_unrefused, told_same}
 use Rattle.dsde_cli.proofs.check.load_and_check.Goals as goal
