@@ -1,6 +1,9 @@
 //! What is seen of an expression, or the first wrong thing in it.
 #![tactic(auto)]
 
+mod builtins;
+mod declared;
 mod expr;
+mod steps;
 
 pub use expr::{fit_all, judge, test};
