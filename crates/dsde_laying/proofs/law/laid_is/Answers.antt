@@ -1,0 +1,6 @@
+
+use Rattle.dsde_laying.proofs.Lays.{laid-is}
+use Rattle.dsde_laying.proofs.law.laid_is.Goals as goal
+
+pub returns : goal.returns
+returns c = λ known e scope table. laid-is known e scope table
