@@ -481,12 +481,16 @@ module _ (known : Known) where
   expr-case (Expr-F.NoneOf at own) = expr-roll (Expr-F.NoneOf at own) (record { lays = λ scope table. refl })
   expr-case (Expr-F.EmptyOf at own) = expr-roll (Expr-F.EmptyOf at own) (record { lays = λ scope table. refl })
   expr-case (Expr-F.Builtin which at args) = expr-roll (Expr-F.Builtin which at (map (λ e. e.0) args))
-      (record { lays = λ scope table. parts-lay (λ (e : E). e.0) L R (λ e. e.1) _ _ (builtin_node which at) args scope table
-          (ap (builtin_type which) (head-types (λ (e : E). e.0) L R (λ e. e.1) args scope (roomy table))) })
+      (record {
+        lays = λ scope table. parts-lay (λ (e : E). e.0) L R (λ e. e.1) _ _ (builtin_node which at) args scope table
+            (ap (builtin_type which) (head-types (λ (e : E). e.0) L R (λ e. e.1) args scope (roomy table)));
+      })
   expr-case (Expr-F.Paren at (e, inner)) = expr-roll (Expr-F.Paren at e) inner
   expr-case (Expr-F.List at items) = expr-roll (Expr-F.List at (map (λ e. e.0) items))
-      (record { lays = λ scope table. parts-lay (λ (e : E). e.0) L R (λ e. e.1) _ _ (node.List at) items scope table
-          (ap ty.List (head-types (λ (e : E). e.0) L R (λ e. e.1) items scope (roomy table))) })
+      (record {
+        lays = λ scope table. parts-lay (λ (e : E). e.0) L R (λ e. e.1) _ _ (node.List at) items scope table
+            (ap ty.List (head-types (λ (e : E). e.0) L R (λ e. e.1) items scope (roomy table)));
+      })
   expr-case (Expr-F.Each at name (l, list) None (v, value)) = expr-roll (Expr-F.Each at name l None v)
       (each-lays name (R l) None None (L v) (R v) no-cond value (L l) list)
   expr-case (Expr-F.Each at name (l, list) (Some (c, cond)) (v, value)) = expr-roll (Expr-F.Each at name l (Some c) v)

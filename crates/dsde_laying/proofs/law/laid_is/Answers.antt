@@ -1,4 +1,3 @@
-
 use Rattle.dsde_laying.proofs.Lays.{laid-is}
 use Rattle.dsde_laying.proofs.law.laid_is.Goals as goal
 
