@@ -31,7 +31,7 @@ failed found next end_of.Memory said = tt
 pub link_failed : {X : Type 0} (link : X → Link) (items : List X) (index : ℕ) (own : X) (left : Seen) (scope : Scope) (end : CheckError) → index < length items → own ≡ get_or items index own → Says (link own left scope) (Err end) → Says (links_from left (map link (drop index items)) scope) (Err end)
 link_failed link items index own left scope end within is said =
     subst (λ rest. Says (links_from left (map link rest) scope) (Err end)) (sym (one_of items index own within is))
-      (failed _ (λ seen. links_from seen (map link (drop (index + 1) items)) scope) end said)
+    (failed _ (λ seen. links_from seen (map link (drop (index + 1) items)) scope) end said)
 
 -- what is wrong is passed on as it is
 pub passed_on : (meant : Result Seen Wrong) (end : CheckError) (answer : Result Seen CheckError) → IsErr answer → IsErrAnd answer (λ own. own ≡ end) → Says meant (Err end) → Says meant answer

@@ -1,3 +1,4 @@
 pub mod Chains
+pub mod Falls
 pub mod Folds
 pub mod Order

@@ -30,10 +30,7 @@ fn variants_at<'k, 'm>(known: &'k Known<'m>, number: u32) -> Option<&'k Names<Wo
 }
 
 /// The fields of the record with this number.
-pub(crate) fn fields_at<'k, 'm>(
-    known: &'k Known<'m>,
-    number: u32,
-) -> Option<&'k Names<Member<'m>>>
+pub(crate) fn fields_at<'k, 'm>(known: &'k Known<'m>, number: u32) -> Option<&'k Names<Member<'m>>>
     ensures { option_copied result ≡ fields_at known.now number }
 {
     match known.types().get(number as usize) {
@@ -86,12 +83,7 @@ fn variant_in(
     Ok(seen_as(Ty::Enum(number), 0, at))
 }
 
-fn variant_at(
-    known: &Known<'_>,
-    owner: &Id,
-    variant: &Id,
-    number: u32,
-) -> Result<Seen, CheckError>
+fn variant_at(known: &Known<'_>, owner: &Id, variant: &Id, number: u32) -> Result<Seen, CheckError>
     ensures { Says (variant_at known.now owner.now variant.now number) result }
 {
     let Some(variants) = variants_at(known, number) else {
@@ -102,11 +94,7 @@ fn variant_at(
 
 /// `owner::variant`: `Unknown` at an owner that is no enum that is declared before, and at a name that
 /// is none of its variants.
-pub(crate) fn variant_of(
-    known: &Known<'_>,
-    owner: &Id,
-    variant: &Id,
-) -> Result<Seen, CheckError>
+pub(crate) fn variant_of(known: &Known<'_>, owner: &Id, variant: &Id) -> Result<Seen, CheckError>
     ensures { Says (variant_of known.now owner.now variant.now) result }
 {
     let Some(number) = known.before().number_of(owner.name.as_slice()) else {

@@ -10,8 +10,8 @@ ghost use Rattle.dsde_judge.specs.Parts.{judge_tail, judge_sign_tail, judge_suff
 use crate::builtins::{builtin_seen, part_type, row_of};
 use crate::declared::{field_of, fields_at, variant_of, whole_record};
 use crate::steps::{
-    call_seen, compared, elapsed, empty_of, item_seen, list_seen, made_list, name_of, negative, none_of,
-    operand, sign_seen,
+    call_seen, compared, elapsed, empty_of, item_seen, list_seen, made_list, name_of, negative,
+    none_of, operand, sign_seen,
 };
 use dsde_names::Names;
 use dsde_rules::{BindingKind, Fitted, Part, Seen, WrongKind};
@@ -76,7 +76,10 @@ pub fn judge<'m>(
             let seen = judge(around, of.get(), scope)?;
             negative(around, *at, &seen)
         }
-        Expr::Post { first, suffixes: rest } => {
+        Expr::Post {
+            first,
+            suffixes: rest,
+        } => {
             let left = judge(around, first.get(), scope)?;
             suffixes(around, rest.as_slice(), left, scope)
         }
