@@ -1,5 +1,5 @@
 -- What stands behind the first part of a chain is less deep than the chain.
-use Rattle.std.proofs.Common.{◌≡◌, ◌<◌, List, arith}
+use Rattle.std.proofs.Common.{◌<◌, List, arith}
 use denote.Param.Weighed.{most}
 use Rattle.dsde_syntax.specs.declared.expr.Expr.{Expr}
 use Rattle.dsde_syntax.specs.declared.expr.SignTail.{SignTail}

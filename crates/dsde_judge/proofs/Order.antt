@@ -1,5 +1,5 @@
 -- The names of a new record that are not as many as its fields are not all of them in their order.
-use Rattle.std.proofs.Common.{◌≡◌, ◌≢◌, ℕ, not, Err, false, true, List, [], ◌∷◌, ◌&&◌, length, map, refl, ap, arith}
+use Rattle.std.proofs.Common.{◌≡◌, ◌≢◌, ℕ, not, Err, false, List, [], ◌∷◌, length, map, refl, ap, arith}
 use Rattle.dsde_syntax.specs.declared.expr.FieldSet.{FieldSet}
 use Rattle.dsde_values.specs.declared.types.Field.{Field}
 use Rattle.dsde_rules.specs.declared.known.Around.{Around}
