@@ -1,2 +1,6 @@
 mod Seams
 mod Lays
+mod PieceLays
+mod StatementLays
+mod ItemLays
+mod ModelLays

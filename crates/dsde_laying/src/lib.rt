@@ -3,4 +3,4 @@
 
 mod law;
 
-pub use law::laid_is;
+pub use law::{laid_is, model_laid};

@@ -10,6 +10,7 @@ use Rattle.dsde_syntax.specs.declared.item.EndPart.TheVariants as end_part
 use Rattle.dsde_syntax.specs.declared.item.Item.{Item}
 use Rattle.dsde_syntax.specs.declared.item.Item.TheOpen.{Item-F, ItemArm-F}
 use Rattle.dsde_syntax.specs.declared.item.Item.TheFolds.{fold-Item}
+use Rattle.dsde_syntax.specs.declared.item.ViaKey.{ViaKey}
 use Rattle.dsde_syntax.specs.declared.item.ViaPart.{ViaPart}
 use Rattle.dsde_values.specs.declared.types.Field.{Field}
 use Rattle.dsde_values.specs.declared.types.Ty.{Ty}
@@ -119,16 +120,20 @@ via_body known names via key made scope next =
       scope = scope;
     }
 
--- a translation of values of this type
+-- a translation of values of this type, with this key
+abbrev pub via_by : Known → Ty → ViaPart → Option ViaKey → Step MakeVia
+via_by known own via None =
+    via_body known (with_slot [] via.value.name own) via false (λ number. record { id = record { 0 = number }; key = None })
+via_by known own via (Some key) =
+    expr (resolve known key.value) (λ value ty.
+    via_body known (with_slot (with_slot [] via.value.name own) key.name.name ty) via true
+    (λ number. record { id = record { 0 = number }; key = Some value }))
+
 abbrev pub resolve_via : Known → Ty → ViaPart → Step MakeVia
-resolve_via known own via =
-    elim via.key [
-      | None ↦ via_body known (with_slot [] via.value.name own) via false (λ number. record { id = record { 0 = number }; key = None })
-      | Some key ↦
-          expr (resolve known key.value) (λ value key_ty.
-          via_body known (with_slot (with_slot [] via.value.name own) key.name.name key_ty) via true
-          (λ number. record { id = record { 0 = number }; key = Some value }))
-    ]
+resolve_via known own via = via_by known own via via.key
+
+abbrev pub maybe_via : Known → Ty → Option ViaPart → Step (Option MakeVia)
+maybe_via known own via = maybe (option_map (resolve_via known own) via)
 
 -- expressions, one after another
 abbrev pub resolve_all : Known → List Expr → Step (List ExprId)
@@ -142,7 +147,7 @@ item_step place (Item-F.Comp at name index model args) =
 item_step place (Item-F.Link at source target via) =
     resolve_end place true source >>= (λ one.
     resolve_end place false target >>= (λ two.
-    maybe (option_map (resolve_via place.known (slot_type (end_ports place true source.part) source.port.name)) via) >>= (λ own.
+    maybe_via place.known (slot_type (end_ports place true source.part) source.port.name) via >>= (λ own.
     give (make.Link at one two own))))
 item_step place (Item-F.Let name value) = expr (resolve place.known value) (λ own ty. bound name.name ty (make.Let own))
 item_step place (Item-F.If arms other) =
