@@ -6,6 +6,7 @@ ghost use Rattle.dsde_rules.specs.Judge.{judge};
 ghost use Rattle.dsde_rules.specs.Blocks.{let_of, may_set, send_of, send_to, set_to, var_kind};
 ghost use Rattle.dsde_rules.specs.declared.wrong.WrongKind.TheVariants.{WrongType};
 ghost use Rattle.dsde_scope.specs.Says.{Says, Walks};
+ghost use Rattle.dsde_blocks.specs.Parts.{taken};
 
 use dsde_judge::judge;
 use dsde_names::Names;
@@ -13,6 +14,7 @@ use dsde_rules::{BindingKind, WrongKind};
 use dsde_scope::{Around, CheckError, above, bind, copy_type, wanted};
 use dsde_syntax::{Expr, Id};
 use dsde_tables::{Local, PortEntry};
+use dsde_values::Ty;
 
 /// What `let` or `var` makes of a name.
 fn var_kind(mutable: bool) -> BindingKind
@@ -73,8 +75,21 @@ pub(crate) fn set_to<'m>(
     };
     may_set(around, name, bound.kind())?;
     let ty = copy_type(around.alloc(), bound.ty())?;
+    taken(around, &ty, value, scope)
+}
+
+/// A value of this type, which a statement takes.
+fn taken<'m>(
+    around: &Around<'m>,
+    ty: &Ty,
+    value: &'m Expr,
+    scope: &mut Names<Local<'m>>,
+) -> Result<u32, CheckError>
+    ensures walks { Walks (taken ty.now (judge around.now value.now) scope.old) result scope.new }
+    ensures keeps { OnOk result (scope.new ≡ scope.old) }
+{
     let seen = judge(around, value, scope)?;
-    wanted(&ty, &seen)?;
+    wanted(ty, &seen)?;
     Ok(above(seen.height))
 }
 
@@ -109,7 +124,5 @@ fn send_of<'m>(
     if !port.is_out() {
         return Err(CheckError::Wrong(WrongKind::Unknown, name.at));
     }
-    let seen = judge(around, value, scope)?;
-    wanted(port.ty(), &seen)?;
-    Ok(above(seen.height))
+    taken(around, port.ty(), value, scope)
 }

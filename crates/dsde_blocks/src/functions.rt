@@ -4,6 +4,7 @@ ghost use Rattle.std.specs.Prelude.{◌≡◌, [], map};
 ghost use Rattle.dsde_rules.specs.Judge.{judge};
 ghost use Rattle.dsde_rules.specs.Blocks.{func_height, func_in, func_of, return_of, walk, walk_all};
 ghost use Rattle.dsde_scope.specs.Says.{Says, Walks};
+ghost use Rattle.dsde_blocks.specs.Parts.{func_giving, func_made, func_over};
 
 use crate::headers::{own_params, own_type, types_of};
 use crate::statements::stmts;
@@ -12,7 +13,7 @@ use dsde_names::Names;
 use dsde_scope::{Around, CheckError, above, wanted, within};
 use dsde_syntax::{Expr, Id, Stmt, TypeName, Typed};
 use dsde_tables::{Callee, Known, Local};
-use dsde_values::Ty;
+use dsde_values::{Seq, Ty};
 use std::alloc::Global;
 
 /// A function, over what is declared before it.
@@ -44,11 +45,46 @@ fn func_in<'m, 'n>(
     ensures { Says (func_in around.now name.now params.now result_type.now stmts.now value.now) result }
 {
     let mut scope = own_params(around, params)?;
-    let types = types_of(around.alloc(), &scope)?;
+    func_over(around, name, result_type, stmts, value, &mut scope)
+}
+
+/// The function over its parameters.
+fn func_over<'m, 'n>(
+    around: &Around<'m>,
+    name: &'n Id,
+    result_type: &TypeName,
+    stmts: &'m [Stmt],
+    value: &'m Expr,
+    scope: &mut Names<Local<'m>>,
+) -> Result<Callee<'n>, CheckError>
+    ensures { Says (func_over around.now name.now result_type.now stmts.now value.now scope.old) result }
+{
     let own = own_type(around, result_type)?;
-    let height = func_height(around, stmts, value, &own.ty, &mut scope)?;
+    func_giving(around, name, own.ty, stmts, value, scope)
+}
+
+/// The function over its parameters, with a result of this type.
+fn func_giving<'m, 'n>(
+    around: &Around<'m>,
+    name: &'n Id,
+    own: Ty,
+    stmts: &'m [Stmt],
+    value: &'m Expr,
+    scope: &mut Names<Local<'m>>,
+) -> Result<Callee<'n>, CheckError>
+    ensures { Says (func_giving around.now name.now own stmts.now value.now scope.old) result }
+{
+    let types = types_of(around.alloc(), scope)?;
+    let height = func_height(around, stmts, value, &own, scope)?;
+    func_made(name, types, own, height)
+}
+
+/// The function, with parameters and a result of these types, whose statements have this height.
+fn func_made(name: &Id, params: Seq<Ty>, own: Ty, height: u32) -> Result<Callee<'_>, CheckError>
+    ensures { Says (func_made name.now params own height) result }
+{
     within(name.at, height)?;
-    Ok(Callee::new(name.name.as_slice(), types, own.ty, above(height)))
+    Ok(Callee::new(name.name.as_slice(), params, own, above(height)))
 }
 
 /// The height of a function's highest statement, `return` among them.

@@ -1,10 +1,10 @@
 //! Parameters and types, by what is known round them.
 
-ghost use Rattle.std.specs.Prelude.{◌≡◌, [], map, IfOk};
+ghost use Rattle.std.specs.Prelude.{◌≡◌, ◌++◌, [], IfOk, OnOk};
 ghost use Rattle.dsde_rules.specs.Judge.{type_of};
 ghost use Rattle.dsde_rules.specs.Blocks.{params_all};
-ghost use Rattle.dsde_rules.specs.declared.seen.Binding.{Binding};
 ghost use Rattle.dsde_scope.specs.Says.{Says};
+ghost use Rattle.dsde_blocks.specs.Parts.{types_of};
 
 use dsde_names::Names;
 use dsde_rules::TypeSeen;
@@ -33,11 +33,19 @@ pub(crate) fn own_params<'m>(
 
 /// The types of names that are seen.
 pub(crate) fn types_of(alloc: Global, scope: &Names<Local<'_>>) -> Result<Seq<Ty>, Memory>
-    ensures { IfOk result (λ types. types ≡ map (λ (bound : Binding). bound.ty) scope.now) }
+    ensures { IfOk result (λ types. types ≡ types_of scope.now) }
 {
     let mut types = Seq::new(alloc);
+    add_types(alloc, &mut types, scope)?;
+    Ok(types)
+}
+
+/// Adds the types of names that are seen.
+fn add_types(alloc: Global, types: &mut Seq<Ty>, scope: &Names<Local<'_>>) -> Result<(), Memory>
+    ensures { OnOk result (types.new ≡ types.old ++ types_of scope.now) }
+{
     for bound in scope.as_slice() {
         types.push(copy_type(alloc, bound.get().ty())?)?;
     }
-    Ok(types)
+    Ok(())
 }

@@ -1,15 +1,16 @@
 //! The blocks of a body.
 
-ghost use Rattle.std.specs.Prelude.{◌≡◌, length, take, OnOk};
+ghost use Rattle.std.specs.Prelude.{◌≡◌, length, take, IfOk, OnOk};
+ghost use Rattle.dsde_values.specs.declared.types.Ty.TheVariants as ty;
 ghost use Rattle.dsde_rules.specs.Blocks.{input_seen, inputs_of, inputs_seen, move_of, phase_of, phases_of};
 ghost use Rattle.dsde_scope.specs.Says.{Says};
 
 use crate::statements::inner;
 use dsde_names::Names;
 use dsde_rules::BindingKind;
-use dsde_scope::{Around, CheckError, copy_type};
-use dsde_syntax::{Body, Boxed, Memory, Phase};
-use dsde_tables::{Local, PortEntry};
+use dsde_scope::{Around, CheckError, close, copy_type};
+use dsde_syntax::{Body, Memory, Phase};
+use dsde_tables::{Local, PortEntry, list_type};
 use dsde_values::Ty;
 use std::alloc::Global;
 
@@ -29,7 +30,7 @@ pub(crate) fn phases<'m>(
     let depth = scope.len();
     inputs_seen(around.alloc(), scope, ports)?;
     let inputs = inputs(around, body, scope)?;
-    scope.truncate(depth);
+    close(scope, depth);
     Ok(output.max(internal).max(inputs))
 }
 
@@ -103,8 +104,15 @@ fn input_seen<'m>(
     ensures grows { OnOk result (take (length scope.old) scope.new ≡ scope.old) }
 {
     if !port.is_out() {
-        let ty = Ty::List(Boxed::new(alloc, copy_type(alloc, port.ty())?)?);
+        let ty = values_type(alloc, port)?;
         scope.insert(Local::new(port.word(), ty, BindingKind::Fixed))?;
     }
     Ok(())
+}
+
+/// The type of the list of the values that came to a port.
+fn values_type(alloc: Global, port: &PortEntry<'_>) -> Result<Ty, Memory>
+    ensures { IfOk result (λ own. own ≡ ty.List port.now.ty) }
+{
+    list_type(alloc, copy_type(alloc, port.ty())?)
 }

@@ -11,7 +11,7 @@ use crate::assignments::{let_of, send_to, set_to};
 use dsde_judge::{judge, test};
 use dsde_names::Names;
 use dsde_rules::{BindingKind, Seen};
-use dsde_scope::{Around, CheckError, above, bind, item_type};
+use dsde_scope::{Around, CheckError, above, bind, close, item_type};
 use dsde_syntax::{Expr, Id, Stmt, StmtArm};
 use dsde_tables::{Local, PortEntry};
 
@@ -87,7 +87,7 @@ fn for_items<'m>(
     let depth = scope.len();
     bind(scope, name, item, BindingKind::Fixed)?;
     let height = inner(around, ports, body, items.height, scope)?;
-    scope.truncate(depth);
+    close(scope, depth);
     Ok(above(height))
 }
 
@@ -124,7 +124,7 @@ pub(crate) fn inner<'m>(
 {
     let depth = scope.len();
     let height = stmts(around, ports, body, before, scope)?;
-    scope.truncate(depth);
+    close(scope, depth);
     Ok(height)
 }
 

@@ -2,8 +2,9 @@
 
 ghost use Rattle.std.specs.Prelude.{◌≡◌, [], length, slice_get, unwrap_or};
 ghost use Rattle.dsde_rules.specs.Rules.{around_with, decl_rule, record_rule, atomic_rule, inside_rule, network_rule, top_rule};
-ghost use Rattle.dsde_rules.specs.Blocks.{body_names};
+ghost use Rattle.dsde_rules.specs.Blocks.{body_names, ports_all};
 ghost use Rattle.dsde_scope.specs.Says.{Says, Leaves};
+ghost use Rattle.dsde_check.specs.Parts.{atomic_over, executed_rule, network_over, ported_rule};
 
 use crate::CheckError;
 use crate::own::distinct;
@@ -168,9 +169,47 @@ fn atomic_rule<'k>(
 {
     let around = Around::new(alloc, known, reserved);
     let mut scope = params_all(alloc, known, params)?;
-    let ports = ports_all(alloc, known, &scope, body.ports.as_slice())?;
-    let height = body_rule(&around, at, &ports, body, &mut scope)?;
+    atomic_over(&around, at, name, body, &mut scope)
+}
+
+/// An atomic model over its parameters.
+fn atomic_over<'k>(
+    around: &Around<'k>,
+    at: u32,
+    name: &Id,
+    body: &'k Body,
+    scope: &mut Names<Local<'k>>,
+) -> Result<(), CheckError>
+    ensures { Says (atomic_over around.now at name.now body.now scope.old) result }
+{
+    let ports = own_ports(around, scope, body.ports.as_slice())?;
+    ported_rule(around, at, name, &ports, body, scope)
+}
+
+/// An atomic model with these ports, over its parameters.
+fn ported_rule<'k>(
+    around: &Around<'k>,
+    at: u32,
+    name: &Id,
+    ports: &Names<PortEntry<'k>>,
+    body: &'k Body,
+    scope: &mut Names<Local<'k>>,
+) -> Result<(), CheckError>
+    ensures { Says (ported_rule around.now at name.now ports.now body.now scope.old) result }
+{
+    let height = body_rule(around, at, ports, body, scope)?;
     within(name.at, height)
+}
+
+/// Ports, over the parameters.
+fn own_ports<'k>(
+    around: &Around<'k>,
+    scope: &Names<Local<'k>>,
+    ports: &'k [PortDecl],
+) -> Result<Names<PortEntry<'k>>, CheckError>
+    ensures { Says (ports_all around.now.known scope.now [] ports.now) result }
+{
+    ports_all(around.alloc(), around.known(), scope, ports)
 }
 
 /// A network, where these names are reserved: its ports may share names with those of its executive.
@@ -189,8 +228,23 @@ fn network_rule<'k>(
 {
     let around = Around::new(alloc, known, reserved);
     let mut scope = params_all(alloc, known, params)?;
-    let own = ports_all(alloc, known, &scope, ports)?;
-    inside_rule(&around, name, &own, exec_at, body, items, &mut scope)
+    network_over(&around, name, ports, exec_at, body, items, &mut scope)
+}
+
+/// A network over its parameters.
+fn network_over<'k>(
+    around: &Around<'k>,
+    name: &Id,
+    ports: &'k [PortDecl],
+    exec_at: u32,
+    body: &'k Body,
+    items: &'k [Item],
+    scope: &mut Names<Local<'k>>,
+) -> Result<(), CheckError>
+    ensures { Says (network_over around.now name.now ports.now exec_at body.now items.now scope.old) result }
+{
+    let own = own_ports(around, scope, ports)?;
+    inside_rule(around, name, &own, exec_at, body, items, scope)
 }
 
 /// What stands in a network behind its own ports: its executive, and its structure.
@@ -205,9 +259,25 @@ fn inside_rule<'k>(
 ) -> Result<(), CheckError>
     ensures { Says (inside_rule around.now name.now ports.now exec_at body.now items.now scope.old) result }
 {
-    let execs = ports_all(around.alloc(), around.known(), scope, body.ports.as_slice())?;
-    let height = body_rule(around, exec_at, &execs, body, scope)?;
-    let most = structure(around, ports, &execs, items, scope)?;
+    let execs = own_ports(around, scope, body.ports.as_slice())?;
+    executed_rule(around, name, ports, &execs, exec_at, body, items, scope)
+}
+
+/// A network with these ports, whose executive has those.
+fn executed_rule<'k>(
+    around: &Around<'k>,
+    name: &Id,
+    ports: &Names<PortEntry<'k>>,
+    execs: &Names<PortEntry<'k>>,
+    exec_at: u32,
+    body: &'k Body,
+    items: &'k [Item],
+    scope: &mut Names<Local<'k>>,
+) -> Result<(), CheckError>
+    ensures { Says (executed_rule around.now name.now ports.now execs.now exec_at body.now items.now scope.old) result }
+{
+    let height = body_rule(around, exec_at, execs, body, scope)?;
+    let most = structure(around, ports, execs, items, scope)?;
     within(name.at, height.max(most))
 }
 

@@ -17,9 +17,16 @@ pub(crate) fn apart_all(alloc: Global, decls: &[Decl]) -> Result<(), CheckError>
     ensures { Says (apart_all [] decls.now) result }
 {
     let mut names = Names::new(alloc);
+    take_all(&mut names, decls)
+}
+
+/// The names of declarations differ from each other and from those before them.
+fn take_all<'m>(names: &mut Names<Word<'m>>, decls: &'m [Decl]) -> Result<(), CheckError>
+    ensures { Says (apart_all names.old decls.now) result }
+{
     for decl in decls {
         let (name, at) = own_name(decl);
-        take(&mut names, name, at)?;
+        take(names, name, at)?;
     }
     Ok(())
 }
@@ -29,8 +36,15 @@ pub(crate) fn distinct(alloc: Global, ids: &[Id]) -> Result<(), CheckError>
     ensures { Says (distinct [] ids.now) result }
 {
     let mut names = Names::new(alloc);
+    take_ids(&mut names, ids)
+}
+
+/// Identifiers differ from each other and from the names before them.
+fn take_ids<'m>(names: &mut Names<Word<'m>>, ids: &'m [Id]) -> Result<(), CheckError>
+    ensures { Says (distinct names.old ids.now) result }
+{
     for id in ids {
-        take(&mut names, id.name.as_slice(), id.at)?;
+        take(names, id.name.as_slice(), id.at)?;
     }
     Ok(())
 }

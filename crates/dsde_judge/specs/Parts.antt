@@ -14,14 +14,14 @@ use Rattle.dsde_rules.specs.declared.seen.Seen.{Seen}
 use Rattle.dsde_rules.specs.declared.wrong.Wrong.{Wrong}
 use Rattle.dsde_rules.specs.declared.wrong.WrongKind.TheVariants.{Unknown, WrongType}
 use Rattle.dsde_rules.specs.Steps.{◌>>=◌, Test, unless}
-use Rattle.dsde_rules.specs.Types.{wanted}
+use Rattle.dsde_rules.specs.Types.{wanted, held_type}
 use Rattle.dsde_rules.specs.declared.builtin.Row.{Row}
 use Rattle.dsde_rules.specs.declared.seen.Fitted.{Fitted}
 use Rattle.dsde_rules.specs.declared.signatures.Func.{Func}
 use Rattle.dsde_values.specs.declared.types.Field.{Field}
 use Rattle.dsde_values.specs.declared.types.Ty.{Ty}
 use Rattle.dsde_values.specs.declared.types.Ty.TheVariants as ty
-use Rattle.dsde_rules.specs.Judge.{made, total, seen_as, type_of, sign_may_fault, all_fields, in_order, given_type, Judge, Link, Guarded, SetJudge, judge_step, suffix_step, arm_step, set_step, sign_tail_step, tail_step}
+use Rattle.dsde_rules.specs.Judge.{made, total, field_of, seen_as, type_of, sign_may_fault, all_fields, in_order, given_type, Judge, Link, Guarded, SetJudge, judge_step, suffix_step, arm_step, set_step, sign_tail_step, tail_step}
 
 -- `or value` and `and value`, behind what stands before it
 abbrev pub judge_tail : Around → Tail → Link
@@ -88,3 +88,24 @@ list_seen around item height at = total around true at >>= (λ _. made around (t
 abbrev pub negative : Around → ℕ → Seen → Result Seen Wrong
 negative around at seen =
     wanted ty.Int seen >>= (λ _. total around true at >>= (λ _. seen_as ty.Int seen.height at))
+
+-- a comparison, or `or` and `and`, behind both sides
+abbrev pub compared_seen : Ty → ℕ → Seen → ℕ → Result Seen Wrong
+compared_seen own height right at = wanted own right >>= (λ _. seen_as ty.Bool (max height right.height) at)
+
+-- a value of this type, or another in its place
+abbrev pub other_seen : Ty → ℕ → Seen → ℕ → Result Seen Wrong
+other_seen own height other at = wanted own other >>= (λ _. seen_as own (max height other.height) at)
+
+-- not e, behind e: bool
+abbrev pub negated : Seen → ℕ → Result Seen Wrong
+negated seen at = wanted ty.Bool seen >>= (λ _. seen_as ty.Bool seen.height at)
+
+-- e.f, behind e
+abbrev pub field_seen : Around → Id → Seen → ℕ → Result Seen Wrong
+field_seen around name first at = field_of around.known first name >>= (λ ty. made around ty first.height at)
+
+-- e!, behind e: an option
+abbrev pub unwrapped : Around → Seen → ℕ → Result Seen Wrong
+unwrapped around first at =
+    held_type first >>= (λ inner. total around true at >>= (λ _. seen_as inner first.height at))

@@ -1,15 +1,14 @@
 //! Enums and records that are declared before: their variants and fields.
 
 ghost use Rattle.std.specs.Prelude.{◌≡◌, not, length, map, OnOk};
-ghost use Rattle.std.specs.Option.{option_copied};
 ghost use Rattle.std.specs.Str.{bytes_eq};
 ghost use Rattle.dsde_names.specs.Table.{is_among};
 ghost use Rattle.dsde_rules.specs.declared.wrong.WrongKind.TheVariants.{Unknown, WrongType};
 ghost use Rattle.dsde_rules.specs.Steps.{unless};
 ghost use Rattle.dsde_rules.specs.Tables.{field_name};
-ghost use Rattle.dsde_rules.specs.Judge.{variants_at, fields_at, fields_of, field_in, field_of, variant_in, variant_at, variant_of, all_fields, in_order};
+ghost use Rattle.dsde_rules.specs.Judge.{field_in, field_of, variant_in, variant_at, variant_of, all_fields, in_order};
 ghost use Rattle.dsde_scope.specs.Says.{Says};
-ghost use Rattle.dsde_judge.specs.Parts.{judge_set, whole_record};
+ghost use Rattle.dsde_judge.specs.Parts.{field_seen, judge_set, whole_record};
 
 use dsde_names::{Entry, Named, Names};
 use dsde_rules::{Seen, WrongKind};
@@ -18,36 +17,6 @@ use dsde_syntax::{FieldSet, Id};
 use dsde_tables::{Known, Member, Word};
 use dsde_values::Ty;
 use std::alloc::Global;
-
-/// The variants of the enum with this number.
-fn variants_at<'k, 'm>(known: &'k Known<'m>, number: u32) -> Option<&'k Names<Word<'m>>>
-    ensures { option_copied result ≡ variants_at known.now number }
-{
-    match known.types().get(number as usize) {
-        Some(made) => made.variants(),
-        None => None,
-    }
-}
-
-/// The fields of the record with this number.
-pub(crate) fn fields_at<'k, 'm>(known: &'k Known<'m>, number: u32) -> Option<&'k Names<Member<'m>>>
-    ensures { option_copied result ≡ fields_at known.now number }
-{
-    match known.types().get(number as usize) {
-        Some(made) => made.fields(),
-        None => None,
-    }
-}
-
-/// The fields of a type, if it is a record.
-fn fields_of<'k, 'm>(known: &'k Known<'m>, ty: &Ty) -> Option<&'k Names<Member<'m>>>
-    ensures { option_copied result ≡ fields_of known.now ty.now }
-{
-    match ty {
-        Ty::Rec(number) => fields_at(known, *number),
-        _ => None,
-    }
-}
 
 fn field_in(alloc: Global, fields: &Names<Member<'_>>, name: &Id) -> Result<Ty, CheckError>
     ensures { Says (field_in fields.now name.now) result }
@@ -60,13 +29,26 @@ fn field_in(alloc: Global, fields: &Names<Member<'_>>, name: &Id) -> Result<Ty, 
 
 /// The type of a field: `WrongType` at an expression that is no record, and `Unknown` at a name that
 /// is none of its fields.
-pub(crate) fn field_of(around: &Around<'_>, seen: &Seen, name: &Id) -> Result<Ty, CheckError>
+fn field_of(around: &Around<'_>, seen: &Seen, name: &Id) -> Result<Ty, CheckError>
     ensures { Says (field_of around.now.known seen.now name.now) result }
 {
-    let Some(fields) = fields_of(around.known(), &seen.ty) else {
+    let Some(fields) = around.known().fields_of(&seen.ty) else {
         return Err(CheckError::Wrong(WrongKind::WrongType, seen.at));
     };
     field_in(around.alloc(), fields, name)
+}
+
+/// `e.name`, behind `e`.
+pub(crate) fn field_seen(
+    around: &Around<'_>,
+    name: &Id,
+    first: Seen,
+    at: u32,
+) -> Result<Seen, CheckError>
+    ensures { Says (field_seen around.now name.now first at) result }
+{
+    let ty = field_of(around, &first, name)?;
+    around.made(ty, first.height, at)
 }
 
 fn variant_in(
@@ -86,7 +68,7 @@ fn variant_in(
 fn variant_at(known: &Known<'_>, owner: &Id, variant: &Id, number: u32) -> Result<Seen, CheckError>
     ensures { Says (variant_at known.now owner.now variant.now number) result }
 {
-    let Some(variants) = variants_at(known, number) else {
+    let Some(variants) = known.variants_at(number) else {
         return Err(CheckError::Wrong(WrongKind::Unknown, owner.at));
     };
     variant_in(number, variants, variant, owner.at)

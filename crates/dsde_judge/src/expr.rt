@@ -7,17 +7,18 @@ ghost use Rattle.dsde_rules.specs.Judge.{judge, links_from, test_of, fit_all, li
 ghost use Rattle.dsde_scope.specs.Says.{Says};
 ghost use Rattle.dsde_judge.specs.Parts.{judge_tail, judge_sign_tail, judge_suffix, judge_arm, judge_set};
 
-use crate::builtins::{builtin_seen, part_type, row_of};
-use crate::declared::{field_of, fields_at, variant_of, whole_record};
+use crate::builtins::{builtin_seen, part_type};
+use crate::declared::{field_seen, variant_of, whole_record};
 use crate::steps::{
-    call_seen, compared, elapsed, empty_of, item_seen, list_seen, made_list, name_of, negative,
-    none_of, operand, sign_seen,
+    call_seen, compared, compared_seen, elapsed, empty_of, held, item_of, item_seen, list_seen,
+    made_list, name_of, negated, negative, none_of, operand, other_seen, sign_seen, truth,
+    unwrapped,
 };
 use dsde_names::Names;
 use dsde_rules::{BindingKind, Fitted, Part, Seen, WrongKind};
-use dsde_scope::{Around, CheckError, bind, held_type, item_type, narrow, seen_as, wanted};
+use dsde_scope::{Around, CheckError, bind, close, narrow, seen_as, wanted};
 use dsde_syntax::{Boxed, Expr, ExprArm, FieldSet, Id, Key, SignTail, Suffix, Tail};
-use dsde_tables::{Local, Member};
+use dsde_tables::{Local, Member, row_of};
 use dsde_values::Ty;
 
 /// What is seen of an expression in a scope, or the first wrong thing in it. The scope is as it was
@@ -34,10 +35,10 @@ pub fn judge<'m>(
     match expr {
         Expr::OrElse { at, left, right } => {
             let option = judge(around, left.get(), scope)?;
-            let inner = held_type(around.alloc(), &option)?;
+            let height = option.height;
+            let inner = held(around.alloc(), option)?;
             let other = judge(around, right.get(), scope)?;
-            wanted(&inner, &other)?;
-            Ok(seen_as(inner, option.height.max(other.height), *at))
+            other_seen(inner, height, other, *at)
         }
         Expr::Or { first, rest } => {
             let left = judge(around, first.get(), scope)?;
@@ -49,8 +50,7 @@ pub fn judge<'m>(
         }
         Expr::Not { at, of } => {
             let seen = judge(around, of.get(), scope)?;
-            wanted(&Ty::Bool, &seen)?;
-            Ok(seen_as(Ty::Bool, seen.height, *at))
+            negated(seen, *at)
         }
         Expr::Compare {
             sign,
@@ -59,10 +59,10 @@ pub fn judge<'m>(
             right,
         } => {
             let one = judge(around, left.get(), scope)?;
-            let own = compared(around.alloc(), *sign, &one)?;
+            let height = one.height;
+            let own = compared(*sign, one)?;
             let other = judge(around, right.get(), scope)?;
-            wanted(&own, &other)?;
-            Ok(seen_as(Ty::Bool, one.height.max(other.height), *at))
+            compared_seen(own, height, other, *at)
         }
         Expr::Sum { first, rest } => {
             let left = judge(around, first.get(), scope)?;
@@ -74,7 +74,7 @@ pub fn judge<'m>(
         }
         Expr::Neg { at, of } => {
             let seen = judge(around, of.get(), scope)?;
-            negative(around, *at, &seen)
+            negative(around, *at, seen)
         }
         Expr::Post {
             first,
@@ -106,12 +106,13 @@ pub fn judge<'m>(
         } => {
             around.fresh(name, scope)?;
             let items = judge(around, list.get(), scope)?;
-            let item = item_type(around.alloc(), &items)?;
+            let height = items.height;
+            let item = item_of(around.alloc(), items)?;
             let depth = scope.len();
             bind(scope, name, item, BindingKind::Fixed)?;
-            let tested = test_if(around, cond, items.height, scope)?;
+            let tested = test_if(around, cond, height, scope)?;
             let seen = judge(around, value.get(), scope)?;
-            scope.truncate(depth);
+            close(scope, depth);
             made_list(around, seen.ty, tested.max(seen.height), *at)
         }
         Expr::If { at, arms, other } => {
@@ -121,8 +122,7 @@ pub fn judge<'m>(
             let seen = arm(around, first, 0, scope)?;
             let height = further_arms(around, rest, &seen, scope)?;
             let last = judge(around, other.get(), scope)?;
-            wanted(&seen.ty, &last)?;
-            Ok(seen_as(seen.ty, height.max(last.height), *at))
+            other_seen(seen.ty, height, last, *at)
         }
     }
 }
@@ -156,10 +156,10 @@ fn link<'m>(
     ensures says { Says (judge_tail around.now tail.now left scope.old) result }
     ensures keeps { OnOk result (scope.new ≡ scope.old) }
 {
-    wanted(&Ty::Bool, &left)?;
+    let height = left.height;
+    truth(left)?;
     let right = judge(around, &tail.value, scope)?;
-    wanted(&Ty::Bool, &right)?;
-    Ok(seen_as(Ty::Bool, left.height.max(right.height), tail.at))
+    compared_seen(Ty::Bool, height, right, tail.at)
 }
 
 /// What signs and their values make of what is seen before them.
@@ -191,9 +191,10 @@ fn sign_link<'m>(
     ensures says { Says (judge_sign_tail around.now tail.now left scope.old) result }
     ensures keeps { OnOk result (scope.new ≡ scope.old) }
 {
-    let ty = operand(around.alloc(), tail.sign, &left)?;
+    let height = left.height;
+    let ty = operand(around.alloc(), tail.sign, left)?;
     let right = judge(around, &tail.value, scope)?;
-    sign_seen(around, tail.sign, ty, left.height, &right, tail.at)
+    sign_seen(around, tail.sign, ty, height, right, tail.at)
 }
 
 /// What suffixes make of what is seen before them.
@@ -226,20 +227,14 @@ fn suffix<'m>(
     ensures keeps { OnOk result (scope.new ≡ scope.old) }
 {
     match own {
-        Suffix::Field { at, name } => {
-            let ty = field_of(around, &first, name)?;
-            around.made(ty, first.height, *at)
-        }
+        Suffix::Field { at, name } => field_seen(around, name, first, *at),
         Suffix::Index { at, value } => {
-            let item = item_type(around.alloc(), &first)?;
+            let height = first.height;
+            let item = item_of(around.alloc(), first)?;
             let index = judge(around, value, scope)?;
-            item_seen(around, item, first.height, &index, *at)
+            item_seen(around, item, height, index, *at)
         }
-        Suffix::Unwrap { at } => {
-            let inner = held_type(around.alloc(), &first)?;
-            around.total(true, *at)?;
-            Ok(seen_as(inner, first.height, *at))
-        }
+        Suffix::Unwrap { at } => unwrapped(around, first, *at),
     }
 }
 
@@ -341,7 +336,7 @@ fn record_at<'m>(
     ensures says { Says (record_at around.now.known at owner.now number (map (judge_set around.now) sets.now) scope.old) result }
     ensures keeps { OnOk result (scope.new ≡ scope.old) }
 {
-    let Some(fields) = fields_at(around.known(), number) else {
+    let Some(fields) = around.known().fields_at(number) else {
         return Err(CheckError::Wrong(WrongKind::Unknown, owner.at));
     };
     record_of(around, at, owner, number, fields, sets, scope)

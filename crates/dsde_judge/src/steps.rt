@@ -1,32 +1,19 @@
 //! Steps of expressions that look at no further expression.
 
-ghost use Rattle.std.specs.Prelude.{◌≡◌, IfOk};
+ghost use Rattle.std.specs.Prelude.{◌≡◌};
 ghost use Rattle.dsde_values.specs.declared.types.Ty.TheVariants as own;
+ghost use Rattle.dsde_rules.specs.Types.{wanted, item_type, held_type};
 ghost use Rattle.dsde_rules.specs.Judge.{made, name_of, operand, sign_may_fault, compared};
 ghost use Rattle.dsde_scope.specs.Says.{Says};
-ghost use Rattle.dsde_judge.specs.Parts.{none_of, empty_of, elapsed, sign_seen, item_seen, call_seen, list_seen, negative};
+ghost use Rattle.dsde_judge.specs.Parts.{none_of, empty_of, elapsed, compared_seen, other_seen, negated, unwrapped, sign_seen, item_seen, call_seen, list_seen, negative};
 
 use dsde_names::Names;
 use dsde_rules::{Seen, WrongKind};
-use dsde_scope::{Around, CheckError, copy_type, item_type, seen_as, type_of, wanted};
-use dsde_syntax::{Boxed, Id, Memory, Sign, TypeName};
-use dsde_tables::{Callee, Local};
+use dsde_scope::{Around, CheckError, copy_type, held_type, item_type, seen_as, type_of, wanted};
+use dsde_syntax::{Id, Sign, TypeName};
+use dsde_tables::{Callee, Local, list_type, option_type};
 use dsde_values::Ty;
 use std::alloc::Global;
-
-/// `list<ty>`
-pub(crate) fn list_type(alloc: Global, ty: Ty) -> Result<Ty, Memory>
-    ensures { IfOk result (λ made. made ≡ own.List ty) }
-{
-    Ok(Ty::List(Boxed::new(alloc, ty)?))
-}
-
-/// `opt<ty>`
-pub(crate) fn option_type(alloc: Global, ty: Ty) -> Result<Ty, Memory>
-    ensures { IfOk result (λ made. made ≡ own.Opt ty) }
-{
-    Ok(Ty::Opt(Boxed::new(alloc, ty)?))
-}
 
 /// A list of items of this type: `Limit` at it where its type is deeper than 64.
 pub(crate) fn made_list(
@@ -82,16 +69,16 @@ pub(crate) fn name_of(
 
 /// What a sign takes on both sides and gives: `++` joins two lists of one type, and the others are of
 /// whole numbers. `WrongType` at a left side of another type.
-pub(crate) fn operand(alloc: Global, sign: Sign, left: &Seen) -> Result<Ty, CheckError>
-    ensures { Says (operand sign left.now) result }
+pub(crate) fn operand(alloc: Global, sign: Sign, left: Seen) -> Result<Ty, CheckError>
+    ensures { Says (operand sign left) result }
 {
     match sign {
         Sign::PlusPlus => {
-            let item = item_type(alloc, left)?;
+            let item = item_type(alloc, &left)?;
             Ok(list_type(alloc, item)?)
         }
         _ => {
-            wanted(&Ty::Int, left)?;
+            wanted(&Ty::Int, &left)?;
             Ok(Ty::Int)
         }
     }
@@ -106,16 +93,70 @@ pub(crate) fn sign_may_fault(sign: Sign) -> bool
 
 /// What a comparison takes on both sides: `==` and `!=` compare values of one type, and the others
 /// whole numbers. `WrongType` at a left side of another type.
-pub(crate) fn compared(alloc: Global, sign: Sign, left: &Seen) -> Result<Ty, CheckError>
-    ensures { Says (compared sign left.now) result }
+pub(crate) fn compared(sign: Sign, left: Seen) -> Result<Ty, CheckError>
+    ensures { Says (compared sign left) result }
 {
     match sign {
-        Sign::EqualEqual | Sign::NotEqual => Ok(copy_type(alloc, &left.ty)?),
+        Sign::EqualEqual | Sign::NotEqual => Ok(left.ty),
         _ => {
-            wanted(&Ty::Int, left)?;
+            wanted(&Ty::Int, &left)?;
             Ok(Ty::Int)
         }
     }
+}
+
+/// A comparison, or `or` and `and`, behind both sides: `WrongType` at a right side of another type.
+pub(crate) fn compared_seen(own: Ty, height: u32, right: Seen, at: u32) -> Result<Seen, CheckError>
+    ensures { Says (compared_seen own height right at) result }
+{
+    wanted(&own, &right)?;
+    Ok(seen_as(Ty::Bool, height.max(right.height), at))
+}
+
+/// A value of this type, or another in its place: `WrongType` at another of another type.
+pub(crate) fn other_seen(own: Ty, height: u32, other: Seen, at: u32) -> Result<Seen, CheckError>
+    ensures { Says (other_seen own height other at) result }
+{
+    wanted(&own, &other)?;
+    Ok(seen_as(own, height.max(other.height), at))
+}
+
+/// A side of `or` or `and` is bool: else `WrongType` at it.
+pub(crate) fn truth(seen: Seen) -> Result<(), CheckError>
+    ensures { Says (wanted own.Bool seen) result }
+{
+    wanted(&Ty::Bool, &seen)
+}
+
+/// `not e`, behind what is to be bool.
+pub(crate) fn negated(seen: Seen, at: u32) -> Result<Seen, CheckError>
+    ensures { Says (negated seen at) result }
+{
+    wanted(&Ty::Bool, &seen)?;
+    Ok(seen_as(Ty::Bool, seen.height, at))
+}
+
+/// The type of a list's items: `WrongType` at what is no list.
+pub(crate) fn item_of(alloc: Global, seen: Seen) -> Result<Ty, CheckError>
+    ensures { Says (item_type seen) result }
+{
+    item_type(alloc, &seen)
+}
+
+/// The type of what an option holds: `WrongType` at what is none.
+pub(crate) fn held(alloc: Global, seen: Seen) -> Result<Ty, CheckError>
+    ensures { Says (held_type seen) result }
+{
+    held_type(alloc, &seen)
+}
+
+/// `e!`, behind an option.
+pub(crate) fn unwrapped(around: &Around<'_>, first: Seen, at: u32) -> Result<Seen, CheckError>
+    ensures { Says (unwrapped around.now first at) result }
+{
+    let inner = held_type(around.alloc(), &first)?;
+    around.total(true, at)?;
+    Ok(seen_as(inner, first.height, at))
 }
 
 /// What a sign makes of what stands on both sides, of the type that it takes: `WrongType` at a right
@@ -125,12 +166,12 @@ pub(crate) fn sign_seen(
     sign: Sign,
     ty: Ty,
     height: u32,
-    right: &Seen,
+    right: Seen,
     at: u32,
 ) -> Result<Seen, CheckError>
-    ensures { Says (sign_seen around.now sign ty height right.now at) result }
+    ensures { Says (sign_seen around.now sign ty height right at) result }
 {
-    wanted(&ty, right)?;
+    wanted(&ty, &right)?;
     around.total(sign_may_fault(sign), at)?;
     Ok(seen_as(ty, height.max(right.height), at))
 }
@@ -140,12 +181,12 @@ pub(crate) fn item_seen(
     around: &Around<'_>,
     item: Ty,
     height: u32,
-    index: &Seen,
+    index: Seen,
     at: u32,
 ) -> Result<Seen, CheckError>
-    ensures { Says (item_seen around.now item height index.now at) result }
+    ensures { Says (item_seen around.now item height index at) result }
 {
-    wanted(&Ty::Int, index)?;
+    wanted(&Ty::Int, &index)?;
     around.total(true, at)?;
     Ok(seen_as(item, height.max(index.height), at))
 }
@@ -178,10 +219,10 @@ pub(crate) fn list_seen(
 }
 
 /// `-e`, behind a whole number.
-pub(crate) fn negative(around: &Around<'_>, at: u32, seen: &Seen) -> Result<Seen, CheckError>
-    ensures { Says (negative around.now at seen.now) result }
+pub(crate) fn negative(around: &Around<'_>, at: u32, seen: Seen) -> Result<Seen, CheckError>
+    ensures { Says (negative around.now at seen) result }
 {
-    wanted(&Ty::Int, seen)?;
+    wanted(&Ty::Int, &seen)?;
     around.total(true, at)?;
     Ok(seen_as(Ty::Int, seen.height, at))
 }

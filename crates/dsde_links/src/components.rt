@@ -4,10 +4,11 @@ ghost use Rattle.std.specs.Prelude.{◌≡◌, OnOk};
 ghost use Rattle.dsde_rules.specs.Structures.{args_of, comp_of, index_of};
 ghost use Rattle.dsde_scope.specs.Says.{Says, Walks};
 
-use dsde_judge::{fit_all, judge};
+use crate::values::height_as;
+use dsde_judge::fit_all;
 use dsde_names::Names;
 use dsde_rules::WrongKind;
-use dsde_scope::{Around, CheckError, above, wanted};
+use dsde_scope::{Around, CheckError, above};
 use dsde_syntax::{Bracket, Expr, Id};
 use dsde_tables::Local;
 use dsde_values::Ty;
@@ -24,9 +25,7 @@ pub(crate) fn index_of<'m>(
     let Some(bracket) = index else {
         return Ok(0);
     };
-    let seen = judge(around, &bracket.value, scope)?;
-    wanted(&Ty::Int, &seen)?;
-    Ok(seen.height)
+    height_as(around, &Ty::Int, &bracket.value, scope)
 }
 
 /// The greatest height of arguments of a model, which is declared before or later, else `Unknown`

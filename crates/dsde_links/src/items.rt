@@ -7,7 +7,7 @@ ghost use Rattle.dsde_rules.specs.Judge.{fresh, judge};
 ghost use Rattle.dsde_rules.specs.Blocks.{arms_walk, inner, let_of, walk_all};
 ghost use Rattle.dsde_rules.specs.Structures.{item_walk};
 ghost use Rattle.dsde_scope.specs.Says.{Says, Walks};
-ghost use Rattle.dsde_links.specs.Parts.{arm_test, for_by, for_head, item_arm_walk};
+ghost use Rattle.dsde_links.specs.Parts.{arm_test, for_by, for_head, item_arm_walk, item_bound};
 
 use crate::components::comp;
 use crate::links::link;
@@ -15,9 +15,10 @@ use crate::site::Site;
 use dsde_judge::{judge, test};
 use dsde_names::Names;
 use dsde_rules::{BindingKind, Seen};
-use dsde_scope::{CheckError, above, bind, item_type};
+use dsde_scope::{CheckError, above, bind, close, item_type};
 use dsde_syntax::{Expr, Id, Item, ItemArm};
 use dsde_tables::Local;
+use std::alloc::Global;
 
 /// The height of `let`, whose name is bound behind its value.
 fn let_of<'m>(
@@ -83,10 +84,23 @@ fn for_head<'m>(
 {
     fresh(site, name, scope)?;
     let items = seen_at(site, list, scope)?;
-    let item = item_type(site.alloc(), &items)?;
-    let height = items.height;
+    bind_item(site.alloc(), name, &items, scope)
+}
+
+/// Binds the name of `for` over these items, which are a list, and gives their height.
+fn bind_item<'m>(
+    alloc: Global,
+    name: &'m Id,
+    items: &Seen,
+    scope: &mut Names<Local<'m>>,
+) -> Result<u32, CheckError>
+    requires { is_among binding_name scope.old name.now.name ≡ false }
+    ensures walks { Walks (item_bound name.now items.now scope.old) result scope.new }
+    ensures grows { OnOk result (take (length scope.old) scope.new ≡ scope.old) }
+{
+    let item = item_type(alloc, items)?;
     bind(scope, name, item, BindingKind::Fixed)?;
-    Ok(height)
+    Ok(items.height)
 }
 
 /// The height of an item. The scope is left as the item leaves it.
@@ -135,7 +149,7 @@ fn for_of<'m>(
     let depth = scope.len();
     let start = for_head(site, name, list, scope)?;
     let height = inner(site, body, start, scope)?;
-    scope.truncate(depth);
+    close(scope, depth);
     Ok(above(height))
 }
 
@@ -152,7 +166,7 @@ pub(crate) fn inner<'m>(
 {
     let depth = scope.len();
     let height = walk_all(site, items, start, scope)?;
-    scope.truncate(depth);
+    close(scope, depth);
     Ok(height)
 }
 

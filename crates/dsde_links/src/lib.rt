@@ -9,6 +9,7 @@ mod links;
 mod site;
 mod structures;
 mod translations;
+mod values;
 
 pub use components::args;
 pub use structures::structure;

@@ -5,6 +5,7 @@ ghost use Rattle.dsde_rules.specs.declared.wrong.WrongKind.TheVariants.{BadLink}
 ghost use Rattle.dsde_rules.specs.Steps.{unless};
 ghost use Rattle.dsde_rules.specs.Structures.{link_of};
 ghost use Rattle.dsde_scope.specs.Says.{Says, Walks};
+ghost use Rattle.dsde_links.specs.Parts.{link_between, link_from};
 
 use crate::ends::end_of;
 use crate::site::Site;
@@ -38,8 +39,38 @@ pub(crate) fn link<'m>(
     ensures keeps { OnOk result (scope.new ≡ scope.old) }
 {
     let source = end_of(site, true, &from.part, &from.port, scope)?;
+    link_from(site, at, &source, to, via, scope)
+}
+
+/// The height of a link from this source.
+fn link_from<'m>(
+    site: &Site<'_, 'm>,
+    at: u32,
+    source: &EndSeen,
+    to: &'m End,
+    via: &'m Option<ViaPart>,
+    scope: &mut Names<Local<'m>>,
+) -> Result<u32, CheckError>
+    ensures walks { Walks (link_from site.now at source.now to.now via.now scope.old) result scope.new }
+    ensures keeps { OnOk result (scope.new ≡ scope.old) }
+{
     let target = end_of(site, false, &to.part, &to.port, scope)?;
-    not_both_net(at, &source, &target)?;
+    link_between(site, at, source, &target, via, scope)
+}
+
+/// The height of a link between these ends.
+fn link_between<'m>(
+    site: &Site<'_, 'm>,
+    at: u32,
+    source: &EndSeen,
+    target: &EndSeen,
+    via: &'m Option<ViaPart>,
+    scope: &mut Names<Local<'m>>,
+) -> Result<u32, CheckError>
+    ensures walks { Walks (link_between site.now at source.now target.now via.now scope.old) result scope.new }
+    ensures keeps { OnOk result (scope.new ≡ scope.old) }
+{
+    not_both_net(at, source, target)?;
     let height = through(site.around(), at, &source.ty, &target.ty, via, scope)?;
     Ok(above(height.max(source.height.max(target.height))))
 }

@@ -8,21 +8,21 @@ ghost use Rattle.dsde_rules.specs.Judge.{fixed, fresh};
 ghost use Rattle.dsde_rules.specs.Structures.{body_via, key_via, keyed_via, through, via_of};
 ghost use Rattle.dsde_scope.specs.Says.{Says};
 
+use crate::values::height_as;
 use dsde_judge::judge;
 use dsde_names::Names;
 use dsde_rules::{BindingKind, WrongKind};
-use dsde_scope::{Around, CheckError, bind, copy_type, is_same, wanted};
+use dsde_scope::{Around, CheckError, bind, close, copy_type, is_same};
 use dsde_syntax::{Expr, ViaKey, ViaPart};
-use dsde_tables::Local;
-use dsde_values::{Boxed, Memory, Ty};
+use dsde_tables::{Local, option_type};
+use dsde_values::{Memory, Ty};
 use std::alloc::Global;
 
 /// The type of options of a type.
 fn option_of(alloc: Global, inner: &Ty) -> Result<Ty, Memory>
     ensures { IfOk result (λ own. own ≡ ty.Opt inner.now) }
 {
-    let copy = copy_type(alloc, inner)?;
-    Ok(Ty::Opt(Boxed::new(alloc, copy)?))
+    option_type(alloc, copy_type(alloc, inner)?)
 }
 
 /// The height of a translation, which sees these names alone and is an option of the target's type.
@@ -36,9 +36,21 @@ fn body_via<'m>(
 {
     let own = option_of(around.alloc(), target)?;
     let inside = around.translating();
-    let seen = judge(&inside, body, scope)?;
-    wanted(&own, &seen)?;
-    Ok(seen.height)
+    height_as(&inside, &own, body, scope)
+}
+
+/// Binds the name of the value that is translated.
+fn bind_value<'m>(
+    alloc: Global,
+    source: &Ty,
+    via: &'m ViaPart,
+    names: &mut Names<Local<'m>>,
+) -> Result<(), Memory>
+    requires { is_among binding_name names.old via.now.value.name ≡ false }
+    ensures { OnOk result (names.new ≡ names.old ++ fixed via.now.value source.now ∷ []) }
+{
+    let copy = copy_type(alloc, source)?;
+    bind(names, &via.value, copy, BindingKind::Fixed)
 }
 
 /// The name of the value that is translated, alone.
@@ -46,12 +58,7 @@ fn value_alone<'m>(alloc: Global, source: &Ty, via: &'m ViaPart) -> Result<Names
     ensures { IfOk result (λ names. names ≡ fixed via.now.value source.now ∷ []) }
 {
     let mut names = Names::new(alloc);
-    bind(
-        &mut names,
-        &via.value,
-        copy_type(alloc, source)?,
-        BindingKind::Fixed,
-    )?;
+    bind_value(alloc, source, via, &mut names)?;
     Ok(names)
 }
 
@@ -69,14 +76,9 @@ fn fresh_key<'m>(
     ensures free { OnOk result (is_among binding_name (fixed via.now.value source.now ∷ []) key.now.name.name ≡ false) }
 {
     let depth = scope.len();
-    bind(
-        scope,
-        &via.value,
-        copy_type(around.alloc(), source)?,
-        BindingKind::Fixed,
-    )?;
+    bind_value(around.alloc(), source, via, scope)?;
     around.fresh(&key.name, scope)?;
-    scope.truncate(depth);
+    close(scope, depth);
     Ok(())
 }
 
@@ -95,9 +97,24 @@ fn keyed_via<'m>(
 {
     around.fresh(&via.value, scope)?;
     fresh_key(around, source, via, key, scope)?;
-    let mut names = value_alone(around.alloc(), source, via)?;
-    bind(&mut names, &key.name, own, BindingKind::Fixed)?;
+    let mut names = value_and_key(around.alloc(), source, via, key, own)?;
     body_via(around, target, &via.body, &mut names)
+}
+
+/// The two names of a translation, alone.
+fn value_and_key<'m>(
+    alloc: Global,
+    source: &Ty,
+    via: &'m ViaPart,
+    key: &'m ViaKey,
+    own: Ty,
+) -> Result<Names<Local<'m>>, Memory>
+    requires { is_among binding_name (fixed via.now.value source.now ∷ []) key.now.name.name ≡ false }
+    ensures { IfOk result (λ names. names ≡ fixed via.now.value source.now ∷ fixed key.now.name own ∷ []) }
+{
+    let mut names = value_alone(alloc, source, via)?;
+    bind(&mut names, &key.name, own, BindingKind::Fixed)?;
+    Ok(names)
 }
 
 /// The key expression, the names, and then the translation.
@@ -113,8 +130,9 @@ fn key_via<'m>(
     ensures keeps { OnOk result (scope.new ≡ scope.old) }
 {
     let seen = judge(around, &key.value, scope)?;
+    let before = seen.height;
     let height = keyed_via(around, source, target, via, key, seen.ty, scope)?;
-    Ok(seen.height.max(height))
+    Ok(before.max(height))
 }
 
 /// The height of a translation, which sees one name or two.

@@ -1,3 +1,1 @@
-mod Bodies
-mod Expressions
-mod Structures
+mod Texts

@@ -4,7 +4,7 @@ ghost use Rattle.std.specs.Prelude.{◌≡◌, ◌++◌, ◌∷◌, [], false, I
 ghost use Rattle.dsde_names.specs.Table.{is_among};
 ghost use Rattle.dsde_rules.specs.Tables.{field_name, port_name, with_name};
 ghost use Rattle.dsde_rules.specs.Blocks.{new_field, fields_all, params_all, ports_all, new_port, with_params, with_ports, with_states, body_names};
-ghost use Rattle.dsde_scope.specs.Says.{Says};
+ghost use Rattle.dsde_scope.specs.Says.{Says, Leaves};
 
 use crate::CheckError;
 use crate::names::{bind, unbound};
@@ -26,12 +26,25 @@ pub fn fields_all<'m>(
     ensures { Says (fields_all known.now [] fields.now) result }
 {
     let mut found = Names::new(alloc);
+    add_fields(alloc, known, &mut found, fields)?;
+    Ok(found)
+}
+
+/// Adds fields in their order.
+fn add_fields<'m>(
+    alloc: Global,
+    known: &Known<'_>,
+    found: &mut Names<Member<'m>>,
+    fields: &'m [Typed],
+) -> Result<(), CheckError>
+    ensures { Leaves (fields_all known.now found.old fields.now) result found.new }
+{
     for typed in fields {
-        new_field(&found, &typed.name)?;
+        new_field(found, &typed.name)?;
         let seen = type_of(alloc, known, &typed.ty)?;
         found.push(Member::new(typed.name.name.as_slice(), seen.ty))?;
     }
-    Ok(found)
+    Ok(())
 }
 
 fn new_field(found: &Names<Member<'_>>, name: &Id) -> Result<(), CheckError>
@@ -53,12 +66,25 @@ pub fn params_all<'m>(
     ensures { Says (params_all known.now [] params.now) result }
 {
     let mut scope = Names::new(alloc);
-    for typed in params {
-        unbound(&scope, &typed.name)?;
-        let seen = type_of(alloc, known, &typed.ty)?;
-        bind(&mut scope, &typed.name, seen.ty, BindingKind::Fixed)?;
-    }
+    add_params(alloc, known, &mut scope, params)?;
     Ok(scope)
+}
+
+/// Adds parameters in their order.
+fn add_params<'m>(
+    alloc: Global,
+    known: &Known<'_>,
+    scope: &mut Names<Local<'m>>,
+    params: &'m [Typed],
+) -> Result<(), CheckError>
+    ensures { Leaves (params_all known.now scope.old params.now) result scope.new }
+{
+    for typed in params {
+        unbound(scope, &typed.name)?;
+        let seen = type_of(alloc, known, &typed.ty)?;
+        bind(scope, &typed.name, seen.ty, BindingKind::Fixed)?;
+    }
+    Ok(())
 }
 
 /// Ports: each has a name that no parameter and no port before it has, else `Duplicate` at it.
@@ -71,12 +97,26 @@ pub fn ports_all<'m>(
     ensures { Says (ports_all known.now params.now [] ports.now) result }
 {
     let mut found = Names::new(alloc);
+    add_ports(alloc, known, params, &mut found, ports)?;
+    Ok(found)
+}
+
+/// Adds ports in their order.
+fn add_ports<'m>(
+    alloc: Global,
+    known: &Known<'_>,
+    params: &Names<Local<'_>>,
+    found: &mut Names<PortEntry<'m>>,
+    ports: &'m [PortDecl],
+) -> Result<(), CheckError>
+    ensures { Leaves (ports_all known.now params.now found.old ports.now) result found.new }
+{
     for port in ports {
-        new_port(params, &found, &port.name)?;
+        new_port(params, found, &port.name)?;
         let seen = type_of(alloc, known, &port.ty)?;
         found.push(PortEntry::new(port.out, port.name.name.as_slice(), seen.ty))?;
     }
-    Ok(found)
+    Ok(())
 }
 
 fn new_port(
@@ -103,10 +143,21 @@ pub fn body_names<'m>(
     ensures { IfOk result (λ names. names ≡ body_names params.now body.now) }
 {
     let mut names = Names::new(alloc);
-    with_params(&mut names, params)?;
-    with_ports(&mut names, body.ports.as_slice())?;
-    with_states(&mut names, body.states.as_slice())?;
+    add_names(&mut names, params, body)?;
     Ok(names)
+}
+
+/// Adds the names of a body.
+fn add_names<'m>(
+    names: &mut Names<Word<'m>>,
+    params: &'m [Typed],
+    body: &'m Body,
+) -> Result<(), Memory>
+    ensures { OnOk result (names.new ≡ with_states (with_ports (with_params names.old params.now) body.now.ports) body.now.states) }
+{
+    with_params(names, params)?;
+    with_ports(names, body.ports.as_slice())?;
+    with_states(names, body.states.as_slice())
 }
 
 fn with_params<'m>(names: &mut Names<Word<'m>>, params: &'m [Typed]) -> Result<(), Memory>

@@ -12,6 +12,6 @@ pub use around::Around;
 pub use dsde_tables::{add_name, copy_type, depth_of, is_same, narrow};
 pub use error::CheckError;
 pub use headers::{body_names, fields_all, params_all, ports_all};
-pub use names::{apart, bind, unbound};
+pub use names::{apart, bind, close, unbound};
 pub use seeing::{above, held_type, item_type, seen_as, wanted, within};
 pub use written::type_of;

@@ -1,6 +1,6 @@
 //! Names that are seen.
 
-ghost use Rattle.std.specs.Prelude.{◌≡◌, ◌++◌, ◌∷◌, [], false, OnOk};
+ghost use Rattle.std.specs.Prelude.{◌≡◌, ◌++◌, ◌∷◌, [], false, take, OnOk};
 ghost use Rattle.std.specs.List.{list_any};
 ghost use Rattle.std.specs.Str.{bytes_eq};
 ghost use Rattle.dsde_names.specs.Table.{is_among};
@@ -49,4 +49,12 @@ pub fn bind<'m>(
     ensures { OnOk result (scope.new ≡ scope.old ++ record { name = id.now.name; ty = ty; kind = kind } ∷ []) }
 {
     scope.push(Local::new(id.name.as_slice(), ty, kind))
+}
+
+/// Ends braces that began where this many names were seen: those that were bound in them are seen no
+/// more.
+pub fn close(scope: &mut Names<Local<'_>>, depth: usize)
+    ensures { scope.new ≡ take depth scope.old }
+{
+    scope.truncate(depth);
 }

@@ -1,16 +1,19 @@
 //! What is known of a file at a place in it.
 
 ghost use Rattle.std.specs.Prelude.{◌≡◌, IfOk, OnOk};
-ghost use Rattle.dsde_rules.specs.Tables.{known_of};
+ghost use Rattle.std.specs.Option.{option_copied};
+ghost use Rattle.dsde_rules.specs.Judge.{variants_at, fields_at, fields_of};
+ghost use Rattle.dsde_rules.specs.Tables.{by_text, declared_words, known_of, models_from, shapes_from, text_params, used_words};
+ghost use Rattle.dsde_rules.specs.Types.{depths_from};
 ghost use Rattle.dsde_rules.specs.Rules.{behind_type, behind_func};
 
-use crate::text::{depths, models, shapes};
-use crate::words::type_words;
-use crate::{Callee, Made, ModelEntry, TypeEntry, Word};
+use crate::text::{add_depths, add_models, add_shapes, by_text, text_params};
+use crate::words::{declared_words, used_words};
+use crate::{Callee, Made, Member, ModelEntry, TypeEntry, Word};
 use dsde_lists::Memory;
 use dsde_names::Names;
-use dsde_syntax::{Decl, Id};
-use dsde_values::Seq;
+use dsde_syntax::{Decl, Id, TypeName, Typed};
+use dsde_values::{Seq, Ty};
 use std::alloc::Global;
 use std::marker::Model;
 
@@ -41,10 +44,18 @@ impl<'m> Known<'m> {
     pub fn of(alloc: Global, decls: &'m [Decl]) -> Result<Known<'m>, Memory>
         ensures { IfOk result (λ known. known ≡ known_of decls.now) }
     {
-        let words = type_words(alloc, decls)?;
-        let types = shapes(alloc, &words, decls)?;
-        let depths = depths(alloc, types.as_slice())?;
-        let models = models(alloc, &words, decls)?;
+        let mut words = Names::new(alloc);
+        let mut types = Seq::new(alloc);
+        let mut depths = Seq::new(alloc);
+        let mut models = Names::new(alloc);
+        declare(
+            alloc,
+            &mut words,
+            &mut types,
+            &mut depths,
+            &mut models,
+            decls,
+        )?;
         Ok(Known {
             words,
             types,
@@ -69,6 +80,57 @@ impl<'m> Known<'m> {
     {
         self.funcs.insert(func)?;
         Ok(())
+    }
+
+    /// The identifiers of types that the file declares or names, each at its number.
+    pub fn words(&self) -> &Names<TypeEntry<'m>>
+        ensures { result.now ≡ self.now.words }
+    {
+        &self.words
+    }
+
+    /// A type by its text alone: its identifier may be declared later, or not at all.
+    pub fn by_text(&self, alloc: Global, ty: &TypeName) -> Result<Ty, Memory>
+        ensures { IfOk result (λ found. found ≡ by_text self.now.words ty.now) }
+    {
+        by_text(alloc, &self.words, ty)
+    }
+
+    /// The types of parameters by their text alone.
+    pub fn text_params(&self, alloc: Global, params: &[Typed]) -> Result<Seq<Ty>, Memory>
+        ensures { IfOk result (λ found. found ≡ text_params self.now.words params.now) }
+    {
+        text_params(alloc, &self.words, params)
+    }
+
+    /// The variants of the enum with this number.
+    pub fn variants_at(&self, number: u32) -> Option<&Names<Word<'m>>>
+        ensures { option_copied result ≡ variants_at self.now number }
+    {
+        match self.types().get(number as usize) {
+            Some(made) => made.variants(),
+            None => None,
+        }
+    }
+
+    /// The fields of the record with this number.
+    pub fn fields_at(&self, number: u32) -> Option<&Names<Member<'m>>>
+        ensures { option_copied result ≡ fields_at self.now number }
+    {
+        match self.types().get(number as usize) {
+            Some(made) => made.fields(),
+            None => None,
+        }
+    }
+
+    /// The fields of a type, if it is a record.
+    pub fn fields_of(&self, ty: &Ty) -> Option<&Names<Member<'m>>>
+        ensures { option_copied result ≡ fields_of self.now ty.now }
+    {
+        match ty {
+            Ty::Rec(number) => self.fields_at(*number),
+            _ => None,
+        }
     }
 
     /// The types that the file declares, each at its number.
@@ -105,4 +167,25 @@ impl<'m> Known<'m> {
     {
         &self.funcs
     }
+}
+
+/// Adds the types and the models of all declarations.
+fn declare<'m>(
+    alloc: Global,
+    words: &mut Names<TypeEntry<'m>>,
+    types: &mut Seq<Made<'m>>,
+    depths: &mut Seq<u32>,
+    models: &mut Names<ModelEntry<'m>>,
+    decls: &'m [Decl],
+) -> Result<(), Memory>
+    ensures words { OnOk result (words.new ≡ used_words (declared_words words.old decls.now) decls.now) }
+    ensures types { OnOk result (types.new ≡ shapes_from words.new types.old decls.now) }
+    ensures depths { OnOk result (depths.new ≡ depths_from depths.old types.new) }
+    ensures models { OnOk result (models.new ≡ models_from words.new models.old decls.now) }
+{
+    declared_words(words, decls)?;
+    used_words(words, decls)?;
+    add_shapes(alloc, words, types, decls)?;
+    add_depths(depths, types.as_slice())?;
+    add_models(alloc, words, models, decls)
 }

@@ -1,12 +1,13 @@
 //! Types and models by their text: a type's identifier may be declared later, or not at all.
 
-ghost use Rattle.std.specs.Prelude.{◌≡◌, [], Some, IfOk, OnOk};
+ghost use Rattle.std.specs.Prelude.{◌≡◌, [], ◌++◌, Some, IfOk, OnOk};
+ghost use Rattle.dsde_values.specs.declared.types.Shape.TheVariants as own;
 ghost use Rattle.dsde_rules.specs.Types.{deepest, shape_depth, depths_from};
-ghost use Rattle.dsde_rules.specs.Tables.{added, model_name, with_names, numbered, text_type, by_text, text_fields, with_shape, shapes_from, text_params, text_ports, with_model, models_from};
+ghost use Rattle.dsde_rules.specs.Tables.{added, field_name, port_name, model_name, with_names, numbered, text_type, by_text, text_fields, with_shape, shapes_from, text_params, text_ports, with_model, models_from};
 
-use crate::types::{deeper, depth_of, narrow};
+use crate::types::{deeper, depth_of, list_type, narrow, option_type};
 use crate::{Made, Member, ModelEntry, PortEntry, TypeEntry, Word, add_name};
-use dsde_lists::{Boxed, Memory};
+use dsde_lists::Memory;
 use dsde_names::{Entry, Names};
 use dsde_syntax::{Decl, Id, PortDecl, TypeName, Typed};
 use dsde_values::{Seq, Ty};
@@ -31,47 +32,82 @@ fn text_type(words: &Names<TypeEntry<'_>>, id: &Id) -> Result<Ty, Memory>
     }
 }
 
-fn by_text(alloc: Global, words: &Names<TypeEntry<'_>>, ty: &TypeName) -> Result<Ty, Memory>
+/// A type by its text.
+pub(crate) fn by_text(
+    alloc: Global,
+    words: &Names<TypeEntry<'_>>,
+    ty: &TypeName,
+) -> Result<Ty, Memory>
     ensures { IfOk result (λ found. found ≡ by_text words.now ty.now) }
 {
     match ty {
         TypeName::Int(_) => Ok(Ty::Int),
         TypeName::Bool(_) => Ok(Ty::Bool),
         TypeName::Named(id) => text_type(words, id),
-        TypeName::List(_, part) => {
-            Ok(Ty::List(Boxed::new(alloc, by_text(alloc, words, part.get())?)?))
-        }
-        TypeName::Opt(_, part) => {
-            Ok(Ty::Opt(Boxed::new(alloc, by_text(alloc, words, part.get())?)?))
-        }
+        TypeName::List(_, part) => list_type(alloc, by_text(alloc, words, part.get())?),
+        TypeName::Opt(_, part) => option_type(alloc, by_text(alloc, words, part.get())?),
     }
 }
 
-/// Names, each once.
-fn with_names<'m>(alloc: Global, ids: &'m [Id]) -> Result<Names<Word<'m>>, Memory>
-    ensures { IfOk result (λ names. names ≡ with_names [] ids.now) }
+/// Adds names, each once.
+fn with_names<'m>(names: &mut Names<Word<'m>>, ids: &'m [Id]) -> Result<(), Memory>
+    ensures { OnOk result (names.new ≡ with_names names.old ids.now) }
+{
+    for id in ids {
+        add_name(names, id.name.as_slice())?;
+    }
+    Ok(())
+}
+
+/// The enum of these variants.
+fn made_enum<'m>(alloc: Global, variants: &'m [Id]) -> Result<Made<'m>, Memory>
+    ensures { IfOk result (λ made. made ≡ own.Enum (with_names [] variants.now)) }
 {
     let mut names = Names::new(alloc);
-    for id in ids {
-        add_name(&mut names, id.name.as_slice())?;
-    }
-    Ok(names)
+    with_names(&mut names, variants)?;
+    Ok(Made::of_variants(names))
 }
 
-/// The fields of a record: of two of one name the first counts.
+/// Adds a field, unless one has its name.
+fn add_field<'m>(
+    alloc: Global,
+    words: &Names<TypeEntry<'_>>,
+    fields: &mut Names<Member<'m>>,
+    typed: &'m Typed,
+) -> Result<(), Memory>
+    ensures { OnOk result (fields.new ≡ added field_name fields.old (record { name = typed.now.name.name; ty = by_text words.now typed.now.ty })) }
+{
+    let ty = by_text(alloc, words, &typed.ty)?;
+    fields.insert(Member::new(typed.name.name.as_slice(), ty))?;
+    Ok(())
+}
+
+/// Adds fields: of two of one name the first counts.
 fn text_fields<'m>(
     alloc: Global,
     words: &Names<TypeEntry<'_>>,
-    fields: &'m [Typed],
-) -> Result<Names<Member<'m>>, Memory>
-    ensures { IfOk result (λ found. found ≡ text_fields words.now [] fields.now) }
+    fields: &mut Names<Member<'m>>,
+    typed: &'m [Typed],
+) -> Result<(), Memory>
+    ensures { OnOk result (fields.new ≡ text_fields words.now fields.old typed.now) }
 {
-    let mut found = Names::new(alloc);
-    for typed in fields {
-        let ty = by_text(alloc, words, &typed.ty)?;
-        found.insert(Member::new(typed.name.name.as_slice(), ty))?;
+    for field in typed {
+        add_field(alloc, words, fields, field)?;
     }
-    Ok(found)
+    Ok(())
+}
+
+/// The record of these fields.
+fn made_rec<'m>(
+    alloc: Global,
+    words: &Names<TypeEntry<'_>>,
+    typed: &'m [Typed],
+) -> Result<Made<'m>, Memory>
+    ensures { IfOk result (λ made. made ≡ own.Rec (text_fields words.now [] typed.now)) }
+{
+    let mut fields = Names::new(alloc);
+    text_fields(alloc, words, &mut fields, typed)?;
+    Ok(Made::of_fields(fields))
 }
 
 fn with_shape<'m>(
@@ -83,31 +119,25 @@ fn with_shape<'m>(
     ensures { OnOk result (shapes.new ≡ with_shape words.now shapes.old decl.now) }
 {
     match decl {
-        Decl::Enum { variants, .. } => {
-            let variants = with_names(alloc, variants.as_slice())?;
-            shapes.push(Made::of_variants(variants))
-        }
-        Decl::Rec { fields, .. } => {
-            let fields = text_fields(alloc, words, fields.as_slice())?;
-            shapes.push(Made::of_fields(fields))
-        }
+        Decl::Enum { variants, .. } => shapes.push(made_enum(alloc, variants.as_slice())?),
+        Decl::Rec { fields, .. } => shapes.push(made_rec(alloc, words, fields.as_slice())?),
         _ => Ok(()),
     }
 }
 
-/// The types that are declared, in text order.
-pub(crate) fn shapes<'m>(
+/// Adds the types that are declared, in text order.
+pub(crate) fn add_shapes<'m>(
     alloc: Global,
     words: &Names<TypeEntry<'_>>,
+    shapes: &mut Seq<Made<'m>>,
     decls: &'m [Decl],
-) -> Result<Seq<Made<'m>>, Memory>
-    ensures { IfOk result (λ found. found ≡ shapes_from words.now [] decls.now) }
+) -> Result<(), Memory>
+    ensures { OnOk result (shapes.new ≡ shapes_from words.now shapes.old decls.now) }
 {
-    let mut found = Seq::new(alloc);
     for decl in decls {
-        with_shape(alloc, words, &mut found, decl)?;
+        with_shape(alloc, words, shapes, decl)?;
     }
-    Ok(found)
+    Ok(())
 }
 
 /// The depth of the deepest field.
@@ -130,30 +160,72 @@ fn shape_depth(depths: &[u32], shape: &Made<'_>) -> u32
     }
 }
 
-/// How deep each of these types is, by those before it.
-pub(crate) fn depths(alloc: Global, shapes: &[Made<'_>]) -> Result<Seq<u32>, Memory>
-    ensures { IfOk result (λ found. found ≡ depths_from [] shapes.now) }
+/// Adds how deep each of these types is, by those before it.
+pub(crate) fn add_depths(depths: &mut Seq<u32>, shapes: &[Made<'_>]) -> Result<(), Memory>
+    ensures { OnOk result (depths.new ≡ depths_from depths.old shapes.now) }
 {
-    let mut found = Seq::new(alloc);
     for shape in shapes {
-        let depth = shape_depth(found.as_slice(), shape);
-        found.push(depth)?;
+        let depth = shape_depth(depths.as_slice(), shape);
+        depths.push(depth)?;
     }
-    Ok(found)
+    Ok(())
 }
 
-fn text_params(
+/// The types of parameters.
+pub(crate) fn text_params(
     alloc: Global,
     words: &Names<TypeEntry<'_>>,
     params: &[Typed],
 ) -> Result<Seq<Ty>, Memory>
     ensures { IfOk result (λ found. found ≡ text_params words.now params.now) }
 {
-    let mut found = Seq::new(alloc);
+    let mut types = Seq::new(alloc);
+    add_types(alloc, words, &mut types, params)?;
+    Ok(types)
+}
+
+/// Adds the types of parameters.
+fn add_types(
+    alloc: Global,
+    words: &Names<TypeEntry<'_>>,
+    types: &mut Seq<Ty>,
+    params: &[Typed],
+) -> Result<(), Memory>
+    ensures { OnOk result (types.new ≡ types.old ++ text_params words.now params.now) }
+{
     for param in params {
-        found.push(by_text(alloc, words, &param.ty)?)?;
+        types.push(by_text(alloc, words, &param.ty)?)?;
     }
-    Ok(found)
+    Ok(())
+}
+
+/// Adds a port, unless one has its name.
+fn add_port<'m>(
+    alloc: Global,
+    words: &Names<TypeEntry<'_>>,
+    ports: &mut Names<PortEntry<'m>>,
+    port: &'m PortDecl,
+) -> Result<(), Memory>
+    ensures { OnOk result (ports.new ≡ added port_name ports.old (record { out = port.now.out; name = port.now.name.name; ty = by_text words.now port.now.ty })) }
+{
+    let ty = by_text(alloc, words, &port.ty)?;
+    ports.insert(PortEntry::new(port.out, port.name.name.as_slice(), ty))?;
+    Ok(())
+}
+
+/// Adds ports: of two of one name the first counts.
+fn add_ports<'m>(
+    alloc: Global,
+    words: &Names<TypeEntry<'_>>,
+    found: &mut Names<PortEntry<'m>>,
+    ports: &'m [PortDecl],
+) -> Result<(), Memory>
+    ensures { OnOk result (found.new ≡ text_ports words.now found.old ports.now) }
+{
+    for port in ports {
+        add_port(alloc, words, found, port)?;
+    }
+    Ok(())
 }
 
 /// Ports: of two of one name the first counts.
@@ -165,10 +237,7 @@ fn text_ports<'m>(
     ensures { IfOk result (λ found. found ≡ text_ports words.now [] ports.now) }
 {
     let mut found = Names::new(alloc);
-    for port in ports {
-        let ty = by_text(alloc, words, &port.ty)?;
-        found.insert(PortEntry::new(port.out, port.name.name.as_slice(), ty))?;
-    }
+    add_ports(alloc, words, &mut found, ports)?;
     Ok(found)
 }
 
@@ -228,17 +297,17 @@ fn with_model<'m>(
     }
 }
 
-/// The models of a file, in text order.
-pub(crate) fn models<'m>(
+/// Adds the models of a file, in text order.
+pub(crate) fn add_models<'m>(
     alloc: Global,
     words: &Names<TypeEntry<'_>>,
+    models: &mut Names<ModelEntry<'m>>,
     decls: &'m [Decl],
-) -> Result<Names<ModelEntry<'m>>, Memory>
-    ensures { IfOk result (λ found. found ≡ models_from words.now [] decls.now) }
+) -> Result<(), Memory>
+    ensures { OnOk result (models.new ≡ models_from words.now models.old decls.now) }
 {
-    let mut found = Names::new(alloc);
     for decl in decls {
-        with_model(alloc, words, &mut found, decl)?;
+        with_model(alloc, words, models, decl)?;
     }
-    Ok(found)
+    Ok(())
 }

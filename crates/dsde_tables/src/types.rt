@@ -1,6 +1,7 @@
 //! Types.
 
 ghost use Rattle.std.specs.Prelude.{◌≡◌, unwrap_or, slice_get, IfOk};
+ghost use Rattle.dsde_values.specs.declared.types.Ty.TheVariants as own;
 ghost use Rattle.dsde_rules.specs.Types.{same, deeper, depth_of};
 
 use dsde_lists::{Boxed, Memory};
@@ -16,9 +17,23 @@ pub fn copy_type(alloc: Global, ty: &Ty) -> Result<Ty, Memory>
         Ty::Bool => Ok(Ty::Bool),
         Ty::Enum(number) => Ok(Ty::Enum(*number)),
         Ty::Rec(number) => Ok(Ty::Rec(*number)),
-        Ty::List(part) => Ok(Ty::List(Boxed::new(alloc, copy_type(alloc, part.get())?)?)),
-        Ty::Opt(part) => Ok(Ty::Opt(Boxed::new(alloc, copy_type(alloc, part.get())?)?)),
+        Ty::List(part) => list_type(alloc, copy_type(alloc, part.get())?),
+        Ty::Opt(part) => option_type(alloc, copy_type(alloc, part.get())?),
     }
+}
+
+/// `list<ty>`
+pub fn list_type(alloc: Global, ty: Ty) -> Result<Ty, Memory>
+    ensures { IfOk result (λ made. made ≡ own.List ty) }
+{
+    Ok(Ty::List(Boxed::new(alloc, ty)?))
+}
+
+/// `opt<ty>`
+pub fn option_type(alloc: Global, ty: Ty) -> Result<Ty, Memory>
+    ensures { IfOk result (λ made. made ≡ own.Opt ty) }
+{
+    Ok(Ty::Opt(Boxed::new(alloc, ty)?))
 }
 
 /// Whether two types are the same.

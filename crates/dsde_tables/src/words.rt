@@ -1,27 +1,13 @@
 //! The identifiers of types that a file declares or names.
 
-ghost use Rattle.std.specs.Prelude.{◌≡◌, [], IfOk, OnOk};
+ghost use Rattle.std.specs.Prelude.{◌≡◌, OnOk};
 ghost use Rattle.std.specs.Option.{option_copied};
-ghost use Rattle.dsde_rules.specs.Tables.{with_word, declared_word, declared_words, used_in, used_word, used_typed, used_ports, used_decl, used_words, type_words};
+ghost use Rattle.dsde_rules.specs.Tables.{with_word, declared_word, declared_words, used_in, used_word, used_typed, used_ports, used_decl, used_words};
 
 use crate::TypeEntry;
 use dsde_lists::Memory;
 use dsde_names::Names;
 use dsde_syntax::{Decl, Id, PortDecl, TypeName, Typed};
-use std::alloc::Global;
-
-/// The identifiers of types: those that are declared, and then the others that are named.
-pub(crate) fn type_words<'m>(
-    alloc: Global,
-    decls: &'m [Decl],
-) -> Result<Names<TypeEntry<'m>>, Memory>
-    ensures { IfOk result (λ words. words ≡ type_words decls.now) }
-{
-    let mut words = Names::new(alloc);
-    declared_words(&mut words, decls)?;
-    used_words(&mut words, decls)?;
-    Ok(words)
-}
 
 fn with_word<'m>(words: &mut Names<TypeEntry<'m>>, is_enum: bool, id: &'m Id) -> Result<(), Memory>
     ensures { OnOk result (words.new ≡ with_word words.old is_enum id.now) }
@@ -41,7 +27,10 @@ fn declared_word<'m>(words: &mut Names<TypeEntry<'m>>, decl: &'m Decl) -> Result
 }
 
 /// Adds the identifiers of the types that are declared, in text order.
-fn declared_words<'m>(words: &mut Names<TypeEntry<'m>>, decls: &'m [Decl]) -> Result<(), Memory>
+pub(crate) fn declared_words<'m>(
+    words: &mut Names<TypeEntry<'m>>,
+    decls: &'m [Decl],
+) -> Result<(), Memory>
     ensures { OnOk result (words.new ≡ declared_words words.old decls.now) }
 {
     for decl in decls {
@@ -106,7 +95,11 @@ fn used_decl<'m>(words: &mut Names<TypeEntry<'m>>, decl: &'m Decl) -> Result<(),
     }
 }
 
-fn used_words<'m>(words: &mut Names<TypeEntry<'m>>, decls: &'m [Decl]) -> Result<(), Memory>
+/// Adds the identifiers that all declarations name, in text order.
+pub(crate) fn used_words<'m>(
+    words: &mut Names<TypeEntry<'m>>,
+    decls: &'m [Decl],
+) -> Result<(), Memory>
     ensures { OnOk result (words.new ≡ used_words words.old decls.now) }
 {
     for decl in decls {

@@ -1,6 +1,0 @@
-use Rattle.std.proofs.Common.{◌≡◌, [], drop}
-use Rattle.dsde_rules.specs.Rules.{apart_all}
-use Rattle.dsde_check.proofs.own.apart_all.Given as goal
-
-abbrev pub invariant-loop-decl : goal.invariant-loop-decl
-invariant-loop-decl l = apart_all l.names (drop l.decl-index l.decls) ≡ apart_all [] l.decls

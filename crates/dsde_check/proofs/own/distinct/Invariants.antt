@@ -1,6 +1,0 @@
-use Rattle.std.proofs.Common.{◌≡◌, [], drop}
-use Rattle.dsde_rules.specs.Rules.{distinct}
-use Rattle.dsde_check.proofs.own.distinct.Given as goal
-
-abbrev pub invariant-loop-id : goal.invariant-loop-id
-invariant-loop-id l = distinct l.names (drop l.id-index l.ids) ≡ distinct [] l.ids
