@@ -13,7 +13,8 @@ use Rattle.dsde_nodes.specs.Pieces as said
 use Rattle.dsde_nodes.specs.Pieces.{Block, Next, Piece}
 use Rattle.dsde_laying.specs.Lay.{Laid, Lay}
 use Rattle.dsde_laying.specs.LayPieces as laid
-use Rattle.dsde_laying.specs.LayPieces.{Tables, LaidPiece}
+use Rattle.dsde_nodes.specs.declared.tables.Tables.{Tables}
+use Rattle.dsde_laying.specs.LayPieces.{LaidPiece}
 use Rattle.dsde_laying.specs.LaidIs.{next_of, placed}
 use Rattle.dsde_laying.proofs.Lays as of_expr
 

@@ -28,7 +28,8 @@ use Rattle.dsde_nodes.specs.Statements as said
 use Rattle.dsde_nodes.specs.Statements.{FuncParts, Blocks, typed_fields, port_fields, input_fields, body_scope, phase_at}
 use Rattle.dsde_laying.specs.Lay.{lay}
 use Rattle.dsde_laying.specs.LayPieces as step
-use Rattle.dsde_laying.specs.LayPieces.{Tables, LaidPiece}
+use Rattle.dsde_nodes.specs.declared.tables.Tables.{Tables}
+use Rattle.dsde_laying.specs.LayPieces.{LaidPiece}
 use Rattle.dsde_laying.specs.LayStatements as laid
 use Rattle.dsde_laying.specs.LaidIs.{next_of}
 use Rattle.dsde_laying.proofs.Lays as of_expr

@@ -9,7 +9,8 @@ use Rattle.dsde_nodes.specs.Typing.{Scope}
 use Rattle.dsde_nodes.specs.Expressions.{Resolved, resolve}
 use Rattle.dsde_laying.specs.Lay.{Table, Laid, lay}
 use Rattle.dsde_laying.specs.LayModels.{lay_model, no_tables}
-use Rattle.dsde_laying.specs.LayPieces.{Tables, LaidPiece}
+use Rattle.dsde_nodes.specs.declared.tables.Tables.{Tables}
+use Rattle.dsde_laying.specs.LayPieces.{LaidPiece}
 
 -- the resolution behind a table
 abbrev pub laid_as : Resolved → Scope → Table → Laid

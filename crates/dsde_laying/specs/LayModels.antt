@@ -5,7 +5,8 @@ use Rattle.dsde_syntax.specs.declared.decl.Decl.TheVariants as decl
 use Rattle.dsde_syntax.specs.declared.decl.Model.{Model}
 use Rattle.dsde_rules.specs.declared.known.Known.{Known}
 use Rattle.dsde_nodes.specs.Models.{Parts, no_parts, place_of_items, whole_of}
-use Rattle.dsde_laying.specs.LayPieces.{Tables, LaidPiece, Step, ◌>>=◌, give, over}
+use Rattle.dsde_nodes.specs.declared.tables.Tables.{Tables}
+use Rattle.dsde_laying.specs.LayPieces.{LaidPiece, Step, ◌>>=◌, give, over}
 use Rattle.dsde_laying.specs.LayStatements.{lay_func, lay_body}
 use Rattle.dsde_laying.specs.LayItems.{lay_all, lay_items}
 use Rattle.dsde_nodes.specs.Statements.{body_scope}

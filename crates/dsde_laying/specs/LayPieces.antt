@@ -1,20 +1,13 @@
 -- How a piece of text is laid behind the tables of a model: what the code does, step by step.
 use Rattle.std.specs.Prelude.{ℕ, List, [], ◌∷◌, ◌++◌, length, Option, Some, None, slice_set}
 use Rattle.dsde_values.specs.declared.types.Ty.{Ty}
-use Rattle.dsde_nodes.specs.declared.code.ViaCode.{ViaCode}
 use Rattle.dsde_nodes.specs.declared.ids.BlockId.{BlockId}
 use Rattle.dsde_nodes.specs.declared.ids.ExprId.{ExprId}
-use Rattle.dsde_nodes.specs.declared.node.Node.{Node}
+use Rattle.dsde_nodes.specs.declared.tables.Tables.{Tables}
 use Rattle.dsde_nodes.specs.Typing.{Scope, with_slot}
 use Rattle.dsde_nodes.specs.Expressions.{expr_id}
 use Rattle.dsde_nodes.specs.Pieces.{Block}
 use Rattle.dsde_laying.specs.Lay.{Lay}
-
--- the tables of a model
-pub record Tables : Type 0 where
-  pub nodes : List Node
-  pub blocks : List Block
-  pub vias : List ViaCode
 
 -- what stands for a piece of text, the tables behind it, and the names that are seen there
 pub record LaidPiece (A : Type 0) : Type 0 where

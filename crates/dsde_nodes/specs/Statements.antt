@@ -104,8 +104,11 @@ abbrev pub phase_at : Option Phase → ℕ
 phase_at phase = option_map_or (λ (own : Phase). own.at) phase 0
 
 -- what external and confluent see: each in port by the list of the values that came, and `elapsed`
+abbrev pub list_fields : List Field → List Field
+list_fields ins = map (λ (port : Field). record { name = port.name; ty = ty.List port.ty }) ins
+
 abbrev pub input_fields : List Field → List Field
-input_fields ins = map (λ (port : Field). record { name = port.name; ty = ty.List port.ty }) ins ++ record { name = elapsed_name; ty = ty.Int } ∷ []
+input_fields ins = list_fields ins ++ record { name = elapsed_name; ty = ty.Int } ∷ []
 
 -- the blocks of a body
 pub record Blocks : Type 0 where

@@ -18,7 +18,7 @@ pub enum Act {
 }
 
 /// A condition, and the block behind it.
-#[derive(Clone, Copy, Debug, PartialEq, Eq)]
+#[derive(Clone, Copy, Debug)]
 pub struct ActArm {
     pub cond: ExprId,
     pub then: BlockId,

@@ -4,7 +4,7 @@ use crate::{BlockId, ExprId};
 use dsde_values::Seq;
 
 /// A function: the block before its `return`, and its value.
-#[derive(Clone, Copy, Debug, PartialEq, Eq)]
+#[derive(Clone, Copy, Debug)]
 pub struct FnCode {
     pub block: BlockId,
     pub value: ExprId,
@@ -28,7 +28,7 @@ pub struct Code {
 }
 
 /// A translation: its value is in slot 0, and its key, if it has one, in slot 1.
-#[derive(Clone, Copy, Debug, PartialEq, Eq)]
+#[derive(Clone, Copy, Debug)]
 pub struct ViaCode {
     pub key: bool,
     pub body: ExprId,

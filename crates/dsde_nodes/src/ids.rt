@@ -1,19 +1,19 @@
 //! Numbers of what stands in a model, counted from 0 in text order.
 
 /// The number of an atomic model or a network.
-#[derive(Clone, Copy, Debug, PartialEq, Eq)]
+#[derive(Clone, Copy, Debug)]
 pub struct ModelId(pub u32);
 
 /// The number of an expression, where each comes before its parts. Parentheses have none, and a
 /// chain of operators or suffixes is nested to the left.
-#[derive(Clone, Copy, Debug, PartialEq, Eq)]
+#[derive(Clone, Copy, Debug)]
 pub struct ExprId(pub u32);
 
 /// The number of a block, by its opening brace. The statements of a function before its `return` are
 /// one block.
-#[derive(Clone, Copy, Debug, PartialEq, Eq)]
+#[derive(Clone, Copy, Debug)]
 pub struct BlockId(pub u32);
 
 /// The number of a translation.
-#[derive(Clone, Copy, Debug, PartialEq, Eq)]
+#[derive(Clone, Copy, Debug)]
 pub struct ViaId(pub u32);

@@ -8,6 +8,7 @@ mod ids;
 mod info;
 mod make;
 mod node;
+mod tables;
 
 pub use act::{Act, ActArm};
 pub use code::{Code, FnCode, ViaCode};
@@ -16,3 +17,4 @@ pub use ids::{BlockId, ExprId, ModelId, ViaId};
 pub use info::Info;
 pub use make::{Make, MakeArm, MakeEnd, MakeIndex, MakePart, MakeVia};
 pub use node::{Binary, Builtin, Node, NodeArm};
+pub use tables::Tables;

@@ -38,7 +38,7 @@ pub struct MakeArm {
 }
 
 /// An index, with the place of `[`.
-#[derive(Clone, Copy, Debug, PartialEq, Eq)]
+#[derive(Clone, Copy, Debug)]
 pub struct MakeIndex {
     pub at: u32,
     pub value: ExprId,
@@ -64,7 +64,7 @@ pub struct MakeEnd {
 }
 
 /// The translation of a link, and its key.
-#[derive(Clone, Copy, Debug, PartialEq, Eq)]
+#[derive(Clone, Copy, Debug)]
 pub struct MakeVia {
     pub id: ViaId,
     pub key: Option<ExprId>,

@@ -48,14 +48,14 @@ pub enum Node {
 }
 
 /// A condition, and the value behind it.
-#[derive(Clone, Copy, Debug, PartialEq, Eq)]
+#[derive(Clone, Copy, Debug)]
 pub struct NodeArm {
     pub cond: ExprId,
     pub value: ExprId,
 }
 
 /// A builtin, but `some`.
-#[derive(Clone, Copy, Debug, PartialEq, Eq)]
+#[derive(Clone, Copy, Debug)]
 pub enum Builtin {
     Len,
     Range,
@@ -69,7 +69,7 @@ pub enum Builtin {
 }
 
 /// An operator of two parts.
-#[derive(Clone, Copy, Debug, PartialEq, Eq)]
+#[derive(Clone, Copy, Debug)]
 pub enum Binary {
     Or,
     And,

@@ -1,10 +1,11 @@
-//! `dsde_refusals`: reads models from texts, and compares why each is refused, and where, with what is
-//! wanted.
+//! `dsde_refusals`: reads models from texts, and compares why each is refused and where, or what it is
+//! resolved to, with what is wanted.
 //!
 //! The words after the program's name are names of files of texts. It writes a line for each table,
 //! and one for each text of which something differs.
 #![tactic(auto)]
 
+mod resolved;
 mod verdict;
 
 use crate::verdict::differences;

@@ -1,5 +1,6 @@
-//! Why a text is refused, beside what is wanted.
+//! Why a text is refused, or what it is resolved to, beside what is wanted.
 
+use crate::resolved::resolved;
 use anyhow::{Context, Result, bail};
 use dsde_data::{Value, bytes_of, check_names, tell_text};
 use dsde_verdict::{ReadModel, Refusal, read_model};
@@ -9,13 +10,18 @@ use std::str;
 /// What differs from what an entry wants, below its text; nothing where nothing differs.
 ///
 /// An entry has its `text`, and where no model is accepted for it the `refused` kind with its place:
-/// `KIND LINE:COLUMN`.
+/// `KIND LINE:COLUMN`. Of an accepted one it may say what it is `resolved` to.
 pub(crate) fn differences(alloc: Global, entry: &Value) -> Result<String> {
-    check_names(entry, &["text", "refused"])?;
+    check_names(entry, &["text", "refused", "resolved"])?;
     let text = bytes_of(alloc, entry.get("text").context("text: left out")?)?;
-    let refused = refused(alloc, &text)?;
     let mut lines = String::new(alloc);
-    tell_text(alloc, &mut lines, entry, "refused", refused.as_bytes())?;
+    if entry.get("resolved").is_some() {
+        let resolved = resolution(alloc, &text)?;
+        tell_text(alloc, &mut lines, entry, "resolved", resolved.as_bytes())?;
+    } else {
+        let refused = refused(alloc, &text)?;
+        tell_text(alloc, &mut lines, entry, "refused", refused.as_bytes())?;
+    }
     if lines.is_empty() {
         return Ok(lines);
     }
@@ -42,4 +48,12 @@ fn refused(alloc: Global, text: &[u8]) -> Result<String> {
         Err(ReadModel::Memory) => bail!("memory ran out"),
     }
     Ok(refused)
+}
+
+/// What the model of a text is resolved to; nothing where none is accepted.
+fn resolution(alloc: Global, text: &[u8]) -> Result<String> {
+    match read_model(alloc, text) {
+        Ok(model) => resolved(alloc, &model),
+        Err(_) => Ok(String::new(alloc)),
+    }
 }

@@ -23,8 +23,13 @@ fn main(rt: HostRuntime) -> Result<()> {
 
 fn show_file(rt: &(impl Files + Print + AllocGlobal), name: &str) -> Result<()> {
     let file = read_cases(rt, name)?;
-    check_names(&file, &["tables"])?;
-    for table in items_at(&file, "tables")? {
+    show_tables(rt, &file)
+}
+
+/// Writes what comes of each table of a file.
+fn show_tables(rt: &(impl Print + AllocGlobal), file: &Value) -> Result<()> {
+    check_names(file, &["tables"])?;
+    for table in items_at(file, "tables")? {
         show_table(rt, table)?;
     }
     Ok(())
@@ -33,13 +38,22 @@ fn show_file(rt: &(impl Files + Print + AllocGlobal), name: &str) -> Result<()> 
 /// Writes a line for a table, and one for each of its texts of which something differs.
 fn show_table(rt: &(impl Print + AllocGlobal), table: &Value) -> Result<()> {
     check_names(table, &["name", "texts"])?;
-    let name = word_at(table, "name")?;
-    let texts = items_at(table, "texts")?;
+    show_texts(rt, word_at(table, "name")?, items_at(table, "texts")?)
+}
+
+/// The same of a table of this name with these texts.
+fn show_texts(rt: &(impl Print + AllocGlobal), name: &str, texts: &[Value]) -> Result<()> {
     let count = texts.len();
     println!(rt; "{name}: {count} texts")?;
     for entry in texts {
-        let lines = differences(rt.alloc(), entry).context(format_args!("{name}"))?;
-        print!(rt; "{lines}")?;
+        show_entry(rt, name, entry)?;
     }
+    Ok(())
+}
+
+/// Writes what differs of a text of this table.
+fn show_entry(rt: &(impl Print + AllocGlobal), name: &str, entry: &Value) -> Result<()> {
+    let lines = differences(rt.alloc(), entry).context(format_args!("{name}"))?;
+    print!(rt; "{lines}")?;
     Ok(())
 }

@@ -1,12 +1,12 @@
 //! What the lexer, the parser and the printer make of a text.
 
-ghost use Rattle.std.specs.Prelude.{◌≡◌, ◌+◌, ◌≤◌, length, All, IfOk, IfSome, Ok};
+ghost use Rattle.std.specs.Prelude.{◌≡◌, ◌+◌, ◌≤◌, length, All, Ok};
 ghost use Rattle.dsde_syntax.specs.Spelling.{HasToken};
-ghost use Rattle.dsde_lexer.specs.Tokens.{tokens};
+ghost use Rattle.dsde_lexer.specs.Tokens.{tokens as tokens_of_text};
 
 use dsde_lexer::{LexError, Places, lex};
 use dsde_parser::{ParseError, parse};
-use dsde_syntax::{Items, Memory, Model, Tok, Token, Word, print_model, tokens_of};
+use dsde_syntax::{Memory, Model, Tok, Token, Word, print_model, tokens_of};
 use std::alloc::Global;
 use std::str;
 
@@ -35,44 +35,87 @@ pub(crate) fn read(alloc: Global, text: &[u8]) -> Result<Reading, Memory> {
         printed: Word::new(alloc),
         comes_back: true,
     };
-    if let Some(tokens) = cut(alloc, text, &mut reading.refused)? {
-        let places = Places::new(alloc, text, tokens.as_slice())?;
-        show_tokens(&mut reading.tokens, tokens.as_slice())?;
-        show_places(&mut reading.places, &places, tokens.len())?;
-        match parse(alloc, tokens.as_slice()) {
-            Ok(model) => {
-                reading.printed = print_model(alloc, &model)?;
-                let printed = reading.printed.as_slice();
-                reading.comes_back = comes_back(alloc, tokens.as_slice(), &model, printed)?;
-            }
-            Err(ParseError::Syntax(at)) => {
-                let (line, column) = places.line_column(at);
-                write!(reading.refused, "Syntax {line}:{column}")?;
-            }
-            Err(ParseError::Nested(at)) => {
-                let (line, column) = places.line_column(at);
-                write!(reading.refused, "Nested {line}:{column}")?;
-            }
-            Err(ParseError::Memory) => return Err(Memory),
-        }
-    }
+    read_text(alloc, text, &mut reading)?;
     Ok(reading)
 }
 
-/// The tokens of a text, or why it has none.
-fn cut(alloc: Global, text: &[u8], refused: &mut String) -> Result<Option<Items<Token>>, Memory>
-    ensures whole { IfOk result (λ cut. IfSome cut (λ list. tokens text.now ≡ Ok list)) }
-    ensures well_formed { IfOk result (λ cut. IfSome cut (All HasToken)) }
-    ensures few { IfOk result (λ cut. IfSome cut (λ list. length list ≤ 1_048_576)) }
-{
+/// Reads a text as a model into what is made of it.
+fn read_text(alloc: Global, text: &[u8], reading: &mut Reading) -> Result<(), Memory> {
     match lex(alloc, text) {
-        Ok(tokens) => return Ok(Some(tokens)),
-        Err(LexError::BadByte(at)) => write!(refused, "BadByte {at}")?,
-        Err(LexError::BadNumber(at)) => write!(refused, "BadNumber {at}")?,
-        Err(LexError::TooLong) => write!(refused, "TooLong")?,
-        Err(LexError::Memory) => return Err(Memory),
+        Ok(tokens) => read_tokens(alloc, text, tokens.as_slice(), reading),
+        Err(error) => show_uncut(&mut reading.refused, error),
     }
-    Ok(None)
+}
+
+/// Shows why a text is not cut into tokens.
+fn show_uncut(refused: &mut String, error: LexError) -> Result<(), Memory> {
+    match error {
+        LexError::BadByte(at) => write!(refused, "BadByte {at}")?,
+        LexError::BadNumber(at) => write!(refused, "BadNumber {at}")?,
+        LexError::TooLong => write!(refused, "TooLong")?,
+        LexError::Memory => return Err(Memory),
+    }
+    Ok(())
+}
+
+/// Reads the tokens of a text as a model.
+fn read_tokens(
+    alloc: Global,
+    text: &[u8],
+    tokens: &[Token],
+    reading: &mut Reading,
+) -> Result<(), Memory>
+    requires cut { tokens_of_text text.now ≡ Ok tokens.now }
+    requires well_formed { All HasToken tokens.now }
+    requires few { length tokens.now ≤ 1_048_576 }
+{
+    show_tokens(&mut reading.tokens, tokens)?;
+    let places = Places::new(alloc, text, tokens)?;
+    read_placed(alloc, tokens, &places, reading)
+}
+
+/// Reads tokens whose places these are as a model.
+fn read_placed(
+    alloc: Global,
+    tokens: &[Token],
+    places: &Places,
+    reading: &mut Reading,
+) -> Result<(), Memory>
+    requires all { length places.now ≡ length tokens.now + 1 }
+    requires well_formed { All HasToken tokens.now }
+    requires few { length tokens.now ≤ 1_048_576 }
+{
+    show_places(&mut reading.places, places, tokens.len())?;
+    match parse(alloc, tokens) {
+        Ok(model) => show_model(alloc, tokens, &model, reading),
+        Err(ParseError::Syntax(at)) => {
+            show_refused(&mut reading.refused, "Syntax", places.line_column(at))
+        }
+        Err(ParseError::Nested(at)) => {
+            show_refused(&mut reading.refused, "Nested", places.line_column(at))
+        }
+        Err(ParseError::Memory) => Err(Memory),
+    }
+}
+
+/// Shows why tokens are no model, and at which line and column.
+fn show_refused(refused: &mut String, why: &str, place: (u32, u32)) -> Result<(), Memory> {
+    let (line, column) = place;
+    write!(refused, "{why} {line}:{column}")?;
+    Ok(())
+}
+
+/// Shows what is printed of the model of these tokens, and whether it comes back.
+fn show_model(
+    alloc: Global,
+    tokens: &[Token],
+    model: &Model,
+    reading: &mut Reading,
+) -> Result<(), Memory> {
+    reading.printed = print_model(alloc, model)?;
+    reading.comes_back = has_tokens(alloc, model, tokens)?
+        && is_read_alike(alloc, reading.printed.as_slice(), tokens)?;
+    Ok(())
 }
 
 fn show_tokens(shown: &mut String, tokens: &[Token]) -> Result<(), Memory> {
@@ -115,25 +158,45 @@ fn show_places(shown: &mut String, places: &Places, tokens: usize) -> Result<(),
     Ok(())
 }
 
-/// Whether a model of these tokens and what its printed text spells have these tokens, and both
-/// are printed alike.
-fn comes_back(
-    alloc: Global,
-    tokens: &[Token],
-    model: &Model,
-    printed: &[u8],
-) -> Result<bool, Memory> {
-    let mut refused = String::new(alloc);
-    if let Some(cut) = cut(alloc, printed, &mut refused)? {
-        if let Ok(again) = parse(alloc, cut.as_slice()) {
-            return Ok(
-                has_tokens(alloc, model, tokens)?
-                    && has_tokens(alloc, &again, tokens)?
-                    && print_model(alloc, &again)?.as_slice() == printed,
-            );
-        }
+/// Whether a text is read as a model of these tokens, and is what is printed of it.
+fn is_read_alike(alloc: Global, text: &[u8], tokens: &[Token]) -> Result<bool, Memory> {
+    match lex(alloc, text) {
+        Ok(cut) => is_parsed_alike(alloc, cut.as_slice(), text, tokens),
+        Err(LexError::Memory) => Err(Memory),
+        Err(_) => Ok(false),
     }
-    Ok(false)
+}
+
+/// The same of what the text is cut into.
+fn is_parsed_alike(
+    alloc: Global,
+    cut: &[Token],
+    text: &[u8],
+    tokens: &[Token],
+) -> Result<bool, Memory>
+    requires well_formed { All HasToken cut.now }
+    requires few { length cut.now ≤ 1_048_576 }
+{
+    match parse(alloc, cut) {
+        Ok(model) => is_alike_printed(alloc, &model, text, tokens),
+        Err(_) => Ok(false),
+    }
+}
+
+/// Whether a model has these tokens and is printed as a text.
+fn is_alike_printed(
+    alloc: Global,
+    model: &Model,
+    text: &[u8],
+    tokens: &[Token],
+) -> Result<bool, Memory> {
+    Ok(has_tokens(alloc, model, tokens)? && is_printed_as(alloc, model, text)?)
+}
+
+/// Whether this is what is printed of a model.
+fn is_printed_as(alloc: Global, model: &Model, text: &[u8]) -> Result<bool, Memory> {
+    let printed = print_model(alloc, model)?;
+    Ok(printed.as_slice() == text)
 }
 
 /// Whether a model's tokens are spelled as these.

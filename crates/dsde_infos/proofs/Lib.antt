@@ -1,0 +1,2 @@
+pub mod Defs
+pub mod Parts

@@ -1,0 +1,4 @@
+pub mod Comprehensions
+pub mod Forms
+pub mod Growth
+pub mod Rooms
