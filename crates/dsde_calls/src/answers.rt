@@ -1,7 +1,7 @@
 //! What a reader of inputs answers, in lines.
 
 ghost use Rattle.std.specs.Prelude.{◌≡◌, ◌<◌, IfOk};
-ghost use Rattle.dsde_input.specs.Record.{ArePorts};
+ghost use Rattle.dsde_records.specs.Record.{ArePorts};
 
 use dsde_input::{InputEnd, InputReader};
 use dsde_io::MemorySource;

@@ -3,11 +3,10 @@ use Rattle.std.proofs.Common.{◌≡◌, ℕ, ◌<◌, ◌⊎◌, inl, inr, List
 use Rattle.std.specs.Prelude.{Option, Some, None, ⊤, IfSome, IfOk, IsSomeAnd}
 use Rattle.std.proofs.lemmas.List.{append-nil}
 use Rattle.dsde_syntax.specs.declared.decl.Model.{Model}
-use Rattle.dsde_first.specs.declared.first.FirstModel.{FirstModel}
-use Rattle.dsde_first.specs.First.{Spells}
-use Rattle.dsde_input.specs.Records.{Records}
+use Rattle.dsde_records.specs.Records.{Records}
+use Rattle.dsde_runs.specs.Run.{Run}
 use Rattle.dsde_io.specs.Held.{Bytes}
-use Rattle.dsde_run.specs.Run.{Run, records_in}
+use Rattle.dsde_run.specs.Run.{Running, declares_network, records_in}
 use Rattle.dsde_verdict.specs.declared.refusal.Refusal.{Refusal}
 use Rattle.dsde_verdict.specs.declared.refusal.Refusal.TheVariants as refusal
 use Rattle.dsde_verdict.specs.declared.refusal.ReadModel.{ReadModel}
@@ -18,7 +17,9 @@ use Rattle.dsde_status.specs.declared.status.Status.TheVariants.{Done, Refused, 
 use Rattle.dsde_status.specs.declared.status.What.TheVariants as what
 use Rattle.dsde_status.specs.declared.status.Why.TheVariants as why
 use Rattle.dsde_cli.specs.Answer.{Answers}
-use Rattle.dsde_cli.specs.Causes.{AcceptsSome, Runs, RunsSome, RefusesRun, Under, Has, Holds, HoldsModel, NoModel, Tells}
+use Rattle.dsde_cli.specs.declared.load.Runnable.{Runnable}
+use Rattle.dsde_cli.specs.Loaded.{own_of}
+use Rattle.dsde_cli.specs.Causes.{AcceptsNetwork, AcceptsSome, Runs, RunsSome, RefusesRun, Under, Has, Holds, HoldsModel, NoModel, Tells}
 use Rattle.dsde_cli.specs.Outcome.{Comes}
 use Rattle.dsde_cli.proofs.Outcomes.{front-none}
 
@@ -39,14 +40,31 @@ no_refusal one bytes kind line column some is =
 no_length : OneVerdict → (bytes : List ℕ) → AcceptsSome bytes → 1_048_576 < length bytes → ⊥
 no_length one bytes some long = apart some.model read_model.TooLong (one bytes (Ok some.model) (Err read_model.TooLong) some.accepts long)
 
+-- what runs is accepted
+accepts_some : (bytes : List ℕ) → RunsSome bytes → AcceptsSome bytes
+accepts_some bytes some = record { model = some.own.model; accepts = some.runs.accepts }
+
+accepts_network : (bytes : List ℕ) → AcceptsNetwork bytes → AcceptsSome bytes
+accepts_network bytes some = record { model = some.model; accepts = some.accepts }
+
+-- a text has one model
+same_ok : (this that : Model) → ◌≡◌ {A = Result Model ReadModel} (Ok this) (Ok that) → this ≡ that
+same_ok this that same = cc same
+
+-- what runs declares no network
+no_network : OneVerdict → (bytes : List ℕ) → RunsSome bytes → AcceptsNetwork bytes → ⊥
+no_network one bytes some network =
+    let same = same_ok some.own.model network.model (one bytes (Ok some.own.model) (Ok network.model) some.runs.accepts network.accepts) in
+    let both = sym some.runs.single ∙ ap declares_network same ∙ network.network in cc both
+
 -- what runs is not refused where it is to be run
 no_run_refusal : OneVerdict → (bytes : List ℕ) (kind : Refusal) (line column : ℕ) → RunsSome bytes → RefusesRun bytes kind line column → ⊥
-no_run_refusal one bytes refusal.NotBuilt line column some is = is.3 (record { model = some.model; spells = some.runs.spells })
-no_run_refusal one bytes refusal.BadByte line column some is = no_refusal one bytes refusal.BadByte line column some.runs.accepted is
-no_run_refusal one bytes refusal.BadNumber line column some is = no_refusal one bytes refusal.BadNumber line column some.runs.accepted is
-no_run_refusal one bytes refusal.Syntax line column some is = no_refusal one bytes refusal.Syntax line column some.runs.accepted is
-no_run_refusal one bytes refusal.Nested line column some is = no_refusal one bytes refusal.Nested line column some.runs.accepted is
-no_run_refusal one bytes (refusal.Check kind) line column some is = no_refusal one bytes (refusal.Check kind) line column some.runs.accepted is
+no_run_refusal one bytes refusal.NotBuilt line column some is = no_network one bytes some is.2
+no_run_refusal one bytes refusal.BadByte line column some is = no_refusal one bytes refusal.BadByte line column (accepts_some bytes some) is
+no_run_refusal one bytes refusal.BadNumber line column some is = no_refusal one bytes refusal.BadNumber line column (accepts_some bytes some) is
+no_run_refusal one bytes refusal.Syntax line column some is = no_refusal one bytes refusal.Syntax line column (accepts_some bytes some) is
+no_run_refusal one bytes refusal.Nested line column some is = no_refusal one bytes refusal.Nested line column (accepts_some bytes some) is
+no_run_refusal one bytes (refusal.Check kind) line column some is = no_refusal one bytes (refusal.Check kind) line column (accepts_some bytes some) is
 
 -- what holds of the bytes under a name, and what else does
 meet : (found : Option (List ℕ)) (P Q : List ℕ → Type 0) → IsSomeAnd found P → IsSomeAnd found Q → (bytes : List ℕ) × P bytes × Q bytes
@@ -120,22 +138,22 @@ answers-cut answer written out (Unwritten writing) is same = absurd is
 answers-cut answer written out (BadSave fault) is same = absurd is
 
 -- a run of a model that is under the name is cut short, and nothing was written
-pub comes-cut : (model : FirstModel) (tells : Records → Run) (input : List ℕ) (left : Option (List ℕ)) (written : List ℕ) (out : Option (List ℕ)) (status : Status) →
-    IsCut status → out ≡ Some written → Comes model tells input left written out status
-comes-cut model tells input left written out (Unread what.Model why.Failed) is same = same
-comes-cut model tells input left written out Memory is same = front-none model (tells (records_in model input)) written out same
-comes-cut model tells input left written out (Unread what.Model why.Absent) is same = absurd is
-comes-cut model tells input left written out (Unread what.Model why.TooLong) is same = absurd is
-comes-cut model tells input left written out (Unread what.Save because) is same = absurd is
-comes-cut model tells input left written out (Unread what.Input because) is same = absurd is
-comes-cut model tells input left written out (Unread what.Output because) is same = absurd is
-comes-cut model tells input left written out (Refused kind line column) is same = absurd is
-comes-cut model tells input left written out Done is same = absurd is
-comes-cut model tells input left written out Usage is same = absurd is
-comes-cut model tells input left written out (BadInput kind line) is same = absurd is
-comes-cut model tells input left written out (ModelFault fault) is same = absurd is
-comes-cut model tells input left written out (Unwritten writing) is same = absurd is
-comes-cut model tells input left written out (BadSave fault) is same = absurd is
+pub comes-cut : (own : Running) (tells : Records → Run) (input : List ℕ) (left : Option (List ℕ)) (written : List ℕ) (out : Option (List ℕ)) (status : Status) →
+    IsCut status → out ≡ Some written → Comes own tells input left written out status
+comes-cut own tells input left written out (Unread what.Model why.Failed) is same = same
+comes-cut own tells input left written out Memory is same = front-none own (tells (records_in own input)) written out same
+comes-cut own tells input left written out (Unread what.Model why.Absent) is same = absurd is
+comes-cut own tells input left written out (Unread what.Model why.TooLong) is same = absurd is
+comes-cut own tells input left written out (Unread what.Save because) is same = absurd is
+comes-cut own tells input left written out (Unread what.Input because) is same = absurd is
+comes-cut own tells input left written out (Unread what.Output because) is same = absurd is
+comes-cut own tells input left written out (Refused kind line column) is same = absurd is
+comes-cut own tells input left written out Done is same = absurd is
+comes-cut own tells input left written out Usage is same = absurd is
+comes-cut own tells input left written out (BadInput kind line) is same = absurd is
+comes-cut own tells input left written out (ModelFault fault) is same = absurd is
+comes-cut own tells input left written out (Unwritten writing) is same = absurd is
+comes-cut own tells input left written out (BadSave fault) is same = absurd is
 
 -- what the shelf tells, if it tells anything
 pub told_same : (before : Option (List ℕ)) (P : List ℕ → Type 0) → ((written : List ℕ) → before ≡ Some written → P written) → IfSome before P
@@ -150,17 +168,17 @@ check_cut one name held ShelfFails status model none holds =
     (has-then name held (λ bytes. Accepts bytes model) AcceptsSome (λ bytes accepts. record { model = model; accepts = accepts }) holds)
 
 -- the same of a model that runs
-pub run_cut : OneVerdict → (name : List ℕ) (held : Option Bytes) (ShelfFails : Type 0) (status : Status) (model : FirstModel) →
-    NoModel RefusesRun name held ShelfFails status → Holds name held model → IsCut status
-run_cut one name held ShelfFails status model none holds =
-    cut_short RefusesRun RunsSome name held ShelfFails status (no_run_refusal one) (λ bytes some. no_length one bytes some.runs.accepted) none
-    (has-then name held (λ bytes. Runs bytes model) RunsSome (λ bytes runs. record { model = model; runs = runs }) holds)
+pub run_cut : OneVerdict → (name : List ℕ) (held : Option Bytes) (ShelfFails : Type 0) (status : Status) (own : Running) →
+    NoModel RefusesRun name held ShelfFails status → Holds name held own → IsCut status
+run_cut one name held ShelfFails status own none holds =
+    cut_short RefusesRun RunsSome name held ShelfFails status (no_run_refusal one) (λ bytes some. no_length one bytes (accepts_some bytes some)) none
+    (has-then name held (λ bytes. Runs bytes own) RunsSome (λ bytes runs. record { own = own; runs = runs }) holds)
 
--- the one model of the bytes that were loaded is the one under the name
-pub first-only : (name : List ℕ) (held : Option Bytes) (bytes : List ℕ) (result : Result FirstModel Status) → IfSome held (λ map. map name ≡ Some bytes) →
-    IfOk result (λ model. (other : FirstModel) → Spells bytes other → other ≡ model) → IfOk result (λ model. (other : FirstModel) → Holds name held other → other ≡ model)
-first-only name held bytes (Ok model) told only = λ other holds. only other (has-told name held bytes (λ bytes. Runs bytes other) told holds).spells
-first-only name held bytes (Err status) told only = tt
+-- what runs of the bytes that were loaded is what runs of those under the name
+pub runs-only : (name : List ℕ) (held : Option Bytes) (bytes : List ℕ) (result : Result Runnable Status) → IfSome held (λ map. map name ≡ Some bytes) →
+    IfOk result (λ loaded. (other : Running) → Runs bytes other → other ≡ own_of loaded) → IfOk result (λ loaded. (other : Running) → Holds name held other → other ≡ own_of loaded)
+runs-only name held bytes (Ok loaded) told only = λ other holds. only other (has-told name held bytes (λ bytes. Runs bytes other) told holds)
+runs-only name held bytes (Err status) told only = tt
 
 -- a text that is read gives one model
 pub same_model : (this that : Model) → (◌≡◌ {A = Result Model ReadModel} (Ok this) (Ok that)) ⊎ (◌≡◌ {A = Result Model ReadModel} (Ok this) (Err read_model.Memory)) → that ≡ this
@@ -185,7 +203,7 @@ data RunRefusal (bytes : List ℕ) (kind : Refusal) (line column : ℕ) : Type 0
   verdict : Refuses bytes kind line column → RunRefusal bytes kind line column
 
 run_refusal : (bytes : List ℕ) (kind : Refusal) (line column : ℕ) → RefusesRun bytes kind line column → RunRefusal bytes kind line column
-run_refusal bytes refusal.NotBuilt line column is = unbuilt refl is.0 is.1 is.2
+run_refusal bytes refusal.NotBuilt line column is = unbuilt refl is.0 is.1 (accepts_network bytes is.2)
 run_refusal bytes refusal.BadByte line column is = verdict is
 run_refusal bytes refusal.BadNumber line column is = verdict is
 run_refusal bytes refusal.Syntax line column is = verdict is

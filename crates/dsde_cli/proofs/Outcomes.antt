@@ -3,17 +3,16 @@ use Rattle.std.proofs.Common.{◌≡◌, ℕ, zero, suc, List, [], ◌∷◌, �
 use Rattle.std.specs.Prelude.{Option, Some, None, IfSome, IsSomeAnd}
 use Rattle.std.proofs.Math.Seq.{take-length}
 use Rattle.std.proofs.lemmas.List.{append-nil}
-use Rattle.dsde_first.specs.declared.first.FirstModel.{FirstModel}
-use Rattle.dsde_input.specs.Records.{Records}
+use Rattle.dsde_records.specs.Records.{Records}
 use Rattle.dsde_io.specs.Bytes.{GainsFront}
 use Rattle.dsde_io.specs.Held.{Bytes}
 use Rattle.dsde_cli.specs.Causes.{Under}
 use Rattle.dsde_command.specs.Commands.{CheckCommand, RunCommand, Task, checks, runs}
 use Rattle.dsde_cli.specs.Answer.{Answers, AnswersFront}
-use Rattle.dsde_sim.specs.declared.event.Finish.{Finish}
-use Rattle.dsde_sim.specs.Text.{trace_text}
+use Rattle.dsde_turns.specs.declared.event.Finish.{Finish}
+use Rattle.dsde_runs.specs.Run.{Run}
 use Rattle.dsde_run.specs.Reading.{IsFront}
-use Rattle.dsde_run.specs.Run.{Run, records_in}
+use Rattle.dsde_run.specs.Run.{Running, records_in, trace_text}
 use Rattle.dsde_run.specs.Steps.{Tells}
 use Rattle.dsde_status.specs.declared.status.Status.{Status}
 use Rattle.dsde_status.specs.declared.status.Status.TheVariants.{Done, Refused, Usage, BadInput, ModelFault, Unread, Unwritten, Memory, BadSave}
@@ -22,46 +21,46 @@ use Rattle.dsde_status.specs.declared.status.Why.TheVariants as why
 use Rattle.dsde_cli.specs.Outcome.{Writes, WritesFront, SaysEnd, Comes}
 
 -- the whole trace is a front of it
-front-whole : (model : FirstModel) (run : Run) (written : List ℕ) (out : Option (List ℕ)) → Writes model run written out → WritesFront model run written out
-front-whole model run written out writes = record {
-  count = length (trace_text model run.events);
-  is = writes ∙ ap (λ text. Some (written ++ text)) (sym (take-length (trace_text model run.events)));
+front-whole : (own : Running) (run : Run) (written : List ℕ) (out : Option (List ℕ)) → Writes own run written out → WritesFront own run written out
+front-whole own run written out writes = record {
+  count = length (trace_text own run.events);
+  is = writes ∙ ap (λ text. Some (written ++ text)) (sym (take-length (trace_text own run.events)));
 }
 
 -- nothing is a front of the trace
-pub front-none : (model : FirstModel) (run : Run) (written : List ℕ) (out : Option (List ℕ)) → out ≡ Some written → WritesFront model run written out
-front-none model run written out same = record { count = 0; is = same ∙ ap Some (sym (append-nil written)) }
+pub front-none : (own : Running) (run : Run) (written : List ℕ) (out : Option (List ℕ)) → out ≡ Some written → WritesFront own run written out
+front-none own run written out same = record { count = 0; is = same ∙ ap Some (sym (append-nil written)) }
 
 -- Whatever comes, a front of the trace was written.
-pub comes-front : (model : FirstModel) (tells : Records → Run) (input : List ℕ) (left : Option (List ℕ)) (written : List ℕ) (out : Option (List ℕ)) (status : Status) →
-    Comes model tells input left written out status → Comes model tells input left written out Memory
-comes-front model tells input left written out Done comes = front-whole model (tells (records_in model input)) written out comes.0
-comes-front model tells input left written out (BadInput kind line) comes = front-whole model (tells (records_in model input)) written out comes.0
-comes-front model tells input left written out (ModelFault fault) comes = front-whole model (tells (records_in model input)) written out comes.0
-comes-front model tells input left written out (Unread what.Input why.Failed) comes = comes.1
-comes-front model tells input left written out (Unread what.Model why.Failed) comes = front-none model (tells (records_in model input)) written out comes
-comes-front model tells input left written out (Unread what.Input why.Absent) comes = absurd comes
-comes-front model tells input left written out (Unread what.Input why.TooLong) comes = absurd comes
-comes-front model tells input left written out (Unread what.Model why.Absent) comes = absurd comes
-comes-front model tells input left written out (Unread what.Model why.TooLong) comes = absurd comes
-comes-front model tells input left written out (Unread what.Save because) comes = absurd comes
-comes-front model tells input left written out (Unread what.Output because) comes = absurd comes
-comes-front model tells input left written out (Unwritten what.Output) comes = comes
-comes-front model tells input left written out (Unwritten what.Input) comes = absurd comes
-comes-front model tells input left written out (Unwritten what.Model) comes = absurd comes
-comes-front model tells input left written out (Unwritten what.Save) comes = absurd comes
-comes-front model tells input left written out Memory comes = comes
-comes-front model tells input left written out (Refused kind line column) comes = absurd comes
-comes-front model tells input left written out Usage comes = absurd comes
-comes-front model tells input left written out (BadSave fault) comes = absurd comes
+pub comes-front : (own : Running) (tells : Records → Run) (input : List ℕ) (left : Option (List ℕ)) (written : List ℕ) (out : Option (List ℕ)) (status : Status) →
+    Comes own tells input left written out status → Comes own tells input left written out Memory
+comes-front own tells input left written out Done comes = front-whole own (tells (records_in own input)) written out comes.0
+comes-front own tells input left written out (BadInput kind line) comes = front-whole own (tells (records_in own input)) written out comes.0
+comes-front own tells input left written out (ModelFault fault) comes = front-whole own (tells (records_in own input)) written out comes.0
+comes-front own tells input left written out (Unread what.Input why.Failed) comes = comes.1
+comes-front own tells input left written out (Unread what.Model why.Failed) comes = front-none own (tells (records_in own input)) written out comes
+comes-front own tells input left written out (Unread what.Input why.Absent) comes = absurd comes
+comes-front own tells input left written out (Unread what.Input why.TooLong) comes = absurd comes
+comes-front own tells input left written out (Unread what.Model why.Absent) comes = absurd comes
+comes-front own tells input left written out (Unread what.Model why.TooLong) comes = absurd comes
+comes-front own tells input left written out (Unread what.Save because) comes = absurd comes
+comes-front own tells input left written out (Unread what.Output because) comes = absurd comes
+comes-front own tells input left written out (Unwritten what.Output) comes = comes
+comes-front own tells input left written out (Unwritten what.Input) comes = absurd comes
+comes-front own tells input left written out (Unwritten what.Model) comes = absurd comes
+comes-front own tells input left written out (Unwritten what.Save) comes = absurd comes
+comes-front own tells input left written out Memory comes = comes
+comes-front own tells input left written out (Refused kind line column) comes = absurd comes
+comes-front own tells input left written out Usage comes = absurd comes
+comes-front own tells input left written out (BadSave fault) comes = absurd comes
 
 -- What is said of the end is said in the report, unless memory ran out.
-pub ends-reported : (model : FirstModel) (tells : Records → Run) (left left_after : Option (List ℕ)) (status result : Status) →
-    IfSome left (λ input. SaysEnd (tells (records_in model input)).end left_after status) → (result ≡ status) ⊎ (result ≡ Memory) →
-    IfSome left (λ input. SaysEnd (tells (records_in model input)).end left_after result)
-ends-reported model tells None left_after status result ends reported = tt
-ends-reported model tells (Some input) left_after status result ends (inl same) = subst (SaysEnd (tells (records_in model input)).end left_after) (sym same) ends
-ends-reported model tells (Some input) left_after status result ends (inr ended) = subst (SaysEnd (tells (records_in model input)).end left_after) (sym ended) tt
+pub ends-reported : (own : Running) (tells : Records → Run) (left left_after : Option (List ℕ)) (status result : Status) →
+    IfSome left (λ input. SaysEnd (tells (records_in own input)).end left_after status) → (result ≡ status) ⊎ (result ≡ Memory) →
+    IfSome left (λ input. SaysEnd (tells (records_in own input)).end left_after result)
+ends-reported own tells None left_after status result ends reported = tt
+ends-reported own tells (Some input) left_after status result ends (inl same) = subst (SaysEnd (tells (records_in own input)).end left_after) (sym same) ends
+ends-reported own tells (Some input) left_after status result ends (inr ended) = subst (SaysEnd (tells (records_in own input)).end left_after) (sym ended) tt
 
 -- What holds of the bytes under the name that were loaded.
 pub under-told : (name : List ℕ) (held : Option Bytes) (bytes : List ℕ) (P : List ℕ → Type 0) → IfSome held (λ map. map name ≡ Some bytes) → P bytes → Under name held P
@@ -80,35 +79,35 @@ pub is_front-whole : (text trace : List ℕ) → text ≡ trace → IsFront [] t
 is_front-whole text trace is = record { count = length trace; is = is ∙ sym (take-length trace) }
 
 -- Part of a front of the trace was written.
-pub comes-part : (model : FirstModel) (tells : Records → Run) (text : List ℕ) (left before after : Option (List ℕ)) →
-    IfSome left (λ input. IsFront [] text (trace_text model (tells (records_in model input)).events)) → GainsFront before after text →
-    IfSome left (λ input. IfSome before (λ written. WritesFront model (tells (records_in model input)) written after))
-comes-part model tells text None before after front gains = tt
-comes-part model tells text (Some input) None after front gains = tt
-comes-part model tells text (Some input) (Some written) after front gains =
-    let trace = trace_text model (tells (records_in model input)).events in
+pub comes-part : (own : Running) (tells : Records → Run) (text : List ℕ) (left before after : Option (List ℕ)) →
+    IfSome left (λ input. IsFront [] text (trace_text own (tells (records_in own input)).events)) → GainsFront before after text →
+    IfSome left (λ input. IfSome before (λ written. WritesFront own (tells (records_in own input)) written after))
+comes-part own tells text None before after front gains = tt
+comes-part own tells text (Some input) None after front gains = tt
+comes-part own tells text (Some input) (Some written) after front gains =
+    let trace = trace_text own (tells (records_in own input)).events in
     let less = front-front gains.0 front.count trace in
     record { count = less.0; is = gains.2 ∙ ap (λ text. Some (written ++ take gains.0 text)) front.is ∙ ap (λ text. Some (written ++ text)) less.1 }
 
 -- What comes is told, unless memory ran out.
-pub comes-reported : (model : FirstModel) (tells : Records → Run) (left left_after before after : Option (List ℕ)) (status result : Status) →
-    IfSome left (λ input. IfSome before (λ written. Comes model tells input left_after written after status)) → (result ≡ status) ⊎ (result ≡ Memory) →
-    IfSome left (λ input. IfSome before (λ written. Comes model tells input left_after written after result))
-comes-reported model tells None left_after before after status result comes reported = tt
-comes-reported model tells (Some input) left_after None after status result comes reported = tt
-comes-reported model tells (Some input) left_after (Some written) after status result comes (inl same) =
-    subst (Comes model tells input left_after written after) (sym same) comes
-comes-reported model tells (Some input) left_after (Some written) after status result comes (inr ended) =
-    subst (Comes model tells input left_after written after) (sym ended) (comes-front model tells input left_after written after status comes)
+pub comes-reported : (own : Running) (tells : Records → Run) (left left_after before after : Option (List ℕ)) (status result : Status) →
+    IfSome left (λ input. IfSome before (λ written. Comes own tells input left_after written after status)) → (result ≡ status) ⊎ (result ≡ Memory) →
+    IfSome left (λ input. IfSome before (λ written. Comes own tells input left_after written after result))
+comes-reported own tells None left_after before after status result comes reported = tt
+comes-reported own tells (Some input) left_after None after status result comes reported = tt
+comes-reported own tells (Some input) left_after (Some written) after status result comes (inl same) =
+    subst (Comes own tells input left_after written after) (sym same) comes
+comes-reported own tells (Some input) left_after (Some written) after status result comes (inr ended) =
+    subst (Comes own tells input left_after written after) (sym ended) (comes-front own tells input left_after written after status comes)
 
 -- The text of a run that ended is the whole of its trace.
-pub front-tells : (model : FirstModel) (tells : Records → Run) (begun text : List ℕ) (left : Option (List ℕ)) (how : Finish) → begun ≡ [] →
-    IfSome left (λ input. Tells model (tells (records_in model input)) begun text how) →
-    IfSome left (λ input. IsFront [] text (trace_text model (tells (records_in model input)).events))
-front-tells model tells begun text None how empty run = tt
-front-tells model tells begun text (Some input) how empty run =
-    is_front-whole text (trace_text model (tells (records_in model input)).events)
-    (run.text ∙ ap (λ begun. begun ++ trace_text model (tells (records_in model input)).events) empty)
+pub front-tells : (own : Running) (tells : Records → Run) (begun text : List ℕ) (left : Option (List ℕ)) (how : Finish) → begun ≡ [] →
+    IfSome left (λ input. Tells own (tells (records_in own input)) begun text how) →
+    IfSome left (λ input. IsFront [] text (trace_text own (tells (records_in own input)).events))
+front-tells own tells begun text None how empty run = tt
+front-tells own tells begun text (Some input) how empty run =
+    is_front-whole text (trace_text own (tells (records_in own input)).events)
+    (run.text ∙ ap (λ begun. begun ++ trace_text own (tells (records_in own input)).events) empty)
 
 -- a task is for one command
 pub same_run : (one other : RunCommand) → Some (runs one) ≡ Some (runs other) → one ≡ other

@@ -1,8 +1,13 @@
 -- Why a status comes.
-use Rattle.std.specs.Prelude.{ℕ, ◌≡◌, ◌<◌, ⊤, List, length, Option, None, IfSome, IsSomeAnd}
+use Rattle.std.specs.Prelude.{ℕ, ◌≡◌, ◌<◌, ◌+◌, ⊤, true, false, List, [], length, map, Option, None, IfSome, IsSomeAnd, Result, Ok, Err}
+use Rattle.std.specs.List.{range_with_len}
 use Rattle.dsde_syntax.specs.declared.decl.Model.{Model}
-use Rattle.dsde_first.specs.declared.first.FirstModel.{FirstModel}
-use Rattle.dsde_first.specs.First.{Spells}
+use Rattle.dsde_syntax.specs.declared.token.Token.{Token}
+use Rattle.dsde_lexer.specs.declared.lexer.LexError.{LexError}
+use Rattle.dsde_lexer.specs.Lines.{place_of}
+use Rattle.dsde_lexer.specs.Tokens.{tokens}
+use Rattle.dsde_runs.specs.Run.{Spots}
+use Rattle.dsde_run.specs.Run.{Running, declares_network}
 use Rattle.dsde_io.specs.declared.shelf.ShelfEnd.{ShelfEnd}
 use Rattle.dsde_io.specs.declared.shelf.ShelfEnd.TheVariants as shelf_end
 use Rattle.dsde_io.specs.Held.{Bytes}
@@ -20,25 +25,36 @@ pub record AcceptsSome (bytes : List ℕ) : Type 0 where
   pub model : Model
   pub accepts : Accepts bytes model
 
--- The bytes spell a model of the form that runs.
-pub record SpellSome (bytes : List ℕ) : Type 0 where
-  pub model : FirstModel
-  pub spells : Spells bytes model
+-- The bytes are accepted, with a model that declares a network.
+pub record AcceptsNetwork (bytes : List ℕ) : Type 0 where
+  pub model : Model
+  pub accepts : Accepts bytes model
+  pub network : declares_network model ≡ true
 
--- The bytes are accepted, and spell this model of the form that runs.
-pub record Runs (bytes : List ℕ) (model : FirstModel) : Type 0 where
-  pub accepted : AcceptsSome bytes
-  pub spells : Spells bytes model
+-- The line and the column of each place of a text that is cut so: of each token, and of the end.
+abbrev pub spots_in : List ℕ → Result (List Token) LexError → Spots
+spots_in bytes (Ok cut) = map (place_of bytes cut) (range_with_len 0 (length cut + 1))
+spots_in bytes (Err error) = []
 
--- The bytes are accepted, and spell some model of that form.
+-- The line and the column of each place of a text.
+abbrev pub spots_of : List ℕ → Spots
+spots_of bytes = spots_in bytes (tokens bytes)
+
+-- The bytes are accepted, with this model, which declares no network and has its places there.
+pub record Runs (bytes : List ℕ) (own : Running) : Type 0 where
+  pub accepts : Accepts bytes own.model
+  pub single : declares_network own.model ≡ false
+  pub spots : own.spots ≡ spots_of bytes
+
+-- The bytes are accepted, with some model that declares no network.
 pub record RunsSome (bytes : List ℕ) : Type 0 where
-  pub model : FirstModel
-  pub runs : Runs bytes model
+  pub own : Running
+  pub runs : Runs bytes own
 
 -- Why bytes that are to be run are refused, and where: that is their verdict, or they are accepted
--- and spell no model of the form that runs.
+-- and their model declares a network.
 abbrev pub RefusesRun : List ℕ → Refusal → ℕ → ℕ → Type 0
-RefusesRun bytes NotBuilt line column = (line ≡ 0) × (column ≡ 0) × AcceptsSome bytes × ¬ (SpellSome bytes)
+RefusesRun bytes NotBuilt line column = (line ≡ 0) × (column ≡ 0) × AcceptsNetwork bytes
 RefusesRun bytes kind line column = Refuses bytes kind line column
 
 -- The shelf, where it tells what it holds, has bytes under the name, and this holds of them.
@@ -77,9 +93,10 @@ CauseCheck name held ShelfFails SinkFails other = ⊥
 abbrev pub Has : List ℕ → Option Bytes → (List ℕ → Type 0) → Type 0
 Has name held Holds = IsSomeAnd held (λ map. IsSomeAnd (map name) Holds)
 
--- The shelf tells that bytes are under the name which are accepted, and spell the model.
-abbrev pub Holds : List ℕ → Option Bytes → FirstModel → Type 0
-Holds name held model = Has name held (λ bytes. Runs bytes model)
+-- The shelf tells that bytes are under the name which are accepted, with this model, that declares no
+-- network.
+abbrev pub Holds : List ℕ → Option Bytes → Running → Type 0
+Holds name held own = Has name held (λ bytes. Runs bytes own)
 
 -- The shelf tells that bytes are under the name which are accepted, with this model.
 abbrev pub HoldsModel : List ℕ → Option Bytes → Model → Type 0

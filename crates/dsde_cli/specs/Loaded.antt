@@ -1,19 +1,24 @@
 -- A run that the words ask for, of a model that the shelf tells.
 use Rattle.std.specs.Prelude.{ℕ, List, Option}
-use Rattle.dsde_first.specs.declared.first.FirstModel.{FirstModel}
 use Rattle.dsde_io.specs.Held.{Bytes}
-use Rattle.dsde_input.specs.Records.{Records}
-use Rattle.dsde_run.specs.Run.{Run, run}
+use Rattle.dsde_records.specs.Records.{Records}
+use Rattle.dsde_runs.specs.Run.{Run}
+use Rattle.dsde_run.specs.Run.{Running, run, running}
+use Rattle.dsde_cli.specs.declared.load.Runnable.{Runnable}
 use Rattle.dsde_cli.specs.Causes.{Holds}
 use Rattle.dsde_command.specs.Commands.{Asked}
 
+-- what runs, of what was loaded
+abbrev pub own_of : Runnable → Running
+own_of loaded = running loaded.model loaded.places
+
 -- The words ask for a run, and the shelf tells that bytes are under its model's name which are
--- accepted, and spell this model of the form that runs.
+-- accepted, with this model, that declares no network.
 pub record Loaded (words : List (List ℕ)) (held : Option Bytes) : Type 0 where
   pub asked : Asked words
-  pub model : FirstModel
-  pub holds : Holds asked.run.model held model
+  pub own : Running
+  pub holds : Holds asked.run.model held own
 
 -- What the run tells on records.
 abbrev pub tells_of : {words : List (List ℕ)} {held : Option Bytes} → Loaded words held → Records → Run
-tells_of loaded records = run loaded.model records loaded.asked.run.turns
+tells_of loaded records = run loaded.own records loaded.asked.run.turns

@@ -1,12 +1,11 @@
 -- How a call ends that runs a model, and what it leaves.
 use Rattle.std.specs.Prelude.{ℕ, ◌≡◌, ◌⊎◌, ⊤, List, [], ◌++◌, take, Option, Some, IsSomeAnd}
-use Rattle.dsde_first.specs.declared.first.FirstModel.{FirstModel}
-use Rattle.dsde_input.specs.Records.{Records}
-use Rattle.dsde_sim.specs.declared.event.Finish.{Finish}
-use Rattle.dsde_sim.specs.declared.event.Finish.TheVariants as how
-use Rattle.dsde_sim.specs.Text.{trace_text}
+use Rattle.dsde_records.specs.Records.{Records}
+use Rattle.dsde_turns.specs.declared.event.Finish.{Finish}
+use Rattle.dsde_turns.specs.declared.event.Finish.TheVariants as how
+use Rattle.dsde_runs.specs.Run.{Run}
 use Rattle.dsde_run.specs.Reading.{IsCutShort}
-use Rattle.dsde_run.specs.Run.{Run, records_in}
+use Rattle.dsde_run.specs.Run.{Running, records_in, trace_text}
 use Rattle.dsde_status.specs.declared.status.Status.{Status}
 use Rattle.dsde_status.specs.declared.status.Status.TheVariants.{Done, BadInput, ModelFault, Unread, Unwritten, Memory}
 use Rattle.dsde_status.specs.declared.status.What.{What}
@@ -15,13 +14,13 @@ use Rattle.dsde_status.specs.declared.status.Why.{Why}
 use Rattle.dsde_status.specs.declared.status.Why.TheVariants as why
 
 -- The sink gained the whole trace of the run.
-abbrev pub Writes : FirstModel → Run → List ℕ → Option (List ℕ) → Type 0
-Writes model run written out = out ≡ Some (written ++ trace_text model run.events)
+abbrev pub Writes : Running → Run → List ℕ → Option (List ℕ) → Type 0
+Writes own run written out = out ≡ Some (written ++ trace_text own run.events)
 
 -- The sink gained a part of the run's trace, from its front.
-pub record WritesFront (model : FirstModel) (run : Run) (written : List ℕ) (out : Option (List ℕ)) : Type 0 where
+pub record WritesFront (own : Running) (run : Run) (written : List ℕ) (out : Option (List ℕ)) : Type 0 where
   pub count : ℕ
-  pub is : out ≡ Some (written ++ take count (trace_text model run.events))
+  pub is : out ≡ Some (written ++ take count (trace_text own run.events))
 
 -- The status says how the run ended: by its bound, or quietly, which is where no byte of the input
 -- was left, or by bad input or a fault.
@@ -32,30 +31,30 @@ SaysEnd end left (ModelFault fault) = end ≡ Some (how.Fault fault)
 SaysEnd end left other = ⊤
 
 -- The whole trace was written, and the status says how the run ended.
-abbrev pub ComesWhole : FirstModel → Run → Option (List ℕ) → List ℕ → Option (List ℕ) → Status → Type 0
-ComesWhole model whole left written out status = Writes model whole written out × SaysEnd whole.end left status
+abbrev pub ComesWhole : Running → Run → Option (List ℕ) → List ℕ → Option (List ℕ) → Status → Type 0
+ComesWhole own whole left written out status = Writes own whole written out × SaysEnd whole.end left status
 
 -- What a failed reading leaves: of the input, the lines before the first turn whose head is not
 -- whole in the bytes taken, which are the front of the trace; of the model, what was written before.
-abbrev pub ComesUnread : FirstModel → (Records → Run) → List ℕ → Option (List ℕ) → List ℕ → Option (List ℕ) → What → Why → Type 0
-ComesUnread model tells input left written out what.Input why.Failed =
-    IsSomeAnd left (λ after. IsSomeAnd out (λ new. IsCutShort model tells (records_in model input) written new input after))
-    × WritesFront model (tells (records_in model input)) written out
-ComesUnread model tells input left written out what.Model why.Failed = out ≡ Some written
-ComesUnread model tells input left written out reading because = ⊥
+abbrev pub ComesUnread : Running → (Records → Run) → List ℕ → Option (List ℕ) → List ℕ → Option (List ℕ) → What → Why → Type 0
+ComesUnread own tells input left written out what.Input why.Failed =
+    IsSomeAnd left (λ after. IsSomeAnd out (λ new. IsCutShort own tells (records_in own input) written new input after))
+    × WritesFront own (tells (records_in own input)) written out
+ComesUnread own tells input left written out what.Model why.Failed = out ≡ Some written
+ComesUnread own tells input left written out reading because = ⊥
 
 -- A model was run on an input: `tells` says what a run on records tells, `left` what the source has
 -- left, and `written` and `out` what the sink had and has. Each status comes exactly where the run
 -- ended so, and the whole trace was written. A failed read, a failed write and want of memory cut
 -- it short.
-abbrev pub Comes : FirstModel → (Records → Run) → List ℕ → Option (List ℕ) → List ℕ → Option (List ℕ) → Status → Type 0
-Comes model tells input left written out Done = ComesWhole model (tells (records_in model input)) left written out Done
-Comes model tells input left written out (BadInput kind line) = ComesWhole model (tells (records_in model input)) left written out (BadInput kind line)
-Comes model tells input left written out (ModelFault fault) = ComesWhole model (tells (records_in model input)) left written out (ModelFault fault)
-Comes model tells input left written out (Unread reading because) = ComesUnread model tells input left written out reading because
-Comes model tells input left written out (Unwritten what.Output) = WritesFront model (tells (records_in model input)) written out
-Comes model tells input left written out Memory = WritesFront model (tells (records_in model input)) written out
-Comes model tells input left written out other = ⊥
+abbrev pub Comes : Running → (Records → Run) → List ℕ → Option (List ℕ) → List ℕ → Option (List ℕ) → Status → Type 0
+Comes own tells input left written out Done = ComesWhole own (tells (records_in own input)) left written out Done
+Comes own tells input left written out (BadInput kind line) = ComesWhole own (tells (records_in own input)) left written out (BadInput kind line)
+Comes own tells input left written out (ModelFault fault) = ComesWhole own (tells (records_in own input)) left written out (ModelFault fault)
+Comes own tells input left written out (Unread reading because) = ComesUnread own tells input left written out reading because
+Comes own tells input left written out (Unwritten what.Output) = WritesFront own (tells (records_in own input)) written out
+Comes own tells input left written out Memory = WritesFront own (tells (records_in own input)) written out
+Comes own tells input left written out other = ⊥
 
 -- The status of a run that ended so.
 abbrev pub status_of : Finish → Status

@@ -38,15 +38,15 @@ pub fn dsde<F: Shelf, R: Source, W: Sink, E: Sink>(
     // run ends: where the shelf tells the model, the source its bytes and the sink what it has.
     ensures runs { (loaded : Loaded (map string_bytes words.now) (F.held shelf.old))
         → IfSome (R.left input.old) (λ bytes. IfSome (W.written out.old) (λ written.
-        Comes loaded.model (tells_of loaded) bytes (R.left input.new) written (W.written out.new) result)) }
+        Comes loaded.own (tells_of loaded) bytes (R.left input.new) written (W.written out.new) result)) }
 
     // The status says how that run ends, whatever the sink tells.
     ensures ends { (loaded : Loaded (map string_bytes words.now) (F.held shelf.old))
-        → IfSome (R.left input.old) (λ bytes. SaysEnd (tells_of loaded (records_in loaded.model bytes)).end (R.left input.new) result) }
+        → IfSome (R.left input.old) (λ bytes. SaysEnd (tells_of loaded (records_in loaded.own bytes)).end (R.left input.new) result) }
 
     // No byte of the input is taken that no turn wants.
     ensures taken { (loaded : Loaded (map string_bytes words.now) (F.held shelf.old))
-        → Told (R.left input.old) (R.left input.new) (λ before. TakesWanted (tells_of loaded) (records_in loaded.model before) before) }
+        → Told (R.left input.old) (R.left input.new) (λ before. TakesWanted (tells_of loaded) (records_in loaded.own before) before) }
     ensures idle { (asked : Asked (map string_bytes words.now)) → asked.run.turns ≡ 0 → input.new ≡ input.old }
 
     // Of a model that is accepted, a check writes so, or its text, where the shelf tells the model
@@ -64,7 +64,7 @@ pub fn dsde<F: Shelf, R: Source, W: Sink, E: Sink>(
         → CauseCheck asked.check.model (F.held shelf.old) (Rose (F.faults shelf.old) (F.faults shelf.new))
         (Rose (W.faults out.old) (W.faults out.new)) result }
     // A model that is refused is so exactly for what its bytes are refused for, and there; a run
-    // refuses too what is accepted and is no model that runs.
+    // refuses too what is accepted and declares a network.
     ensures refused { (asked : Asked (map string_bytes words.now)) → (kind : Refusal) → (line column : ℕ)
         → Has asked.run.model (F.held shelf.old) (λ bytes. RefusesRun bytes kind line column) → Tells kind line column result }
     ensures refused_check { (asked : AsksCheck (map string_bytes words.now)) → (kind : Refusal) → (line column : ℕ)

@@ -1,21 +1,29 @@
 //! Models loaded from a shelf.
 
-ghost use Rattle.std.specs.Prelude.{◌≡◌, ◌≤◌, IfOk, IfErr, OnOk, IfSome};
+ghost use Rattle.std.specs.Prelude.{◌≡◌, ◌≤◌, true, false, Some, IfOk, IfErr, IfSome};
 ghost use Rattle.dsde_io.specs.Fault.{Rose};
-ghost use Rattle.dsde_sim.specs.Engine.{HasFewPorts};
+ghost use Rattle.dsde_program.specs.Right.{IsRight};
+ghost use Rattle.dsde_run.specs.Run.{Running, declares_network, is_network};
 ghost use Rattle.dsde_syntax.specs.declared.decl.Model.{Model};
-ghost use Rattle.dsde_first.specs.declared.first.FirstModel.{FirstModel};
-ghost use Rattle.dsde_first.specs.First.{IsFirst, Spells};
 ghost use Rattle.dsde_verdict.specs.Verdict.{Accepts, Refuses};
-ghost use Rattle.dsde_cli.specs.Causes.{AcceptsSome, Holds, HoldsModel, NoModel, NoneIn, RefusesRun, Runs, RunsSome, Under, unread_model};
+ghost use Rattle.dsde_cli.specs.Causes.{AcceptsSome, Holds, HoldsModel, NoModel, NoneIn, RefusesRun, Runs, RunsSome, Under, spots_of, unread_model};
+ghost use Rattle.dsde_cli.specs.Loaded.{own_of};
 
-use dsde_first::{FirstModel, ReadFirst, read_first};
 use dsde_io::{Shelf, ShelfEnd};
+use dsde_lexer::{Places, lex};
 use dsde_status::{Refusal, Status, What, Why};
-use dsde_syntax::Model;
-use dsde_values::Text;
+use dsde_syntax::{Decl, Model};
+use dsde_values::{Memory, Text};
 use dsde_verdict::{ReadModel, read_model};
 use std::alloc::Global;
+
+/// A model that is accepted and declares no network, with the line and the column of each place of
+/// its text.
+#[derive(Drop)]
+pub(crate) struct Runnable {
+    pub model: Model,
+    pub places: Places,
+}
 
 /// The most bytes of a model's text.
 const LONGEST_MODEL: u64 = 1_048_576;
@@ -38,22 +46,22 @@ pub(crate) fn load_accepted<F: Shelf>(
     }
 }
 
-/// The model of the form that runs under a name, or the status of a call that finds none.
-pub(crate) fn load_first<F: Shelf>(
+/// The model under a name that declares no network, or the status of a call that finds none.
+pub(crate) fn load_runnable<F: Shelf>(
     alloc: Global,
     name: &str,
     shelf: &mut F,
-) -> Result<FirstModel, Status>
-    ensures form { IfOk result IsFirst }
-    ensures ports { IfOk result HasFewPorts }
-    ensures runs { IfOk result (λ model. Under name.now (F.held shelf.old) RunsSome) }
-    ensures only { IfOk result (λ model. (other : FirstModel) → Holds name.now (F.held shelf.old) other → other ≡ model) }
+) -> Result<Runnable, Status>
+    ensures right { IfOk result (λ loaded. IsRight loaded.model) }
+    ensures single { IfOk result (λ loaded. declares_network loaded.model ≡ false) }
+    ensures runs { IfOk result (λ loaded. Under name.now (F.held shelf.old) RunsSome) }
+    ensures only { IfOk result (λ loaded. (other : Running) → Holds name.now (F.held shelf.old) other → other ≡ own_of loaded) }
     ensures none { IfErr result (NoModel RefusesRun name.now (F.held shelf.old) (Rose (F.faults shelf.old) (F.faults shelf.new))) }
     ensures kept { F.held shelf.new ≡ F.held shelf.old }
     ensures counted { F.faults shelf.old ≤ F.faults shelf.new }
 {
     match load_text(alloc, name, shelf) {
-        Ok(bytes) => first(alloc, bytes.as_slice()),
+        Ok(bytes) => read_runnable(alloc, bytes.as_slice()),
         Err(status) => Err(status),
     }
 }
@@ -106,47 +114,59 @@ fn accepted(alloc: Global, bytes: &[u8]) -> Result<Model, Status>
     }
 }
 
-/// Whether a text is accepted.
-fn accept(alloc: Global, bytes: &[u8]) -> Result<(), Status>
-    ensures accepted { OnOk result (AcceptsSome bytes.now) }
-    ensures none { IfErr result (NoneIn Refuses bytes.now) }
+/// The model of a text that is accepted and declares no network.
+fn read_runnable(alloc: Global, bytes: &[u8]) -> Result<Runnable, Status>
+    ensures runs { IfOk result (λ loaded. Runs bytes.now (own_of loaded)) }
+    ensures only { IfOk result (λ loaded. (other : Running) → Runs bytes.now other → other ≡ own_of loaded) }
+    ensures none { IfErr result (NoneIn RefusesRun bytes.now) }
 {
     match accepted(alloc, bytes) {
-        Ok(_) => Ok(()),
+        Ok(model) => placed(alloc, bytes, model),
         Err(status) => Err(status),
     }
 }
 
-/// The model of a text that is accepted and of the form that runs.
-fn first(alloc: Global, bytes: &[u8]) -> Result<FirstModel, Status>
-    ensures form { IfOk result IsFirst }
-    ensures ports { IfOk result HasFewPorts }
-    ensures runs { IfOk result (Runs bytes.now) }
-    ensures only { IfOk result (λ model. (other : FirstModel) → Spells bytes.now other → other ≡ model) }
+/// The model of an accepted text, where it declares no network, with its places.
+fn placed(alloc: Global, bytes: &[u8], model: Model) -> Result<Runnable, Status>
+    requires accepted { Accepts bytes.now model }
+    requires only { (other : Model) → Accepts bytes.now other → other ≡ model }
+    ensures runs { IfOk result (λ loaded. Runs bytes.now (own_of loaded)) }
+    ensures only { IfOk result (λ loaded. (other : Running) → Runs bytes.now other → other ≡ own_of loaded) }
     ensures none { IfErr result (NoneIn RefusesRun bytes.now) }
 {
-    match accept(alloc, bytes) {
-        Ok(()) => first_form(alloc, bytes),
-        Err(status) => Err(status),
-    }
-}
-
-/// The model of an accepted text that is of the form that runs.
-fn first_form(alloc: Global, bytes: &[u8]) -> Result<FirstModel, Status>
-    requires { AcceptsSome bytes.now }
-    ensures form { IfOk result IsFirst }
-    ensures ports { IfOk result HasFewPorts }
-    ensures runs { IfOk result (Runs bytes.now) }
-    ensures only { IfOk result (λ model. (other : FirstModel) → Spells bytes.now other → other ≡ model) }
-    ensures none { IfErr result (NoneIn RefusesRun bytes.now) }
-{
-    match read_first(alloc, bytes) {
-        Ok(model) => Ok(model),
-        Err(ReadFirst::NotFirst) => Err(Status::Refused {
+    if declares_network(&model) {
+        return Err(Status::Refused {
             kind: Refusal::NotBuilt,
             line: 0,
             column: 0,
-        }),
-        Err(ReadFirst::Memory) => Err(Status::Memory),
+        });
+    }
+    match places_of(alloc, bytes) {
+        Ok(places) => Ok(Runnable { model, places }),
+        Err(_) => Err(Status::Memory),
+    }
+}
+
+/// Whether a model declares a network.
+fn declares_network(model: &Model) -> bool
+    ensures { result ≡ declares_network model.now }
+{
+    model.decls.iter().any(is_network)
+}
+
+fn is_network(decl: &Decl) -> bool
+    ensures { result ≡ is_network decl.now }
+{
+    matches!(decl, Decl::Network { .. })
+}
+
+/// The line and the column of each place of a text that is accepted. Such a text is cut into tokens,
+/// so that the one error is want of memory.
+fn places_of(alloc: Global, bytes: &[u8]) -> Result<Places, Memory>
+    ensures { IfOk result (λ places. places ≡ spots_of bytes.now) }
+{
+    match lex(alloc, bytes) {
+        Ok(tokens) => Places::new(alloc, bytes, tokens.as_slice()),
+        Err(_) => Err(Memory),
     }
 }

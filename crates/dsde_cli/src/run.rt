@@ -1,22 +1,21 @@
 //! The command `run`: it loads a model, runs it, and writes its trace.
 
-ghost use Rattle.std.specs.Prelude.{◌≡◌, ◌≤◌, ℕ, IfSome};
+ghost use Rattle.std.specs.Prelude.{◌≡◌, ◌≤◌, ℕ, false, IfSome};
 ghost use Rattle.dsde_io.specs.Fault.{Rose};
-ghost use Rattle.dsde_sim.specs.Engine.{HasFewPorts};
-ghost use Rattle.dsde_first.specs.declared.first.FirstModel.{FirstModel};
-ghost use Rattle.dsde_first.specs.First.{IsFirst};
+ghost use Rattle.dsde_program.specs.Right.{IsRight};
 ghost use Rattle.dsde_run.specs.Reading.{Told, TakesWanted};
-ghost use Rattle.dsde_run.specs.Run.{run, records_in};
+ghost use Rattle.dsde_run.specs.Run.{Running, declares_network, run, records_in};
 ghost use Rattle.dsde_cli.specs.Causes.{Cause, Has, Holds, HoldsNone, IsBeforeRun, IsOfRun, RefusesRun, Tells};
 ghost use Rattle.dsde_verdict.specs.declared.refusal.Refusal.{Refusal};
+ghost use Rattle.dsde_cli.specs.Loaded.{own_of};
 ghost use Rattle.dsde_cli.specs.Outcome.{Comes, SaysEnd, status_of};
 
-use crate::load::load_first;
-use dsde_first::FirstModel;
+use crate::load::{Runnable, load_runnable};
 use dsde_io::{Shelf, Sink, SinkEnd, Source, write_all};
-use dsde_run::{Cut, run_model};
-use dsde_sim::Finish;
+use dsde_program::resolve;
+use dsde_run::{Cut, Running, run_model};
 use dsde_status::{Status, What, Why};
+use dsde_turns::Finish;
 use dsde_values::Text;
 use dsde_verdict::one_verdict;
 use std::alloc::Global;
@@ -31,13 +30,13 @@ pub(crate) fn load_and_run<F: Shelf, R: Source, W: Sink>(
     out: &mut W,
 ) -> Status
     requires { turns ≤ 1_000_000_000 }
-    ensures runs { (model : FirstModel) → Holds name.now (F.held shelf.old) model
+    ensures runs { (own : Running) → Holds name.now (F.held shelf.old) own
         → IfSome (R.left input.old) (λ bytes. IfSome (W.written out.old) (λ written.
-        Comes model (λ records. run model records turns) bytes (R.left input.new) written (W.written out.new) result)) }
-    ensures ends { (model : FirstModel) → Holds name.now (F.held shelf.old) model
-        → IfSome (R.left input.old) (λ bytes. SaysEnd (run model (records_in model bytes) turns).end (R.left input.new) result) }
-    ensures taken { (model : FirstModel) → Holds name.now (F.held shelf.old) model
-        → Told (R.left input.old) (R.left input.new) (λ before. TakesWanted (λ records. run model records turns) (records_in model before) before) }
+        Comes own (λ records. run own records turns) bytes (R.left input.new) written (W.written out.new) result)) }
+    ensures ends { (own : Running) → Holds name.now (F.held shelf.old) own
+        → IfSome (R.left input.old) (λ bytes. SaysEnd (run own (records_in own bytes) turns).end (R.left input.new) result) }
+    ensures taken { (own : Running) → Holds name.now (F.held shelf.old) own
+        → Told (R.left input.old) (R.left input.new) (λ before. TakesWanted (λ records. run own records turns) (records_in own before) before) }
     ensures idle { turns ≡ 0 → input.new ≡ input.old }
     ensures cause { Cause name.now (F.held shelf.old) (Rose (F.faults shelf.old) (F.faults shelf.new))
         (Rose (R.faults input.old) (R.faults input.new)) (Rose (W.faults out.old) (W.faults out.new)) result }
@@ -52,35 +51,67 @@ pub(crate) fn load_and_run<F: Shelf, R: Source, W: Sink>(
 {
     // A law: a text has one verdict.
     one_verdict();
-    match load_first(alloc, name, shelf) {
-        Ok(model) => write_run(alloc, &model, turns, input, out),
+    match load_runnable(alloc, name, shelf) {
+        Ok(loaded) => run_loaded(alloc, &loaded, turns, input, out),
         Err(status) => status,
+    }
+}
+
+/// Runs a model that was loaded, and writes its trace.
+fn run_loaded<R: Source, W: Sink>(
+    alloc: Global,
+    loaded: &Runnable,
+    turns: u64,
+    input: &mut R,
+    out: &mut W,
+) -> Status
+    requires right { IsRight loaded.now.model }
+    requires single { declares_network loaded.now.model ≡ false }
+    requires turns { turns ≤ 1_000_000_000 }
+    ensures comes { IfSome (R.left input.old) (λ bytes. IfSome (W.written out.old) (λ written.
+        Comes (own_of loaded.now) (λ records. run (own_of loaded.now) records turns) bytes (R.left input.new) written (W.written out.new) result)) }
+    ensures ends { IfSome (R.left input.old) (λ bytes.
+        SaysEnd (run (own_of loaded.now) (records_in (own_of loaded.now) bytes) turns).end (R.left input.new) result) }
+    ensures taken { Told (R.left input.old) (R.left input.new) (λ before.
+        TakesWanted (λ records. run (own_of loaded.now) records turns) (records_in (own_of loaded.now) before) before) }
+    ensures idle { turns ≡ 0 → input.new ≡ input.old }
+    ensures cause { IsOfRun (Rose (R.faults input.old) (R.faults input.new)) (Rose (W.faults out.old) (W.faults out.new)) result }
+    ensures input_counted { R.faults input.old ≤ R.faults input.new }
+    ensures out_counted { W.faults out.old ≤ W.faults out.new }
+{
+    match resolve(alloc, &loaded.model) {
+        Ok(program) => write_run(
+            alloc,
+            &Running::new(&program, &loaded.places),
+            turns,
+            input,
+            out,
+        ),
+        Err(_) => Status::Memory,
     }
 }
 
 /// Runs the model on the input, and then writes its whole trace, or what a failed read left of it.
 fn write_run<R: Source, W: Sink>(
     alloc: Global,
-    model: &FirstModel,
+    own: &Running<'_>,
     turns: u64,
     input: &mut R,
     out: &mut W,
 ) -> Status
-    requires form { IsFirst model.now }
-    requires ports { HasFewPorts model.now }
     requires turns { turns ≤ 1_000_000_000 }
     ensures comes { IfSome (R.left input.old) (λ bytes. IfSome (W.written out.old) (λ written.
-        Comes model.now (λ records. run model.now records turns) bytes (R.left input.new) written (W.written out.new) result)) }
-    ensures ends { IfSome (R.left input.old) (λ bytes. SaysEnd (run model.now (records_in model.now bytes) turns).end (R.left input.new) result) }
+        Comes own.now (λ records. run own.now records turns) bytes (R.left input.new) written (W.written out.new) result)) }
+    ensures ends { IfSome (R.left input.old) (λ bytes. SaysEnd (run own.now (records_in own.now bytes) turns).end (R.left input.new) result) }
     ensures taken { Told (R.left input.old) (R.left input.new) (λ before.
-        TakesWanted (λ records. run model.now records turns) (records_in model.now before) before) }
+        TakesWanted (λ records. run own.now records turns) (records_in own.now before) before) }
     ensures idle { turns ≡ 0 → input.new ≡ input.old }
     ensures cause { IsOfRun (Rose (R.faults input.old) (R.faults input.new)) (Rose (W.faults out.old) (W.faults out.new)) result }
     ensures input_counted { R.faults input.old ≤ R.faults input.new }
     ensures out_counted { W.faults out.old ≤ W.faults out.new }
 {
     let mut text = Text::new(alloc);
-    let status = match run_model(alloc, model, turns, input, &mut text) {
+    let status = match run_model(alloc, own, turns, input, &mut text) {
         Ok(end) => status_of(end),
         Err(Cut::ReadFault) => Status::Unread {
             what: What::Input,

@@ -1,56 +1,29 @@
 -- The item at the front of a text.
-use Rattle.std.proofs.Common.{◌≡◌, ◌≢◌, ℕ, ◌+◌, ◌-◌, ◌<◌, ◌≤◌, Bool, true, false, ◌&&◌, List, [], ◌∷◌, ◌++◌, length, take, drop, get_or, refl, sym, ◌∙◌, ap, subst, arith, append_assoc, length-append, length-drop, inl, inr}
+use Rattle.std.proofs.Common.{◌≡◌, ℕ, ◌+◌, ◌-◌, Bool, true, false, ◌&&◌, List, [], ◌∷◌, ◌++◌, length, take, drop, get_or, refl, sym, ◌∙◌, ap, subst, arith, append_assoc, length-append, length-drop}
 use Rattle.std.specs.Prelude.{Some, None, slice_get}
 use Rattle.std.specs.Option.{option_map_or}
-use Rattle.std.specs.Str.{bytes_eq}
-use Rattle.std.specs.List.{All, position, position_or_len, list_all}
-use Rattle.std.proofs.lemmas.Slice.Eq.{bytes_eq-Decides}
-use Rattle.std.proofs.lemmas.List.Sums.{fails_before_first}
+use Rattle.std.specs.List.{position}
 use Rattle.std.proofs.lemmas.List.Quantifiers.{position-Some}
 use Rattle.std.proofs.lemmas.List.{drop-drop}
 use Rattle.std.proofs.Math.Seq.{drop-append_seam}
 use Rattle.std.proofs.lemmas.List.{take_all}
-use Rattle.std.proofs.lemmas.Option.{slice_get_within, get_or_from_slice_get, slice_get-get_or}
-use Rattle.std.proofs.lemmas.Bool.{cases_lt}
-use Rattle.std.proofs.lemmas.Bool.Decides.{nat_tests}
+use Rattle.std.proofs.lemmas.Option.{slice_get-get_or}
 use Rattle.dsde_values.specs.declared.arrival.Item.{Item}
 use Rattle.dsde_values.specs.declared.types.Field.{Field}
 use Rattle.dsde_values.specs.declared.types.Types.{Types}
 use Rattle.dsde_values.specs.declared.value.Value.{Value}
 use Rattle.dsde_values.specs.Value.{HasType, spelling}
-use Rattle.dsde_words.specs.Words.{is_word_byte, is_word, begins_word}
+use Rattle.dsde_words.specs.Words.{is_word, begins_word}
 use Rattle.dsde_values.specs.Word.{ends_word, Begins}
-use Rattle.dsde_input.specs.Lines.{Lacks}
-use Rattle.dsde_input.specs.Record.{ArePorts, IsItem, item_text, port_name}
+use Rattle.dsde_records.specs.Lines.{Lacks}
+use Rattle.dsde_records.specs.Record.{ArePorts, IsItem, item_text, port_name}
 use Rattle.dsde_input.specs.Reading.{Reads, NoWord}
-use Rattle.dsde_input.proofs.Cuts.{IsCut, same_cut, no_cut, none_from_cond}
-
-both : (one other : Bool) → (one && other) ≡ true → (one ≡ true) × (other ≡ true)
-both true other h = (refl, h)
-both false other h = absurd (let e : false ≡ true = h in cc)
+use Rattle.dsde_records.proofs.Ports.{Lacks-identifier, port_fact, has_name, same_name, no_port, this_port}
+use Rattle.dsde_input.proofs.Cuts.{IsCut, same_cut, no_cut}
 
 and_false : (one other : Bool) → other ≡ false → (one && other) ≡ false
 and_false true other none = none
 and_false false other none = refl
-
-no_space : (byte : ℕ) → is_word_byte byte ≡ true → byte ≢ 32
-no_space byte word same = grind (arith, nat_tests)
-
-Lacks-word : (word : List ℕ) → list_all is_word_byte word ≡ true → Lacks 32 word
-Lacks-word [] all = tt
-Lacks-word (byte ∷ word) all =
-    let p = both (is_word_byte byte) (list_all is_word_byte word) all in
-    (no_space byte p.0, Lacks-word word p.1)
-
--- An identifier has no space.
-Lacks-identifier : (name : List ℕ) → is_word name ≡ true → Lacks 32 name
-Lacks-identifier [] is = tt
-Lacks-identifier (byte ∷ name) is = Lacks-word (byte ∷ name) (both _ _ is).1
-
--- a fact of each port, at one
-pub port_fact : (P : Field → Type 0) (ports : List Field) (at : ℕ) (port : Field) → All P ports → slice_get ports at ≡ Some port → P port
-port_fact P ports at port all is =
-    subst P (get_or_from_slice_get ports at port port is) (all at port (slice_get_within ports at port is))
 
 -- an item's name and value, where the item stands at the front of a text
 module _ (ports : List Field) (types : Types) (lawful : ArePorts ports) (text : List ℕ) (at : ℕ) (cut : IsCut 32 text at) where
@@ -72,42 +45,6 @@ no_item_uncut ports types text lacks = record {
       no_cut 32 text (port_name ports item.port) (spelling types item.value ++ rest) lacks
       (same ∙ append_assoc (port_name ports item.port) (32 ∷ spelling types item.value) rest);
 }
-
-abbrev has_name : List ℕ → Field → Bool
-has_name name port = bytes_eq port.name name
-
--- Of two ports with one name, there is one.
-one_port : (ports : List Field) (i j : ℕ) (d : Field) → ArePorts ports → i < length ports → j < length ports → (get_or ports i d).name ≡ (get_or ports j d).name → i ≡ j
-one_port ports i j d lawful in_i in_j same =
-    elim (cases_lt i j) [
-      | inl before ↦ absurd (lawful.distinct i j d before in_j same)
-      | inr past ↦ elim (cases_lt j i) [
-        | inl behind ↦ absurd (lawful.distinct j i d behind in_i (sym same))
-        | inr level ↦ omega arith
-      ]
-    ]
-
-same_name : (port : Field) (name : List ℕ) → has_name name port ≡ true → port.name ≡ name
-same_name port name is = (bytes_eq-Decides port.name name).0 is
-
--- No port has the name.
-no_port : (ports : List Field) (name : List ℕ) → position (has_name name) ports ≡ None → (at : ℕ) (port : Field) → slice_get ports at ≡ Some port → port.name ≢ name
-no_port ports name none at port is same =
-    let past = none_from_cond _ _ none in
-    let within = slice_get_within ports at port is in
-    let all : length ports ≤ position_or_len (has_name name) ports = grind (arith, nat_tests) in
-    let fails = fails_before_first (has_name name) ports at port (omega arith) in
-    let this : has_name name port ≡ false = ap (has_name name) (sym (get_or_from_slice_get ports at port port is)) ∙ fails in
-    let found = (bytes_eq-Decides port.name name).1 same in
-    cc
-
--- the port with the name
-this_port : (ports : List Field) (name : List ℕ) (place : ℕ) → ArePorts ports → position (has_name name) ports ≡ Some place → (at : ℕ) (port : Field) → slice_get ports at ≡ Some port → port.name ≡ name → place ≡ at
-this_port ports name place lawful found at port is same =
-    let first = position-Some (has_name name) ports place port found in
-    let within = slice_get_within ports at port is in
-    one_port ports place at port lawful first.0 within
-    (same_name (get_or ports place port) name first.1 ∙ sym same ∙ ap (λ p. p.name) (sym (get_or_from_slice_get ports at port port is)))
 
 -- No value goes on, where no word follows it.
 begins_before : (types : Types) (value : Value) (rest bytes : List ℕ) → NoWord rest → bytes ≡ spelling types value ++ rest → Begins (spelling types value) bytes

@@ -1,6 +1,4 @@
-pub mod AllRecords
 pub mod Cuts
-pub mod Every
 pub mod FirstLine
 pub mod ItemLists
 pub mod Items

@@ -2,23 +2,14 @@
 use Rattle.std.proofs.Common.{◌≡◌, ◌≢◌, ℕ, ◌+◌, ◌<◌, ◌^◌, Bool, true, false, List, [], ◌∷◌, ◌++◌, take, drop, sym, ◌∙◌, ap, arith, decimal, append_assoc, leb}
 use Rattle.std.specs.Prelude.{None}
 use Rattle.std.specs.Bool.{then_some}
-use Rattle.std.specs.Str.Parse.{AllDigits}
-use Rattle.std.proofs.lemmas.Str.Parse.{digit_from_value}
-use Rattle.std.proofs.lemmas.Fmt.{decimal_is_IsNumeral, decimal_injective}
+use Rattle.std.proofs.lemmas.Fmt.{decimal_injective}
 use Rattle.std.proofs.lemmas.Bool.Decides.{nat_tests}
 use Rattle.dsde_values.specs.When.{IsMoment}
-use Rattle.dsde_input.specs.Lines.{Lacks}
-use Rattle.dsde_input.specs.Record.{time_text}
+use Rattle.dsde_records.specs.Lines.{Lacks}
+use Rattle.dsde_records.specs.Record.{time_text}
 use Rattle.dsde_input.specs.Reading.{Reads, Anything}
+use Rattle.dsde_records.proofs.Ports.{Lacks-decimal}
 use Rattle.dsde_input.proofs.Cuts.{IsCut, same_cut, no_cut}
-
-Lacks-digits : (digits : List ℕ) → AllDigits 10 digits → Lacks 32 digits
-Lacks-digits [] all = tt
-Lacks-digits (digit ∷ digits) all =
-    let here = digit_from_value digit all.0 in ((λ same. omega arith), Lacks-digits digits all.1)
-
-Lacks-decimal : (number : ℕ) → number < 2 ^ 64 → Lacks 32 (decimal number)
-Lacks-decimal number fits = Lacks-digits (decimal number) (decimal_is_IsNumeral number fits).0.1
 
 -- a time, the space behind it, and the rest
 time_then : (time : ℕ) (rest : List ℕ) → time_text time ++ rest ≡ decimal time ++ 32 ∷ rest

@@ -1,5 +1,2 @@
-pub mod Lines
 pub mod Reader
 pub mod Reading
-pub mod Record
-pub mod Records

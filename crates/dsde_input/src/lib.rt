@@ -1,10 +1,9 @@
 //! The records of a run's input, read one after the other from a source.
 #![tactic(auto)]
 
-mod end;
 mod line;
 mod read_record;
 mod reader;
 
-pub use end::InputEnd;
+pub use dsde_records::InputEnd;
 pub use reader::InputReader;

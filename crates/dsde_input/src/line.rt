@@ -1,10 +1,11 @@
 //! The line at the front of some bytes.
 
 ghost use Rattle.std.specs.Prelude.{◌≡◌, IfOk};
+ghost use Rattle.dsde_values.specs.Value.{IsLawful};
 ghost use Rattle.dsde_values.specs.When.{IsMoment};
-ghost use Rattle.dsde_input.specs.Lines.{without_last};
-ghost use Rattle.dsde_input.specs.Record.{ArePorts};
-ghost use Rattle.dsde_input.specs.Records.{line_record};
+ghost use Rattle.dsde_records.specs.Lines.{without_last};
+ghost use Rattle.dsde_records.specs.Record.{ArePorts, AreItems};
+ghost use Rattle.dsde_records.specs.Records.{line_record};
 
 use crate::InputEnd;
 use crate::read_record::read_record;
@@ -23,9 +24,11 @@ pub fn line_record(
     ports: &Seq<Field>,
     types: &Types,
 ) -> Result<Result<Arrival, InputEnd>, Memory>
-    requires { ArePorts ports.now }
+    requires ports { ArePorts ports.now }
+    requires types { IsLawful types.now }
     ensures value { IfOk result (λ found. found ≡ line_record ports.now types.now number least line.now) }
     ensures early { IfOk result (λ found. IfOk found (λ arrival. IsMoment arrival.time)) }
+    ensures fits { IfOk result (λ found. IfOk found (λ arrival. AreItems ports.now types.now arrival.items)) }
 {
     if line.len() > LONGEST_LINE {
         return Ok(Err(InputEnd::LineTooLong(number)));

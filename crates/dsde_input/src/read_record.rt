@@ -4,16 +4,18 @@ ghost use Rattle.std.specs.Prelude.{◌≡◌, ◌==◌, List, IfOk, IfSome};
 ghost use Rattle.std.specs.List.{position};
 ghost use Rattle.std.specs.Str.{bytes_eq};
 ghost use Rattle.dsde_values.specs.When.{IsMoment};
+ghost use Rattle.dsde_values.specs.Value.{IsLawful};
 ghost use Rattle.dsde_values.specs.declared.arrival.Item.{Item};
 ghost use Rattle.dsde_input.specs.Reading.{Reads, Anything, NoWord};
-ghost use Rattle.dsde_input.specs.Record.{ArePorts, IsItem, AreItems, time_text, item_text, later_item_text, items_text, record_of};
+ghost use Rattle.dsde_records.specs.Record.{ArePorts, IsItem, AreItems, time_text, item_text, later_item_text, items_text, record_of};
 
+use dsde_records::record_is_spelled;
 use dsde_values::{
     Arrival, Field, Item, LAST_MOMENT, Memory, ReadValue, Seq, Types, decimal_of, read_value,
 };
 use std::alloc::Global;
 
-/// The record that a line spells, if it spells one.
+/// The record that a line of this number spells, if it spells one.
 pub fn read_record(
     alloc: Global,
     line: &[u8],
@@ -21,10 +23,13 @@ pub fn read_record(
     ports: &Seq<Field>,
     types: &Types,
 ) -> Result<Option<Arrival>, Memory>
-    requires { ArePorts ports.now }
+    requires ports { ArePorts ports.now }
+    requires types { IsLawful types.now }
     ensures value { IfOk result (λ found. found ≡ record_of ports.now types.now number line.now) }
     ensures early { IfOk result (λ found. IfSome found (λ arrival. IsMoment arrival.time)) }
+    ensures fits { IfOk result (λ found. IfSome found (λ arrival. AreItems ports.now types.now arrival.items)) }
 {
+    record_is_spelled();
     let Some((time, size)) = read_time(line) else {
         return Ok(None);
     };
@@ -54,7 +59,8 @@ fn read_items(
     ports: &Seq<Field>,
     types: &Types,
 ) -> Result<Option<Seq<Item>>, Memory>
-    requires { ArePorts ports.now }
+    requires ports { ArePorts ports.now }
+    requires types { IsLawful types.now }
     ensures spelled { IfOk result (λ found. IfSome found (λ items. AreItems ports.now types.now items × (text.now ≡ items_text ports.now types.now items))) }
     ensures only { IfOk result (λ found. (items : List Item) → AreItems ports.now types.now items → text.now ≡ items_text ports.now types.now items → found ≡ Some items) }
 {
@@ -80,7 +86,8 @@ fn read_later_item(
     ports: &Seq<Field>,
     types: &Types,
 ) -> Result<Option<(Item, usize)>, Memory>
-    requires { ArePorts ports.now }
+    requires ports { ArePorts ports.now }
+    requires types { IsLawful types.now }
     ensures { IfOk result (Reads (IsItem ports.now types.now) (later_item_text ports.now types.now) NoWord text.now) }
 {
     let Some(rest) = text.strip_prefix(b"; ") else {
@@ -99,7 +106,8 @@ fn read_item(
     ports: &Seq<Field>,
     types: &Types,
 ) -> Result<Option<(Item, usize)>, Memory>
-    requires { ArePorts ports.now }
+    requires ports { ArePorts ports.now }
+    requires types { IsLawful types.now }
     ensures { IfOk result (Reads (IsItem ports.now types.now) (item_text ports.now types.now) NoWord text.now) }
 {
     let Some(size) = space_at(text) else {

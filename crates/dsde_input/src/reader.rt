@@ -1,10 +1,11 @@
 //! The records of an input, one a call.
 
 ghost use Rattle.std.specs.Prelude.{◌≡◌, ◌<◌, ◌≤◌, true, false, List, ℕ, Some, None, [], length, IfOk, IfErr, OnOk, OnErr, IsErrOf, IfSome, IsSomeAnd, OnSome, MatchOption};
+ghost use Rattle.dsde_values.specs.Value.{IsLawful};
 ghost use Rattle.dsde_values.specs.When.{IsMoment};
 ghost use Rattle.dsde_io.specs.Fault.{Rose};
-ghost use Rattle.dsde_input.specs.Lines.{behind_line};
-ghost use Rattle.dsde_input.specs.Record.{ArePorts};
+ghost use Rattle.dsde_records.specs.Lines.{behind_line};
+ghost use Rattle.dsde_records.specs.Record.{ArePorts, AreItems};
 ghost use Rattle.dsde_input.specs.Reader.{fresh, to_come, records, Tells, has_line, reads_left, IsOffence, Moves, given, IsOneLine, TakesOfLine, TakesLine, SeesEnd};
 
 use crate::InputEnd;
@@ -62,14 +63,16 @@ impl InputReader {
     /// The next record; `None` exactly at the end of the input. An offence is that of the wanted
     /// line, and each later call answers it again. `ReadFault` comes only where a read failed
     /// before the wanted line was there with its line feed. After it, and after `Memory`, the bytes
-    /// that were read are kept, and the call may be repeated.
+    /// that were read are kept, and the call may be repeated. The ports' names are identifiers that
+    /// differ, and the table of types is lawful.
     pub fn next<R: Source>(
         &mut self,
         source: &mut R,
         ports: &Seq<Field>,
         types: &Types,
     ) -> Result<Option<Arrival>, InputEnd>
-        requires { ArePorts ports.now }
+        requires ports { ArePorts ports.now }
+        requires types { IsLawful types.now }
 
         // The records to come, where the source tells its bytes.
         ensures records { IfSome (R.left source.old) (λ before. IsSomeAnd (R.left source.new) (λ after.
@@ -86,8 +89,9 @@ impl InputReader {
         ensures stays { IfErr result (λ end. IsOffence end → self.new.offence ≡ Some end) }
         ensures again { IfSome self.old.offence (λ offence. (result ≡ Err offence) × (self.new ≡ self.old) × (source.new ≡ source.old)) }
 
-        // A record's time is one of a run.
+        // A record's time is one of a run, and its items come by the ports.
         ensures early { IfOk result (λ found. IfSome found (λ arrival. IsMoment arrival.time)) }
+        ensures fits { IfOk result (λ found. IfSome found (λ arrival. AreItems ports.now types.now arrival.items)) }
 
         // No byte is taken that the wanted line does not need: a line that is too long is refused
         // as soon as 65,537 of its bytes were seen.
@@ -163,6 +167,7 @@ impl InputReader {
     /// Gives the record of the wanted line, which is there, or its offence.
     fn give(&mut self, ports: &Seq<Field>, types: &Types) -> Result<Option<Arrival>, InputEnd>
         requires ports { ArePorts ports.now }
+        requires types { IsLawful types.now }
         requires whole { has_line self.old ≡ true }
         requires lawful { self.old.offence ≡ None }
 
@@ -171,6 +176,7 @@ impl InputReader {
         ensures given { IfOk result (λ found. MatchOption found ((self.new ≡ self.old) × (self.old.held ≡ []) × (self.old.ended ≡ true)) (λ arrival. self.new ≡ given self.old arrival)) }
         ensures taken { IfOk result (λ found. OnSome found ((left : List ℕ) → to_come self.new left ≡ behind_line (to_come self.old left))) }
         ensures early { IfOk result (λ found. IfSome found (λ arrival. IsMoment arrival.time)) }
+        ensures fits { IfOk result (λ found. IfSome found (λ arrival. AreItems ports.now types.now arrival.items)) }
         ensures stays { IfErr result (λ end. IsOffence end → self.new.offence ≡ Some end) }
         ensures memory { IsErrOf result InputEnd.Memory → self.new ≡ self.old }
         ensures no_fault { ¬ (IsErrOf result InputEnd.ReadFault) }

@@ -42,6 +42,14 @@ impl Places {
         Ok(Places { spots })
     }
 
+    /// The line and the column of a place as `line_column` gives them; `None` exactly where the text
+    /// has no such place.
+    pub fn find(&self, at: u32) -> Option<(u32, u32)>
+        ensures { result ≡ slice_get self.now at }
+    {
+        self.spots.get(at as usize).copied()
+    }
+
     /// The line and the column at which a place's token begins, both counted from 1, columns in
     /// bytes; the end of the text stands behind its last byte.
     pub fn line_column(&self, at: u32) -> (u32, u32)

@@ -1,22 +1,25 @@
 -- A run over records that are cut short tells the front of what the run over all of them tells.
+use Rattle.dsde_turns.specs.Engine.{next_of}
 use Rattle.std.proofs.Common.{◌≡◌, ℕ, zero, suc, ◌+◌, Bool, true, false, cond, List, [], ◌++◌, length, take, Result, Ok, Err, refl, sym, ap, ◌∙◌, append_assoc}
 use Rattle.std.specs.Prelude.{Option, Some, unwrap_or}
 use Rattle.std.proofs.lemmas.Grind.{flat_map-append}
 use Rattle.std.proofs.lemmas.List.{append-nil}
 use Rattle.std.proofs.Math.Seq.{take-append_seam}
-use Rattle.dsde_first.specs.declared.first.FirstModel.{FirstModel}
+use Rattle.dsde_run.specs.Run.{Running}
 use Rattle.dsde_values.specs.declared.arrival.Arrival.{Arrival}
-use Rattle.dsde_input.specs.Records.{Records, end, bad, one}
-use Rattle.dsde_sim.specs.declared.event.Event.{Event}
-use Rattle.dsde_sim.specs.declared.event.Finish.TheVariants as how
-use Rattle.dsde_sim.specs.declared.fault.TurnEnd.{TurnEnd}
-use Rattle.dsde_sim.specs.declared.plain.Step.{Step}
-use Rattle.dsde_sim.specs.declared.plain.Step.TheVariants.{Turned, Quiet}
-use Rattle.dsde_sim.specs.Engine.{Engine}
-use Rattle.dsde_sim.specs.Text.{event_text, trace_text}
-use Rattle.dsde_sim.specs.Turn.{start, advance, turn_time}
+use Rattle.dsde_records.specs.Records.{Records, end, bad, one}
+use Rattle.dsde_turns.specs.declared.event.Event.{Event}
+use Rattle.dsde_turns.specs.declared.event.Finish.TheVariants as how
+use Rattle.dsde_turns.specs.declared.fault.TurnEnd.{TurnEnd}
+use Rattle.dsde_turns.specs.declared.tree.Step.{Step}
+use Rattle.dsde_turns.specs.declared.tree.Step.TheVariants.{Turned, Quiet}
+use Rattle.dsde_turns.specs.Engine.{Engine}
+use Rattle.dsde_run.specs.Run.{event_text, trace_text}
+use Rattle.dsde_turns.specs.Turn.{turn_time}
+use Rattle.dsde_run.specs.Run.{start, advance}
 use Rattle.dsde_run.specs.Reading.{cut_after, IsCutShort, IsFront}
-use Rattle.dsde_run.specs.Run.{Run, run, go, turn_on, ended, preceded, faulted}
+use Rattle.dsde_runs.specs.Run.{Run, ended, preceded}
+use Rattle.dsde_run.specs.Run.{run, go, turn_on, faulted}
 
 -- The events of a part of a run are the first of its events.
 record Begins (part whole : Run) : Type 0 where
@@ -34,52 +37,52 @@ begins-preceded events part whole begins = record {
 }
 
 -- what comes behind a turn, by what the turn came to
-abbrev pub behind_turn : Engine → Option Arrival → (Bool → Engine → Run) → Result (Step × Engine) TurnEnd → Run
-behind_turn engine head later answer = elim answer [
+abbrev pub behind_turn : Running → Engine → Option Arrival → (Bool → Engine → Run) → Result (Step × Engine) TurnEnd → Run
+behind_turn model engine head later answer = elim answer [
   | Ok answer ↦ elim answer.0 [
     | Turned took_input ↦ later took_input answer.1
     | Quiet ↦ ended how.Quiet engine.turn engine.time
   ]
-  | Err why ↦ faulted why (engine.turn + 1) (unwrap_or (turn_time engine.leaf.next head) engine.time)
+  | Err why ↦ faulted model why (engine.turn + 1) (unwrap_or (turn_time (next_of engine.tree) head) engine.time)
 ]
 
-begins-behind : (engine : Engine) (head : Option Arrival) (part whole : Bool → Engine → Run) → ((took_input : Bool) (after : Engine) → Begins (part took_input after) (whole took_input after)) →
-    (answer : Result (Step × Engine) TurnEnd) → Begins (behind_turn engine head part answer) (behind_turn engine head whole answer)
-begins-behind engine head part whole begins (Ok (Turned took_input, after)) = begins took_input after
-begins-behind engine head part whole begins (Ok (Quiet, after)) = begins-same (ended how.Quiet engine.turn engine.time)
-begins-behind engine head part whole begins (Err why) = begins-same (faulted why (engine.turn + 1) (unwrap_or (turn_time engine.leaf.next head) engine.time))
+begins-behind : (model : Running) (engine : Engine) (head : Option Arrival) (part whole : Bool → Engine → Run) → ((took_input : Bool) (after : Engine) → Begins (part took_input after) (whole took_input after)) →
+    (answer : Result (Step × Engine) TurnEnd) → Begins (behind_turn model engine head part answer) (behind_turn model engine head whole answer)
+begins-behind model engine head part whole begins (Ok (Turned took_input, after)) = begins took_input after
+begins-behind model engine head part whole begins (Ok (Quiet, after)) = begins-same (ended how.Quiet engine.turn engine.time)
+begins-behind model engine head part whole begins (Err why) = begins-same (faulted model why (engine.turn + 1) (unwrap_or (turn_time (next_of engine.tree) head) engine.time))
 
-begins-turn_on : (engine : Engine) (head : Option Arrival) (part whole : Bool → Engine → Run) → ((took_input : Bool) (after : Engine) → Begins (part took_input after) (whole took_input after)) →
-    Begins (turn_on engine head part) (turn_on engine head whole)
-begins-turn_on engine head part whole begins =
-    begins-preceded (advance engine head).events (behind_turn engine head part (advance engine head).end) (behind_turn engine head whole (advance engine head).end)
-    (begins-behind engine head part whole begins (advance engine head).end)
+begins-turn_on : (model : Running) (engine : Engine) (head : Option Arrival) (part whole : Bool → Engine → Run) → ((took_input : Bool) (after : Engine) → Begins (part took_input after) (whole took_input after)) →
+    Begins (turn_on model engine head part) (turn_on model engine head whole)
+begins-turn_on model engine head part whole begins =
+    begins-preceded (advance model engine head).events (behind_turn model engine head part (advance model engine head).end) (behind_turn model engine head whole (advance model engine head).end)
+    (begins-behind model engine head part whole begins (advance model engine head).end)
 
-go-cut : (turns count : ℕ) (records : Records) (engine : Engine) → Begins (go turns (cut_after count records) engine) (go turns records engine)
-go-cut zero count records engine = begins-same (ended how.Bound engine.turn engine.time)
-go-cut (suc turns) zero records engine = record { rest = (go (suc turns) records engine).events; is = refl }
-go-cut (suc turns) (suc count) end engine = begins-same (go (suc turns) end engine)
-go-cut (suc turns) (suc count) (bad offence) engine = begins-same (go (suc turns) (bad offence) engine)
-go-cut (suc turns) (suc count) (one head later) engine =
-    begins-turn_on engine (Some head)
-    (λ took_input after. go turns (cond took_input (cut_after count later) (one head (cut_after count later))) after)
-    (λ took_input after. go turns (cond took_input later (one head later)) after)
+go-cut : (model : Running) (turns count : ℕ) (records : Records) (engine : Engine) → Begins (go model turns (cut_after count records) engine) (go model turns records engine)
+go-cut model zero count records engine = begins-same (ended how.Bound engine.turn engine.time)
+go-cut model (suc turns) zero records engine = record { rest = (go model (suc turns) records engine).events; is = refl }
+go-cut model (suc turns) (suc count) end engine = begins-same (go model (suc turns) end engine)
+go-cut model (suc turns) (suc count) (bad offence) engine = begins-same (go model (suc turns) (bad offence) engine)
+go-cut model (suc turns) (suc count) (one head later) engine =
+    begins-turn_on model engine (Some head)
+    (λ took_input after. go model turns (cond took_input (cut_after count later) (one head (cut_after count later))) after)
+    (λ took_input after. go model turns (cond took_input later (one head later)) after)
     (λ took_input after.
     elim took_input as (λ took_input. Begins
-    (go turns (cond took_input (cut_after count later) (one head (cut_after count later))) after)
-    (go turns (cond took_input later (one head later)) after)) [
-      | true ↦ go-cut turns count later after
-      | false ↦ go-cut turns (suc count) (one head later) after
+    (go model turns (cond took_input (cut_after count later) (one head (cut_after count later))) after)
+    (go model turns (cond took_input later (one head later)) after)) [
+      | true ↦ go-cut model turns count later after
+      | false ↦ go-cut model turns (suc count) (one head later) after
     ])
 
-run-cut_by : (model : FirstModel) (turns count : ℕ) (records : Records) (answer : Result Engine TurnEnd) → (start model).end ≡ answer →
+run-cut_by : (model : Running) (turns count : ℕ) (records : Records) (answer : Result Engine TurnEnd) → (start model).end ≡ answer →
     Begins (run model (cut_after count records) turns) (run model records turns)
 run-cut_by model turns count records (Ok engine) is =
-    rw is (begins-preceded (start model).events (go turns (cut_after count records) engine) (go turns records engine) (go-cut turns count records engine))
-run-cut_by model turns count records (Err why) is = rw is (begins-same (preceded (start model).events (faulted why 0 0)))
+    rw is (begins-preceded (start model).events (go model turns (cut_after count records) engine) (go model turns records engine) (go-cut model turns count records engine))
+run-cut_by model turns count records (Err why) is = rw is (begins-same (preceded (start model).events (faulted model why 0 0)))
 
 -- What a run that was cut short appended is the front of its trace.
-pub IsFront-cut : (model : FirstModel) (turns : ℕ) (records : Records) (old new before after : List ℕ) →
+pub IsFront-cut : (model : Running) (turns : ℕ) (records : Records) (old new before after : List ℕ) →
     IsCutShort model (λ records. run model records turns) records old new before after → IsFront old new (trace_text model (run model records turns).events)
 IsFront-cut model turns records old new before after short =
     let part = run model (cut_after _ records) turns in

@@ -1,25 +1,31 @@
 -- Fronts of the text of a run.
+use Rattle.dsde_syntax.specs.declared.decl.Model.{Model}
+use Rattle.dsde_atomic.specs.Program.{system}
+use Rattle.dsde_sim.specs.Working.{Working}
+use Rattle.dsde_turns.specs.Turn as turning
 use Rattle.std.proofs.Common.{◌≡◌, ℕ, ◌+◌, Bool, List, [], ◌++◌, length, take, drop, Result, Ok, Err, IfOk, refl, sym, ap, subst, ◌∙◌, append_assoc}
 use Rattle.std.specs.Prelude.{Option, IfErr, IfSome, OnErr}
 use Rattle.std.proofs.lemmas.Grind.{flat_map-append}
 use Rattle.std.proofs.lemmas.List.{append-nil, take-append-drop}
 use Rattle.std.proofs.Math.Seq.{take-length, take-append_seam, take-append-add}
-use Rattle.dsde_first.specs.declared.first.FirstModel.{FirstModel}
+use Rattle.dsde_run.specs.Run.{Running}
 use Rattle.dsde_values.specs.declared.arrival.Arrival.{Arrival}
-use Rattle.dsde_input.specs.Records.{Records}
-use Rattle.dsde_sim.specs.declared.event.Event.{Event}
-use Rattle.dsde_sim.specs.declared.event.Finish.{Finish}
-use Rattle.dsde_sim.specs.declared.fault.TurnEnd.{TurnEnd}
-use Rattle.dsde_sim.specs.declared.fault.TurnEnd.TheVariants.{Fault, Memory}
-use Rattle.dsde_sim.specs.declared.plain.Step.{Step}
-use Rattle.dsde_sim.specs.Engine.{Engine}
-use Rattle.dsde_sim.specs.Text.{event_text, trace_text}
-use Rattle.dsde_sim.specs.Turn.{Told, start, advance}
-use Rattle.dsde_sim.specs.Turn as turn
+use Rattle.dsde_records.specs.Records.{Records}
+use Rattle.dsde_turns.specs.declared.event.Event.{Event}
+use Rattle.dsde_turns.specs.declared.event.Finish.{Finish}
+use Rattle.dsde_turns.specs.declared.fault.TurnEnd.{TurnEnd}
+use Rattle.dsde_turns.specs.declared.fault.TurnEnd.TheVariants.{Fault, Memory}
+use Rattle.dsde_turns.specs.declared.tree.Step.{Step}
+use Rattle.dsde_turns.specs.Engine.{Engine}
+use Rattle.dsde_run.specs.Run.{event_text, trace_text}
+use Rattle.dsde_turns.specs.Told.{Told}
+use Rattle.dsde_run.specs.Run.{start, advance}
+use Rattle.dsde_turns.specs.Told as turn
 use Rattle.dsde_run.specs.Reading.{IsFront}
 use Rattle.dsde_run.specs.declared.run.Cut.{Cut}
 use Rattle.dsde_run.specs.declared.run.Cut.TheVariants as cut
-use Rattle.dsde_run.specs.Run.{Run, run, go, turn_on, faulted}
+use Rattle.dsde_runs.specs.Run.{Run}
+use Rattle.dsde_run.specs.Run.{run, go, turn_on, faulted}
 use Rattle.dsde_run.specs.Steps.{GoesOn}
 use Rattle.dsde_run.proofs.Cutting.{behind_turn}
 
@@ -45,7 +51,7 @@ IsFront-more old new text more whole is front =
     }
 
 -- the lines of the first events
-pub IsFront-events : (model : FirstModel) (events : List Event) (count : ℕ) (old new : List ℕ) → new ≡ old ++ trace_text model (take count events) →
+pub IsFront-events : (model : Running) (events : List Event) (count : ℕ) (old new : List ℕ) → new ≡ old ++ trace_text model (take count events) →
     IsFront old new (trace_text model events)
 IsFront-events model events count old new is =
     IsFront-more old new (trace_text model (take count events)) (trace_text model (drop count events)) (trace_text model events)
@@ -53,12 +59,12 @@ IsFront-events model events count old new is =
     (IsFront-all old new (trace_text model (take count events)) is)
 
 -- what a run tells before the rest of it
-pub IsFront-gone : (model : FirstModel) (whole rest : Run) (old new : List ℕ) → GoesOn model whole rest old new → IsFront old new (trace_text model whole.events)
+pub IsFront-gone : (model : Running) (whole rest : Run) (old new : List ℕ) → GoesOn model whole rest old new → IsFront old new (trace_text model whole.events)
 IsFront-gone model whole rest old new goes =
     IsFront-more old new goes.piece (trace_text model rest.events) (trace_text model whole.events) goes.text (IsFront-all old new goes.piece goes.gained)
 
 -- what a run tells before the rest of it, and a front of the rest
-pub IsFront-behind : (model : FirstModel) (whole rest : Run) (old mid new : List ℕ) → GoesOn model whole rest old mid → IsFront mid new (trace_text model rest.events) →
+pub IsFront-behind : (model : Running) (whole rest : Run) (old mid new : List ℕ) → GoesOn model whole rest old mid → IsFront mid new (trace_text model rest.events) →
     IsFront old new (trace_text model whole.events)
 IsFront-behind model whole rest old mid new goes front = record {
   count = length goes.piece + front.count;
@@ -94,7 +100,7 @@ told-first step begun told (Err Memory) empty tells = (
 )
 
 -- a front of what was told of a step is one of the run
-pub IsFront-told : {A : Type 0} (model : FirstModel) (step : Told A) (whole later : List Event) (begun told : List Event) (result : Result A TurnEnd) (old new : List ℕ) →
+pub IsFront-told : {A : Type 0} (model : Running) (step : Told A) (whole later : List Event) (begun told : List Event) (result : Result A TurnEnd) (old new : List ℕ) →
     whole ≡ step.events ++ later → begun ≡ [] → turn.Tells step begun told result → IsFront old new (trace_text model told) →
     IsFront old new (trace_text model whole)
 IsFront-told model step whole later begun told result old new is empty tells front =
@@ -105,28 +111,41 @@ IsFront-told model step whole later begun told result old new is empty tells fro
     front
 
 -- a front of what was told of a turn
-pub IsFront-turn : (model : FirstModel) (before after : Engine) (head : Option Arrival) (result : Result Step TurnEnd) (begun told : List Event) (old new : List ℕ) →
-    begun ≡ [] → IfOk result (λ step. turn.Tells (advance before head) begun told (Ok (step, after))) →
-    IfErr result (λ end. turn.Tells (advance before head) begun told (Err end)) →
-    IsFront old new (trace_text model told) → (later : Bool → Engine → Run) → IsFront old new (trace_text model (turn_on before head later).events)
+pub IsFront-turn : (model : Running) (before after : Engine) (head : Option Arrival) (result : Result Step TurnEnd) (begun told : List Event) (old new : List ℕ) →
+    begun ≡ [] → IfOk result (λ step. turn.Tells (advance model before head) begun told (Ok (step, after))) →
+    IfErr result (λ end. turn.Tells (advance model before head) begun told (Err end)) →
+    IsFront old new (trace_text model told) → (later : Bool → Engine → Run) → IsFront old new (trace_text model (turn_on model before head later).events)
 IsFront-turn model before after head (Ok step) begun told old new empty ok err front later =
-    IsFront-told model (advance before head) (turn_on before head later).events (behind_turn before head later (advance before head).end).events
+    IsFront-told model (advance model before head) (turn_on model before head later).events (behind_turn model before head later (advance model before head).end).events
     begun told (Ok (step, after)) old new refl empty ok front
 IsFront-turn model before after head (Err end) begun told old new empty ok err front later =
-    IsFront-told model (advance before head) (turn_on before head later).events (behind_turn before head later (advance before head).end).events
+    IsFront-told model (advance model before head) (turn_on model before head later).events (behind_turn model before head later (advance model before head).end).events
     begun told (Err end) old new refl empty err front
 
 -- what comes behind a start, by what the start came to
-abbrev behind_start : Records → ℕ → Result Engine TurnEnd → Run
-behind_start records turns answer = elim answer [ Ok engine ↦ go turns records engine | Err why ↦ faulted why 0 0 ]
+abbrev behind_start : Running → Records → ℕ → Result Engine TurnEnd → Run
+behind_start model records turns answer = elim answer [ Ok engine ↦ go model turns records engine | Err why ↦ faulted model why 0 0 ]
 
 -- a front of what was told of a start
-pub IsFront-start : (model : FirstModel) (records : Records) (turns : ℕ) (begun told : List Event) (result : Result Engine TurnEnd) (old new : List ℕ) →
+pub IsFront-start : (model : Running) (records : Records) (turns : ℕ) (begun told : List Event) (result : Result Engine TurnEnd) (old new : List ℕ) →
     begun ≡ [] → turn.Tells (start model) begun told result → IsFront old new (trace_text model told) →
     IsFront old new (trace_text model (run model records turns).events)
 IsFront-start model records turns begun told result old new empty tells front =
-    IsFront-told model (start model) (run model records turns).events (behind_start records turns (start model).end).events
+    IsFront-told model (start model) (run model records turns).events (behind_start model records turns (start model).end).events
     begun told result old new refl empty tells front
+
+-- the same, from what the start of an engine says
+pub IsFront-begun : (model : Running) (program : Model) (records : Records) (turns : ℕ) (begun told : List Event) (result : Result Working TurnEnd) (old new : List ℕ) →
+    program ≡ model.model → begun ≡ [] →
+    IfOk result (λ plain. turn.Tells (turning.start (system program)) begun told (Ok plain.engine)) →
+    IfErr result (λ end. turn.Tells (turning.start (system program)) begun told (Err end)) →
+    IsFront old new (trace_text model told) → IsFront old new (trace_text model (run model records turns).events)
+IsFront-begun model program records turns begun told (Ok plain) old new same empty ok err front =
+    IsFront-start model records turns begun told (Ok plain.engine) old new empty
+    (subst (λ (m : Model). turn.Tells (turning.start (system m)) begun told (Ok plain.engine)) same ok) front
+IsFront-begun model program records turns begun told (Err end) old new same empty ok err front =
+    IsFront-start model records turns begun told (Err end) old new empty
+    (subst (λ (m : Model). turn.Tells (turning.start (system m)) begun told (Err end)) same err) front
 
 -- what is a front after a failed read and after want of memory
 pub front_either : (result : Result Finish Cut) (left : Option (List ℕ)) (P : List ℕ → Type 0) → (result ≡ Err cut.ReadFault → IfSome left P) → (result ≡ Err cut.Memory → IfSome left P) →

@@ -1,8 +1,8 @@
+pub mod Coming
 pub mod Asking
 pub mod Cutting
 pub mod Feeds
 pub mod Fronts
-pub mod Ports
 pub mod Quiet
 pub mod RunLemmas
 pub mod Standing

@@ -1,35 +1,42 @@
 -- A run that falls quiet has read its input to the end.
+use Rattle.dsde_atomic.specs.Program.{system}
+use Rattle.dsde_turns.specs.Engine.{leaf_of}
+use Rattle.dsde_turns.specs.Engine.{next_of}
 use Rattle.std.proofs.Common.{◌≡◌, ◌≢◌, ℕ, ◌+◌, Bool, true, false, List, [], ◌∷◌, ◌++◌, Result, Ok, Err, refl, sym, ap, ◌∙◌}
 use Rattle.std.specs.Prelude.{Option, Some, None, min}
-use Rattle.dsde_first.specs.declared.first.FirstModel.{FirstModel}
+use Rattle.dsde_run.specs.Run.{Running}
 use Rattle.dsde_values.specs.declared.arrival.Arrival.{Arrival}
 use Rattle.dsde_values.specs.declared.when.When.{When}
 use Rattle.dsde_values.specs.declared.when.When.TheVariants.{At, Never}
-use Rattle.dsde_input.specs.declared.end.InputEnd.{InputEnd}
-use Rattle.dsde_input.specs.declared.end.InputEnd.TheVariants as input_end
-use Rattle.dsde_sim.specs.declared.event.Finish.{Finish}
-use Rattle.dsde_sim.specs.declared.event.Finish.TheVariants as how
-use Rattle.dsde_sim.specs.declared.fault.TurnEnd.{TurnEnd}
-use Rattle.dsde_sim.specs.declared.fault.TurnEnd.TheVariants.{Fault, Memory}
-use Rattle.dsde_sim.specs.declared.leaf.Leaf.{Leaf}
-use Rattle.dsde_sim.specs.declared.plain.Step.{Step}
-use Rattle.dsde_sim.specs.declared.plain.Step.TheVariants.{Turned}
-use Rattle.dsde_sim.specs.Engine.{Engine}
-use Rattle.dsde_sim.specs.Turn as step
-use Rattle.dsde_sim.specs.Turn.{turn, turned, told, is_taken, items_at, turn_time, advance, ◌then◌}
-use Rattle.dsde_run.specs.declared.heads.Heads.{Heads}
+use Rattle.dsde_records.specs.declared.end.InputEnd.{InputEnd}
+use Rattle.dsde_records.specs.declared.end.InputEnd.TheVariants as input_end
+use Rattle.dsde_turns.specs.declared.event.Finish.{Finish}
+use Rattle.dsde_turns.specs.declared.event.Finish.TheVariants as how
+use Rattle.dsde_turns.specs.declared.fault.TurnEnd.{TurnEnd}
+use Rattle.dsde_turns.specs.declared.fault.TurnEnd.TheVariants.{Fault, Memory}
+use Rattle.dsde_formalism.specs.declared.leaf.Leaf.{Leaf}
+use Rattle.dsde_turns.specs.declared.tree.Step.{Step}
+use Rattle.dsde_turns.specs.declared.tree.Step.TheVariants.{Turned, Quiet}
+use Rattle.dsde_turns.specs.Engine.{Engine}
+use Rattle.dsde_turns.specs.Told as step
+use Rattle.dsde_turns.specs.Told.{told, ◌then◌}
+use Rattle.dsde_turns.specs.Engine.{turned}
+use Rattle.dsde_turns.specs.Turn.{turn, is_taken, items_at, turn_time}
+use Rattle.dsde_run.specs.Run.{advance}
+use Rattle.dsde_run.specs.Heads.{Heads}
 use Rattle.dsde_run.specs.declared.run.After.TheVariants.{Ended}
 use Rattle.dsde_run.specs.Heads.{Asked}
 use Rattle.dsde_run.specs.Reading.{Told}
-use Rattle.dsde_run.specs.Run.{cut, turn_on, ended, faulted, offended}
+use Rattle.dsde_runs.specs.Run.{cut, ended, offended}
+use Rattle.dsde_run.specs.Run.{turn_on, faulted}
 use Rattle.dsde_run.specs.Steps.{Turns}
 use Rattle.dsde_run.proofs.Cutting.{behind_turn}
 use Rattle.dsde_run.proofs.Standing.{Told-then}
 
 -- a fault is no quiet end
-pub fault-not_quiet : (why : TurnEnd) (turns time : ℕ) (answer : Finish) → faulted why turns time ≡ ended answer turns time → answer ≢ how.Quiet
-fault-not_quiet (Fault path site kind at) turns time answer is quiet = let two = ap (λ run. run.end) is in absurd (cc)
-fault-not_quiet Memory turns time answer is quiet = let two = ap (λ run. run.end) is in absurd (cc)
+pub fault-not_quiet : (model : Running) (why : TurnEnd) (turns time : ℕ) (answer : Finish) → faulted model why turns time ≡ ended answer turns time → answer ≢ how.Quiet
+fault-not_quiet model (Fault path site kind at) turns time answer is quiet = let two = ap (λ run. run.end) is in absurd (cc)
+fault-not_quiet model Memory turns time answer is quiet = let two = ap (λ run. run.end) is in absurd (cc)
 
 -- an offence is no quiet end
 pub offence-not_quiet : (why : InputEnd) (turns time : ℕ) (answer : Finish) → offended why turns time ≡ ended answer turns time → answer ≢ how.Quiet
@@ -45,11 +52,11 @@ turned_end engine time took_input (Ok leaf) = Ok (Turned took_input, turned engi
 turned_end engine time took_input (Err why) = Err why
 
 -- a turn that is taken is no quiet end
-turned-not_quiet : (engine : Engine) (head : Option Arrival) (time : ℕ) (took_input : Bool) (end : Result Leaf TurnEnd) →
-    (behind_turn engine head (λ took_input after. cut) (turned_end engine time took_input end)).end ≢ Some how.Quiet
-turned-not_quiet engine head time took_input (Ok leaf) quiet = absurd (cc quiet)
-turned-not_quiet engine head time took_input (Err (Fault path site kind at)) quiet = absurd (cc quiet)
-turned-not_quiet engine head time took_input (Err Memory) quiet = absurd (cc quiet)
+turned-not_quiet : (model : Running) (engine : Engine) (head : Option Arrival) (time : ℕ) (took_input : Bool) (end : Result Leaf TurnEnd) →
+    (behind_turn model engine head (λ took_input after. cut) (turned_end engine time took_input end)).end ≢ Some how.Quiet
+turned-not_quiet model engine head time took_input (Ok leaf) quiet = absurd (cc quiet)
+turned-not_quiet model engine head time took_input (Err (Fault path site kind at)) quiet = absurd (cc quiet)
+turned-not_quiet model engine head time took_input (Err Memory) quiet = absurd (cc quiet)
 
 -- what a step comes to
 end_then : (engine : Engine) (time : ℕ) (took_input : Bool) (phases : step.Told Leaf) (end : Result Leaf TurnEnd) → phases.end ≡ end →
@@ -57,32 +64,40 @@ end_then : (engine : Engine) (time : ℕ) (took_input : Bool) (phases : step.Tol
 end_then engine time took_input phases (Ok leaf) is = rw is refl
 end_then engine time took_input phases (Err why) is = rw is refl
 
-end_at : (engine : Engine) (head : Arrival) (time : ℕ) → turn_time engine.leaf.next (Some head) ≡ Some time →
-    (advance engine (Some head)).end ≡
-    turned_end engine time (is_taken (Some head) time) (turn engine.model engine.leaf (engine.turn + 1) time (items_at (Some head) time)).end
-end_at engine head time is =
-    rw (is, advance)
-    (end_then engine time (is_taken (Some head) time) (turn engine.model engine.leaf (engine.turn + 1) time (items_at (Some head) time))
-    (turn engine.model engine.leaf (engine.turn + 1) time (items_at (Some head) time)).end refl)
+-- a turn at the time that was found
+abbrev at_time : Running → Engine → Arrival → Option ℕ → step.Told (Step × Engine)
+at_time model engine head found = elim found [
+  | Some time ↦ turn (system model.model) (leaf_of engine.tree) (engine.turn + 1) time (items_at (Some head) time) then (λ leaf.
+      told [] (Turned (is_taken (Some head) time), turned engine leaf time (is_taken (Some head) time)))
+  | None ↦ told [] (Quiet, engine)
+]
+
+end_at : (model : Running) (engine : Engine) (head : Arrival) (time : ℕ) → turn_time (next_of engine.tree) (Some head) ≡ Some time →
+    (advance model engine (Some head)).end ≡
+    turned_end engine time (is_taken (Some head) time) (turn (system model.model) (leaf_of engine.tree) (engine.turn + 1) time (items_at (Some head) time)).end
+end_at model engine head time is =
+    ap (λ found. (at_time model engine head found).end) is
+    ∙ end_then engine time (is_taken (Some head) time) (turn (system model.model) (leaf_of engine.tree) (engine.turn + 1) time (items_at (Some head) time))
+    (turn (system model.model) (leaf_of engine.tree) (engine.turn + 1) time (items_at (Some head) time)).end refl
 
 -- where a turn is taken the run does not fall quiet
-taken-not_quiet : (engine : Engine) (head : Arrival) (time : ℕ) → turn_time engine.leaf.next (Some head) ≡ Some time →
-    (turn_on engine (Some head) (λ took_input after. cut)).end ≢ Some how.Quiet
-taken-not_quiet engine head time is quiet =
-    turned-not_quiet engine (Some head) time (is_taken (Some head) time) (turn engine.model engine.leaf (engine.turn + 1) time (items_at (Some head) time)).end
-    (ap (λ end. (behind_turn engine (Some head) (λ took_input after. cut) end).end) (sym (end_at engine head time is)) ∙ quiet)
+taken-not_quiet : (model : Running) (engine : Engine) (head : Arrival) (time : ℕ) → turn_time (next_of engine.tree) (Some head) ≡ Some time →
+    (turn_on model engine (Some head) (λ took_input after. cut)).end ≢ Some how.Quiet
+taken-not_quiet model engine head time is quiet =
+    turned-not_quiet model engine (Some head) time (is_taken (Some head) time) (turn (system model.model) (leaf_of engine.tree) (engine.turn + 1) time (items_at (Some head) time)).end
+    (ap (λ end. (behind_turn model engine (Some head) (λ took_input after. cut) end).end) (sym (end_at model engine head time is)) ∙ quiet)
 
 -- where there is a head a turn is taken
-head-not_quiet : (engine : Engine) (head : Arrival) (next : When) → engine.leaf.next ≡ next →
-    (turn_on engine (Some head) (λ took_input after. cut)).end ≢ Some how.Quiet
-head-not_quiet engine head (At due) is = taken-not_quiet engine head (min due head.time) (ap (λ next. turn_time next (Some head)) is)
-head-not_quiet engine head Never is = taken-not_quiet engine head head.time (ap (λ next. turn_time next (Some head)) is)
+head-not_quiet : (model : Running) (engine : Engine) (head : Arrival) (next : When) → (next_of engine.tree) ≡ next →
+    (turn_on model engine (Some head) (λ took_input after. cut)).end ≢ Some how.Quiet
+head-not_quiet model engine head (At due) is = taken-not_quiet model engine head (min due head.time) (ap (λ next. turn_time next (Some head)) is)
+head-not_quiet model engine head Never is = taken-not_quiet model engine head head.time (ap (λ next. turn_time next (Some head)) is)
 
-pub ended-not_asked : (model : FirstModel) (before after : Engine) (head : Option Arrival) (old new : List ℕ) →
+pub ended-not_asked : (model : Running) (before after : Engine) (head : Option Arrival) (old new : List ℕ) →
     Turns model before head after old new (Ended how.Quiet) → head ≡ None
 ended-not_asked model before after None old new turns = refl
 ended-not_asked model before after (Some head) old new turns =
-    absurd (head-not_quiet before head before.leaf.next refl (turns (λ took_input after. cut)).end)
+    absurd (head-not_quiet model before head (next_of before.tree) refl (turns (λ took_input after. cut)).end)
 
 -- nothing is left where the head was asked for and the end was seen
 read_out_by : (ended : Bool) (heads new : Heads) (mid after : List ℕ) → heads.reader.ended ≡ ended → Asked None None heads new mid after →

@@ -2,19 +2,20 @@
 use Rattle.std.proofs.Common.{◌≡◌, ◌≢◌, ℕ, suc, Bool, true, false, cond, List, [], ◌∷◌, ◌++◌, length, refl, sym, subst, ◌∙◌, ap, arith, append_assoc, length-append}
 use Rattle.std.specs.Prelude.{Option, Some, None, IfSome}
 use Rattle.std.proofs.lemmas.List.{append-nil}
-use Rattle.dsde_first.specs.declared.first.FirstModel.{FirstModel}
+use Rattle.dsde_run.specs.Run.{Running}
 use Rattle.dsde_values.specs.declared.arrival.Arrival.{Arrival}
-use Rattle.dsde_input.specs.declared.end.InputEnd.{InputEnd}
-use Rattle.dsde_input.specs.declared.end.InputEnd.TheVariants.{ReadFault}
-use Rattle.dsde_input.specs.Records.{Records, end, bad, one}
-use Rattle.dsde_sim.specs.declared.event.Finish.{Finish}
-use Rattle.dsde_sim.specs.Engine.{Engine}
-use Rattle.dsde_sim.specs.Text.{trace_text}
-use Rattle.dsde_run.specs.declared.heads.Heads.{Heads}
+use Rattle.dsde_records.specs.declared.end.InputEnd.{InputEnd}
+use Rattle.dsde_records.specs.declared.end.InputEnd.TheVariants.{ReadFault}
+use Rattle.dsde_records.specs.Records.{Records, end, bad, one}
+use Rattle.dsde_turns.specs.declared.event.Finish.{Finish}
+use Rattle.dsde_turns.specs.Engine.{Engine}
+use Rattle.dsde_run.specs.Run.{trace_text}
+use Rattle.dsde_run.specs.Heads.{Heads}
 use Rattle.dsde_run.specs.declared.run.After.TheVariants.{Turned, Ended}
 use Rattle.dsde_run.specs.Heads.{IsReady, Gives, Ends, Asked, Refused, with_head, behind_head, passed}
 use Rattle.dsde_run.specs.Reading.{Told, feeds, front, cut_after, TakesWanted, IsCutShort, IsFront}
-use Rattle.dsde_run.specs.Run.{Run, go, turn_on, offended}
+use Rattle.dsde_runs.specs.Run.{Run, offended}
+use Rattle.dsde_run.specs.Run.{go, turn_on}
 use Rattle.dsde_run.specs.Steps.{Tells, GoesOn, Turns, Stops, ahead, Stands}
 use Rattle.dsde_run.proofs.Asking.{none_to_come}
 use Rattle.dsde_run.proofs.Feeds.{feeds-append, front-append}
@@ -60,7 +61,7 @@ pub early-passed : (took_input : Bool) (head : Option Arrival) (P : Arrival → 
 early-passed true head P early = tt
 early-passed false head P early = early
 
-module _ (model : FirstModel) (tells : Records → Run) where
+module _ (model : Running) (tells : Records → Run) where
   -- at the start nothing is taken
   pub stands-first : (heads : Heads) (text : List ℕ) (bytes : List ℕ) → heads.head ≡ None → Stands model tells tells (behind_head heads bytes) heads text text bytes bytes
   stands-first heads text bytes none = record {
@@ -215,17 +216,17 @@ module _ (model : FirstModel) (tells : Records → Run) where
   module _ (turns : ℕ) (engine : Engine) (heads : Heads) where
     -- what comes behind a turn on the head and these records
     abbrev later_on : Option Arrival → Records → Bool → Engine → Run
-    later_on None later took_input after = go turns end after
-    later_on (Some head) later took_input after = go turns (cond took_input later (one head later)) after
+    later_on None later took_input after = go model turns end after
+    later_on (Some head) later took_input after = go model turns (cond took_input later (one head later)) after
 
     -- a turn is on its head
-    go-turn_on : (head : Option Arrival) (later : Records) → (head ≡ None → later ≡ end) → go (suc turns) (with_head head later) engine ≡ turn_on engine head (later_on head later)
+    go-turn_on : (head : Option Arrival) (later : Records) → (head ≡ None → later ≡ end) → go model (suc turns) (with_head head later) engine ≡ turn_on model engine head (later_on head later)
     go-turn_on (Some head) later over = refl
     go-turn_on None later over = rw (over refl) refl
 
     -- behind it the records are those behind the head that is left
     later_on-passed : (head : Option Arrival) (later : Records) (took_input : Bool) (after : Engine) → (head ≡ None → later ≡ end) →
-        later_on head later took_input after ≡ go turns (with_head (cond took_input None head) later) after
+        later_on head later took_input after ≡ go model turns (with_head (cond took_input None head) later) after
     later_on-passed (Some head) later true after over = refl
     later_on-passed (Some head) later false after over = refl
     later_on-passed None later true after over = rw (over refl) refl
@@ -233,9 +234,9 @@ module _ (model : FirstModel) (tells : Records → Run) where
 
     -- One turn is done.
     pub stands-turned : (all : Records) (after_engine : Engine) (took_input : Bool) (old text new before after : List ℕ) →
-        Stands model tells (λ records. go (suc turns) records engine) all heads old text before after → (heads.head ≡ None → heads.reader.ended ≡ true) →
+        Stands model tells (λ records. go model (suc turns) records engine) all heads old text before after → (heads.head ≡ None → heads.reader.ended ≡ true) →
         Turns model engine heads.head after_engine text new (Turned took_input) →
-        Stands model tells (λ records. go turns records after_engine) all (passed heads took_input) old new before after
+        Stands model tells (λ records. go model turns records after_engine) all (passed heads took_input) old new before after
     stands-turned all after_engine took_input old text new before after stands over turned = record {
       given = stands.given;
       taken = stands.taken;
@@ -247,27 +248,27 @@ module _ (model : FirstModel) (tells : Records → Run) where
           let none : heads.head ≡ None → later ≡ end = λ none. ended (over none) in
           let first = rw (go-turn_on heads.head later none) at (stands.goes later ended) in
           let second = rw (later_on-passed heads.head later took_input after_engine none) at (turned (later_on heads.head later)) in
-          GoesOn-then model (tells (ahead stands.given later)) (turn_on engine heads.head (later_on heads.head later))
-          (go turns (with_head (cond took_input None heads.head) later) after_engine) old text new first second;
+          GoesOn-then model (tells (ahead stands.given later)) (turn_on model engine heads.head (later_on heads.head later))
+          (go model turns (with_head (cond took_input None heads.head) later) after_engine) old text new first second;
     }
 
     -- Memory ran out in a turn.
     pub front-turned : (all : Records) (old text new before after : List ℕ) →
-        Stands model tells (λ records. go (suc turns) records engine) all heads old text before after → IsReady heads.reader → (heads.head ≡ None → heads.reader.ended ≡ true) →
-        ((later : Bool → Engine → Run) → IsFront text new (trace_text model (turn_on engine heads.head later).events)) → IsFront old new (trace_text model (tells all).events)
+        Stands model tells (λ records. go model (suc turns) records engine) all heads old text before after → IsReady heads.reader → (heads.head ≡ None → heads.reader.ended ≡ true) →
+        ((later : Bool → Engine → Run) → IsFront text new (trace_text model (turn_on model engine heads.head later).events)) → IsFront old new (trace_text model (tells all).events)
     front-turned all old text new before after stands ready over front =
         let none : heads.head ≡ None → behind_head heads after ≡ end = λ none. none_to_come heads after ready (over none) in
-        let first = rw (go-turn_on heads.head (behind_head heads after) none) at (all-stands (λ records. go (suc turns) records engine) all heads old text before after stands ready) in
-        IsFront-behind model (tells all) (turn_on engine heads.head (later_on heads.head (behind_head heads after))) old text new first
+        let first = rw (go-turn_on heads.head (behind_head heads after) none) at (all-stands (λ records. go model (suc turns) records engine) all heads old text before after stands ready) in
+        IsFront-behind model (tells all) (turn_on model engine heads.head (later_on heads.head (behind_head heads after))) old text new first
         (front (later_on heads.head (behind_head heads after)))
 
     -- The run ended with a turn.
     pub tells-ended : (all : Records) (after_engine : Engine) (how : Finish) (old text new before after : List ℕ) →
-        Stands model tells (λ records. go (suc turns) records engine) all heads old text before after → IsReady heads.reader → (heads.head ≡ None → heads.reader.ended ≡ true) →
+        Stands model tells (λ records. go model (suc turns) records engine) all heads old text before after → IsReady heads.reader → (heads.head ≡ None → heads.reader.ended ≡ true) →
         Turns model engine heads.head after_engine text new (Ended how) → Tells model (tells all) old new how
     tells-ended all after_engine how old text new before after stands ready over ended =
         let later = behind_head heads after in
         let none : heads.head ≡ None → behind_head heads after ≡ end = λ none. none_to_come heads after ready (over none) in
-        let first = rw (go-turn_on heads.head (behind_head heads after) none) at (all-stands (λ records. go (suc turns) records engine) all heads old text before after stands ready) in
-        Tells-behind model (tells all) (turn_on engine heads.head (later_on heads.head (behind_head heads after))) how old text new first
+        let first = rw (go-turn_on heads.head (behind_head heads after) none) at (all-stands (λ records. go model (suc turns) records engine) all heads old text before after stands ready) in
+        Tells-behind model (tells all) (turn_on model engine heads.head (later_on heads.head (behind_head heads after))) how old text new first
         (ended (later_on heads.head (behind_head heads after)))

@@ -1,34 +1,35 @@
 -- A run's start, and then its turns.
 use Rattle.std.proofs.Common.{◌≡◌, ℕ, List, [], ◌++◌, Ok, ap, sym, ◌∙◌}
 use Rattle.std.specs.Prelude.{Option, Some, None, IfSome}
-use Rattle.dsde_first.specs.declared.first.FirstModel.{FirstModel}
-use Rattle.dsde_input.specs.Records.{Records}
-use Rattle.dsde_sim.specs.declared.event.Event.{Event}
-use Rattle.dsde_sim.specs.Engine.{Engine}
-use Rattle.dsde_sim.specs.Text.{trace_text}
-use Rattle.dsde_sim.specs.Turn.{start}
-use Rattle.dsde_sim.specs.Turn as turn
+use Rattle.dsde_run.specs.Run.{Running}
+use Rattle.dsde_records.specs.Records.{Records}
+use Rattle.dsde_turns.specs.declared.event.Event.{Event}
+use Rattle.dsde_turns.specs.Engine.{Engine}
+use Rattle.dsde_run.specs.Run.{trace_text}
+use Rattle.dsde_run.specs.Run.{start}
+use Rattle.dsde_turns.specs.Told as turn
 use Rattle.dsde_run.specs.Reading.{Told, TakesWanted, IsCutShort}
-use Rattle.dsde_run.specs.Run.{Run, run, go}
+use Rattle.dsde_runs.specs.Run.{Run}
+use Rattle.dsde_run.specs.Run.{run, go}
 use Rattle.dsde_run.specs.Steps.{GoesOn}
 use Rattle.dsde_run.proofs.RunLemmas.{GoesOn-text, run-started, text-told}
 
 -- the start of a run comes before its turns
-pub GoesOn-start : (model : FirstModel) (turns : ℕ) (engine : Engine) (begun told : List Event) (old new : List ℕ) →
+pub GoesOn-start : (model : Running) (turns : ℕ) (engine : Engine) (begun told : List Event) (old new : List ℕ) →
     begun ≡ [] → turn.Tells (start model) begun told (Ok engine) → new ≡ old ++ trace_text model told →
-    (records : Records) → GoesOn model (run model records turns) (go turns records engine) old new
+    (records : Records) → GoesOn model (run model records turns) (go model turns records engine) old new
 GoesOn-start model turns engine begun told old new empty tells written records =
     let all : told ≡ (start model).events = tells.0 ∙ ap (λ events. events ++ (start model).events) empty in
     let whole = run-started model records turns engine tells.1 in
     record {
       piece = trace_text model told;
       gained = written;
-      text = text-told model (start model).events told (go turns records engine) (run model records turns) whole all;
+      text = text-told model (start model).events told (go model turns records engine) (run model records turns) whole all;
       end = ap (λ run. run.end) whole;
     }
 
 -- what is cut short behind the start of a run is cut short in the run
-pub IsCutShort-behind : (model : FirstModel) (tells rest : Records → Run) (records : Records) (old mid new before after : List ℕ) →
+pub IsCutShort-behind : (model : Running) (tells rest : Records → Run) (records : Records) (old mid new before after : List ℕ) →
     ((records : Records) → GoesOn model (tells records) (rest records) old mid) →
     IsCutShort model rest records mid new before after → IsCutShort model tells records old new before after
 IsCutShort-behind model tells rest records old mid new before after goes short = record {
@@ -39,7 +40,7 @@ IsCutShort-behind model tells rest records old mid new before after goes short =
 }
 
 -- what is wanted behind the start of a run is wanted in the run
-pub TakesWanted-behind : (model : FirstModel) (tells rest : Records → Run) (records : Records) (old mid before after : List ℕ) →
+pub TakesWanted-behind : (model : Running) (tells rest : Records → Run) (records : Records) (old mid before after : List ℕ) →
     ((records : Records) → GoesOn model (tells records) (rest records) old mid) →
     TakesWanted rest records before after → TakesWanted tells records before after
 TakesWanted-behind model tells rest records old mid before after goes takes = record {

@@ -1,18 +1,42 @@
 -- The head of an input, as a run asks for it.
 use Rattle.std.specs.Prelude.{ℕ, ◌≡◌, ◌≢◌, true, false, List, [], ◌++◌, Option, Some, None, if◌then◌else◌, Bool}
-use Rattle.dsde_first.specs.declared.first.FirstModel.{FirstModel}
 use Rattle.dsde_values.specs.declared.arrival.Arrival.{Arrival}
-use Rattle.dsde_input.specs.declared.end.InputEnd.{InputEnd}
-use Rattle.dsde_input.specs.declared.end.InputEnd.TheVariants.{ReadFault}
-use Rattle.dsde_input.specs.Records.{Records, end, bad, one}
+use Rattle.dsde_values.specs.declared.types.Field.{Field}
+use Rattle.dsde_values.specs.declared.types.Types.{Types}
+use Rattle.dsde_values.specs.Value.{IsLawful}
+use Rattle.dsde_values.specs.When.{IsMoment}
+use Rattle.dsde_records.specs.declared.end.InputEnd.{InputEnd}
+use Rattle.dsde_records.specs.declared.end.InputEnd.TheVariants.{ReadFault}
+use Rattle.dsde_records.specs.Record.{ArePorts, AreItems}
+use Rattle.dsde_records.specs.Records.{Records, end, bad, one}
 use Rattle.dsde_input.specs.Reader.{Reader, fresh, to_come, records, IsOffence}
-use Rattle.dsde_run.specs.declared.heads.Heads.{Heads}
+use Rattle.dsde_nodes.specs.Models.{types_of}
 use Rattle.dsde_run.specs.Reading.{feeds, front}
-use Rattle.dsde_run.specs.Run.{ports_of, no_types}
+use Rattle.dsde_run.specs.Run.{Running, info_of}
 
--- at the start of an input to a model
-abbrev pub at_start : FirstModel → Heads
-at_start model = record { reader = fresh; ports = ports_of model; types = no_types; head = None }
+-- The head of an input: the next record, which stays the head until a turn takes it; with the ports
+-- and the types of the input, and what is held of the bytes behind it.
+pub record Heads : Type 0 where
+  pub reader : Reader
+  pub ports : List Field
+  pub types : Types
+  pub head : Option Arrival
+
+-- at the start of an input with these ports, over this table of types
+abbrev pub fresh_heads : List Field → Types → Heads
+fresh_heads ports types = record { reader = fresh; ports = ports; types = types; head = None }
+
+-- The input is one to the model that runs.
+pub record IsInput (own : Running) (heads : Heads) : Type 0 where
+  pub ports : heads.ports ≡ (info_of own.model).ins
+  pub types : heads.types ≡ types_of own.model
+  pub named : ArePorts heads.ports
+  pub lawful : IsLawful heads.types
+
+-- A record comes at a moment of a run, by these ports.
+pub record Comes (ports : List Field) (types : Types) (head : Arrival) : Type 0 where
+  pub early : IsMoment head.time
+  pub items : AreItems ports types head.items
 
 -- No byte of a line is held, and no offence was answered.
 pub record IsReady (reader : Reader) : Type 0 where

@@ -1,10 +1,10 @@
 -- What a run takes of its input, and how a failed read cuts it short.
 use Rattle.std.specs.Prelude.{ℕ, zero, suc, ◌+◌, ◌-◌, ◌==◌, ◌≡◌, ◌≢◌, if◌then◌else◌, List, [], ◌∷◌, ◌++◌, length, take, Option, None, IfSome, IsSomeAnd}
-use Rattle.dsde_first.specs.declared.first.FirstModel.{FirstModel}
-use Rattle.dsde_input.specs.declared.end.InputEnd.TheVariants.{ReadFault}
-use Rattle.dsde_input.specs.Records.{Records, end, bad, one}
-use Rattle.dsde_sim.specs.Text.{trace_text}
-use Rattle.dsde_run.specs.Run.{Run}
+use Rattle.dsde_run.specs.Run.{Running}
+use Rattle.dsde_records.specs.declared.end.InputEnd.TheVariants.{ReadFault}
+use Rattle.dsde_records.specs.Records.{Records, end, bad, one}
+use Rattle.dsde_run.specs.Run.{trace_text}
+use Rattle.dsde_runs.specs.Run.{Run}
 
 -- This holds of what a source had left before and has left after, where it tells both.
 abbrev pub Told : Option (List ℕ) → Option (List ℕ) → (List ℕ → List ℕ → Type 0) → Type 0
@@ -33,7 +33,7 @@ pub record TakesWanted (tells : Records → Run) (records : Records) (before aft
   pub wanted : taken ≢ [] → (tells (cut_after (feeds (front taken)) records)).end ≡ None
 
 -- The text gained the lines before the first turn whose head is not whole, with its line feed, in the bytes taken.
-pub record IsCutShort (model : FirstModel) (tells : Records → Run) (records : Records) (old new : List ℕ) (before after : List ℕ) : Type 0 where
+pub record IsCutShort (model : Running) (tells : Records → Run) (records : Records) (old new : List ℕ) (before after : List ℕ) : Type 0 where
   pub taken : List ℕ
   pub split : before ≡ taken ++ after
   pub text : new ≡ old ++ trace_text model (tells (cut_after (feeds taken) records)).events

@@ -1,94 +1,75 @@
--- A whole run: its events, of which the last says how it ended.
-use Rattle.std.specs.Prelude.{ℕ, zero, suc, ◌+◌, Bool, if◌then◌else◌, List, [], ◌∷◌, ◌++◌, map, Option, Some, None, unwrap_or, Ok, Err}
-use Rattle.dsde_first.specs.declared.first.FirstModel.{FirstModel}
+-- A run of a program, by the definitions of runs of a system.
+use Rattle.std.specs.Prelude.{ℕ, Bool, true, false, List, [], Option, slice_get}
+use Rattle.std.specs.List.{list_any}
+use Rattle.std.specs.Option.{option_map_or}
+use Rattle.dsde_syntax.specs.declared.decl.Decl.{Decl}
+use Rattle.dsde_syntax.specs.declared.decl.Decl.TheVariants as decl
+use Rattle.dsde_syntax.specs.declared.decl.Model.{Model}
 use Rattle.dsde_values.specs.declared.arrival.Arrival.{Arrival}
-use Rattle.dsde_values.specs.declared.types.Field.{Field}
-use Rattle.dsde_values.specs.declared.types.Types.{Types}
-use Rattle.dsde_values.specs.declared.types.Ty.TheVariants as ty
-use Rattle.dsde_input.specs.declared.end.InputEnd.{InputEnd}
-use Rattle.dsde_input.specs.declared.end.InputEnd.TheVariants.{BadLine, Backwards, LineTooLong, ReadFault}
-use Rattle.dsde_input.specs.declared.end.InputEnd.TheVariants as input_end
-use Rattle.dsde_input.specs.Lines.{lines}
-use Rattle.dsde_input.specs.Records.{Records, end, bad, one, records_of}
-use Rattle.dsde_sim.specs.declared.event.Event.{Event}
-use Rattle.dsde_sim.specs.declared.event.Event.TheVariants as event
-use Rattle.dsde_sim.specs.declared.event.Finish.{Finish}
-use Rattle.dsde_sim.specs.declared.event.Finish.TheVariants as how
-use Rattle.dsde_sim.specs.declared.event.InputKind.TheVariants as kind
-use Rattle.dsde_sim.specs.declared.fault.TurnEnd.{TurnEnd}
-use Rattle.dsde_sim.specs.declared.fault.TurnEnd.TheVariants.{Fault, Memory}
-use Rattle.dsde_sim.specs.declared.plain.Step.TheVariants.{Turned, Quiet}
-use Rattle.dsde_sim.specs.Engine.{Engine}
-use Rattle.dsde_sim.specs.Turn.{start, advance, turn_time}
+use Rattle.dsde_records.specs.Records.{Records}
+use Rattle.dsde_nodes.specs.declared.info.Info.{Info}
+use Rattle.dsde_nodes.specs.Models.{infos_of, types_of, resolved}
+use Rattle.dsde_atomic.specs.Program.{system}
+use Rattle.dsde_turns.specs.declared.event.Event.{Event}
+use Rattle.dsde_turns.specs.declared.fault.TurnEnd.{TurnEnd}
+use Rattle.dsde_turns.specs.declared.tree.Step.{Step}
+use Rattle.dsde_turns.specs.Engine.{Engine}
+use Rattle.dsde_turns.specs.Told.{Told}
+use Rattle.dsde_turns.specs.Turn as turn
+use Rattle.dsde_runs.specs.Run as runs
+use Rattle.dsde_runs.specs.Run.{Run, Spots}
+use Rattle.dsde_trace.specs.Text as text
 
--- what a run tells, and how it ended; a run that is cut short has no end
-pub record Run : Type 0 where
-  pub events : List Event
-  pub end : Option Finish
+-- whether a model declares a network; those that do are not run yet
+abbrev pub is_network : Decl → Bool
+is_network (decl.Network at name params ports exec_at body items) = true
+is_network _ = false
 
--- the end of a run
-abbrev pub ended : Finish → ℕ → ℕ → Run
-ended how turns time = record { events = event.Finish how turns time ∷ []; end = Some how }
+abbrev pub declares_network : Model → Bool
+declares_network model = list_any is_network model.decls
 
--- a run that is cut short here
-abbrev pub cut : Run
-cut = record { events = []; end = None }
+-- A model that runs, and the line and the column of each place of its text.
+pub record Running : Type 0 where
+  pub model : Model
+  pub spots : Spots
 
--- events, and then the rest of the run
-abbrev pub preceded : List Event → Run → Run
-preceded events rest = record { events = events ++ rest.events; end = rest.end }
+abbrev pub running : Model → Spots → Running
+running model spots = record { model = model; spots = spots }
 
--- the end of a run whose start or turn does not come to its end; models keep no places yet
-abbrev pub faulted : TurnEnd → ℕ → ℕ → Run
-faulted (Fault path site kind at) turns time =
-    ended (how.Fault (record { path = path; site = site; kind = kind; line = 0; column = 0 })) turns time
-faulted Memory turns time = cut
+-- nothing that a model declares
+abbrev pub no_info : Info
+no_info = record { name = []; at = 0; network = false; params = []; ins = []; outs = []; boss_ins = []; boss_outs = []; states = [] }
 
--- the end of a run that wants a line which is no record, or cannot be read
-abbrev pub offended : InputEnd → ℕ → ℕ → Run
-offended (BadLine line) turns time = ended (how.Input kind.BadLine line) turns time
-offended (Backwards line) turns time = ended (how.Input kind.Backwards line) turns time
-offended (LineTooLong line) turns time = ended (how.Input kind.LineTooLong line) turns time
-offended ReadFault turns time = cut
-offended input_end.Memory turns time = cut
+-- what the model that runs declares
+abbrev pub info_of : Model → Info
+info_of model = option_map_or (λ (info : Info). info) (slice_get (infos_of model) (resolved model).own.top_model.0) no_info
 
--- one turn with this head of the input, and what comes later where it is done
-abbrev pub turn_on : Engine → Option Arrival → (Bool → Engine → Run) → Run
-turn_on engine head later = preceded (advance engine head).events (elim (advance engine head).end [
-  | Ok answer ↦ elim answer.0 [
-    | Turned took_input ↦ later took_input answer.1
-    | Quiet ↦ ended how.Quiet engine.turn engine.time
-  ]
-  | Err why ↦ faulted why (engine.turn + 1) (unwrap_or (turn_time engine.leaf.next head) engine.time)
-])
+-- its start, a turn of it, and its runs
+abbrev pub start : Running → Told Engine
+start own = turn.start (system own.model)
 
--- at most this many turns of an engine on these records, each of which is the head until it is taken
-abbrev pub go : ℕ → Records → Engine → Run
-go zero records engine = ended how.Bound engine.turn engine.time
-go (suc turns) (bad offence) engine = offended offence engine.turn engine.time
-go (suc turns) end engine = turn_on engine None (λ took_input after. go turns end after)
-go (suc turns) (one head later) engine =
-    turn_on engine (Some head) (λ took_input after. go turns (if took_input then later else one head later) after)
+abbrev pub advance : Running → Engine → Option Arrival → Told (Step × Engine)
+advance own engine head = turn.advance (system own.model) engine head
 
--- a model's start, and then at most this many turns on these records
-abbrev pub run : FirstModel → Records → ℕ → Run
-run model records turns = preceded (start model).events (elim (start model).end [
-  | Ok engine ↦ go turns records engine
-  | Err why ↦ faulted why 0 0
-])
+abbrev pub faulted : Running → TurnEnd → ℕ → ℕ → Run
+faulted own = runs.faulted own.spots
 
--- an in port takes whole numbers
-abbrev pub port_of : List ℕ → Field
-port_of name = record { name = name; ty = ty.Int }
+abbrev pub turn_on : Running → Engine → Option Arrival → (Bool → Engine → Run) → Run
+turn_on own = runs.turn_on (system own.model) own.spots
 
--- the in ports of a model
-abbrev pub ports_of : FirstModel → List Field
-ports_of model = map port_of model.ins
+abbrev pub go : Running → ℕ → Records → Engine → Run
+go own = runs.go (system own.model) own.spots
 
--- a model defines no types yet
-abbrev pub no_types : Types
-no_types = record { defs = [] }
+abbrev pub run : Running → Records → ℕ → Run
+run own = runs.run (system own.model) own.spots
 
--- the records of an input to the model
-abbrev pub records_in : FirstModel → List ℕ → Records
-records_in model bytes = records_of (ports_of model) no_types 0 (lines bytes) 0 None
+-- the records of an input to it
+abbrev pub records_in : Running → List ℕ → Records
+records_in own bytes = runs.records_in (info_of own.model).ins (types_of own.model) bytes
+
+-- the text of its trace
+abbrev pub event_text : Running → Event → List ℕ
+event_text own = text.event_text (info_of own.model) (types_of own.model)
+
+abbrev pub trace_text : Running → List Event → List ℕ
+trace_text own = text.trace_text (info_of own.model) (types_of own.model)

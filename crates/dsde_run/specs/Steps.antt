@@ -1,47 +1,61 @@
 -- What the functions that run a model append, and answer.
-use Rattle.std.specs.Prelude.{ℕ, ◌+◌, ◌≡◌, ◌≢◌, true, false, Bool, List, [], ◌∷◌, ◌++◌, length, Option, Some, None}
-use Rattle.dsde_first.specs.declared.first.FirstModel.{FirstModel}
+use Rattle.std.specs.Prelude.{ℕ, ◌+◌, ◌≡◌, ◌≢◌, true, false, Bool, List, [], ◌∷◌, ◌++◌, length, Option, Some, None, IfSome}
+use Rattle.dsde_run.specs.Run.{Running}
 use Rattle.dsde_values.specs.declared.arrival.Arrival.{Arrival}
-use Rattle.dsde_input.specs.declared.end.InputEnd.{InputEnd}
+use Rattle.dsde_records.specs.declared.end.InputEnd.{InputEnd}
 use Rattle.dsde_input.specs.Reader.{IsOffence}
-use Rattle.dsde_input.specs.Records.{Records, end, one}
-use Rattle.dsde_sim.specs.declared.event.Finish.{Finish}
-use Rattle.dsde_sim.specs.Engine.{Engine}
-use Rattle.dsde_sim.specs.Text.{trace_text, end_text}
-use Rattle.dsde_run.specs.declared.heads.Heads.{Heads}
+use Rattle.dsde_records.specs.Records.{Records, end, one}
+use Rattle.dsde_turns.specs.declared.event.Finish.{Finish}
+use Rattle.dsde_nodes.specs.Models.{resolved, types_of}
+use Rattle.dsde_sim.specs.Working.{Working, HeadComes, working}
+use Rattle.dsde_turns.specs.Engine.{Engine, leaf_of}
+use Rattle.dsde_trace.specs.Text.{end_text}
+use Rattle.dsde_run.specs.Run.{trace_text}
 use Rattle.dsde_run.specs.declared.run.After.{After}
 use Rattle.dsde_run.specs.declared.run.After.TheVariants.{Turned, Ended}
-use Rattle.dsde_run.specs.Heads.{with_head, behind_head}
+use Rattle.dsde_run.specs.Heads.{Heads, Comes, with_head, behind_head}
 use Rattle.dsde_run.specs.Reading.{feeds, front, cut_after}
-use Rattle.dsde_run.specs.Run.{Run, turn_on, offended, ended}
+use Rattle.dsde_runs.specs.Run.{Run, offended, ended}
+use Rattle.dsde_run.specs.Run.{info_of, turn_on}
 
 -- The text gained the run's trace, and the answer is how the run ended.
-pub record Tells (model : FirstModel) (run : Run) (old new : List ℕ) (how : Finish) : Type 0 where
+pub record Tells (model : Running) (run : Run) (old new : List ℕ) (how : Finish) : Type 0 where
   pub text : new ≡ old ++ trace_text model run.events
   pub end : run.end ≡ Some how
 
 -- The text gained what a run tells before the rest of it.
-pub record GoesOn (model : FirstModel) (whole rest : Run) (old new : List ℕ) : Type 0 where
+pub record GoesOn (model : Running) (whole rest : Run) (old new : List ℕ) : Type 0 where
   pub piece : List ℕ
   pub gained : new ≡ old ++ piece
   pub text : trace_text model whole.events ≡ piece ++ trace_text model rest.events
   pub end : whole.end ≡ rest.end
 
 -- One turn is done, or the run ended with it, whatever comes later.
-abbrev pub Turns : FirstModel → Engine → Option Arrival → Engine → List ℕ → List ℕ → After → Type 0
+abbrev pub Turns : Running → Engine → Option Arrival → Engine → List ℕ → List ℕ → After → Type 0
 Turns model before head after old new (Turned took_input) =
-    (later : Bool → Engine → Run) → GoesOn model (turn_on before head later) (later took_input after) old new
+    (later : Bool → Engine → Run) → GoesOn model (turn_on model before head later) (later took_input after) old new
 Turns model before head after old new (Ended how) =
-    (later : Bool → Engine → Run) → Tells model (turn_on before head later) old new how
+    (later : Bool → Engine → Run) → Tells model (turn_on model before head later) old new how
+
+-- The root of the tree is of the model that runs.
+abbrev pub IsRoot : Running → Engine → Type 0
+IsRoot own engine = (leaf_of engine.tree).model ≡ (resolved own.model).own.top_model
+
+-- A record that comes by the in ports of the model comes to the root.
+abbrev pub ItemsCome : Running → Type 0
+ItemsCome own =
+    (engine : Engine) (head : Option Arrival) → IsRoot own engine → IfSome head (Comes (info_of own.model).ins (types_of own.model))
+    → HeadComes (working own.model engine) head
 
 -- An engine is ready for the turn behind that of this engine.
-pub record IsNext (before after : Engine) : Type 0 where
-  pub fresh : after.spent ≡ false
-  pub counted : after.turn ≡ before.turn + 1
-  pub same : after.model ≡ before.model
+pub record IsNext (before after : Working) : Type 0 where
+  pub fresh : after.engine.spent ≡ false
+  pub counted : after.engine.turn ≡ before.engine.turn + 1
+  pub same : after.program ≡ before.program
+  pub root : (leaf_of after.engine.tree).model ≡ (leaf_of before.engine.tree).model
 
 -- The engine is ready for a turn more where the run goes on.
-abbrev pub Readies : Engine → Engine → After → Type 0
+abbrev pub Readies : Working → Working → After → Type 0
 Readies before after (Turned took_input) = IsNext before after
 Readies before after (Ended how) = Unit {0}
 
@@ -58,7 +72,7 @@ ahead (first ∷ given) later = one first (ahead given later)
 
 -- A run stands before a turn: with the records that were given, what it tells is what was
 -- written, and then what is left of it, whatever records follow.
-pub record Stands (model : FirstModel) (tells rest : Records → Run) (all : Records) (heads : Heads) (old new : List ℕ) (before after : List ℕ) : Type 0 where
+pub record Stands (model : Running) (tells rest : Records → Run) (all : Records) (heads : Heads) (old new : List ℕ) (before after : List ℕ) : Type 0 where
   pub given : List Arrival
   pub taken : List ℕ
   pub split : before ≡ taken ++ after

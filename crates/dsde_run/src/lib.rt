@@ -1,7 +1,10 @@
-//! A whole run of a model on an input: its start, its turns, and the text of its trace.
+//! A whole run of a program: the turns of its engine on the records of an input, one after the other,
+//! and the text of their trace.
 #![tactic(auto)]
 
 mod heads;
 mod run;
+mod running;
 
 pub use run::{Cut, run_model};
+pub use running::Running;

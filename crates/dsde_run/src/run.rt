@@ -2,22 +2,25 @@
 
 ghost use Rattle.std.specs.Prelude.{ℕ, ◌≡◌, ◌+◌, ◌<◌, ◌≤◌, ◌^◌, [], ◌++◌, Bool, false, unwrap_or, OnOk, IfOk, OnErr, IfSome, IsErrOf};
 ghost use Rattle.std.specs.Option.{option_copied};
-ghost use Rattle.dsde_values.specs.When.{IsMoment};
+ghost use Rattle.dsde_values.specs.Value.{IsLawful};
 ghost use Rattle.dsde_io.specs.Fault.{Rose};
-ghost use Rattle.dsde_input.specs.Record.{ArePorts};
-ghost use Rattle.dsde_sim.specs.Engine.{Engine, HasFewPorts};
-ghost use Rattle.dsde_sim.specs.Text.{end_text, trace_text};
-ghost use Rattle.dsde_first.specs.First.{IsFirst};
-ghost use Rattle.dsde_run.specs.Heads.{IsReady, behind_head};
+ghost use Rattle.dsde_records.specs.Record.{ArePorts};
+ghost use Rattle.dsde_sim.specs.Working.{HeadComes};
+ghost use Rattle.dsde_trace.specs.Text.{end_text};
+ghost use Rattle.dsde_turns.specs.Engine.{Engine};
+ghost use Rattle.dsde_runs.specs.Run.{Run, ended};
+ghost use Rattle.dsde_run.specs.Heads.{IsInput, IsReady, behind_head};
 ghost use Rattle.dsde_run.specs.Reading.{Told, TakesWanted, IsCutShort, IsFront};
-ghost use Rattle.dsde_run.specs.Run.{Run, run, go, turn_on, faulted, ended, records_in};
-ghost use Rattle.dsde_run.specs.Steps.{Tells, Turns, Readies, Stops};
+ghost use Rattle.dsde_run.specs.Run.{run, go, turn_on, faulted, records_in, trace_text};
+ghost use Rattle.dsde_run.specs.Steps.{IsRoot, Tells, Turns, Readies, Stops};
 
+use crate::Running;
 use crate::heads::Heads;
-use dsde_first::FirstModel;
 use dsde_input::InputEnd;
 use dsde_io::Source;
-use dsde_sim::{Event, Fault, Finish, InputKind, Plain, Step, TurnEnd, write_end, write_event};
+use dsde_sim::Plain;
+use dsde_trace::write_end;
+use dsde_turns::{Event, Fault, Finish, InputKind, Step, TurnEnd};
 use dsde_values::{Arrival, Memory, Seq, Text};
 use std::alloc::Global;
 
@@ -48,7 +51,7 @@ enum After {
     Ended(Finish),
 }
 
-/// Runs a model on an input for at most this many turns, and appends the text of its trace.
+/// Runs a program on an input for at most this many turns, and appends the text of its trace.
 ///
 /// Answers how the run ended, whose line is the last. `ReadFault` comes where a read failed before
 /// all was there of a line that a turn wants: then the lines before that turn were appended.
@@ -56,24 +59,22 @@ enum After {
 /// no turn wants, and where the run falls quiet, none is left.
 pub fn run_model<R: Source>(
     alloc: Global,
-    model: &FirstModel,
+    own: &Running<'_>,
     turns: u64,
     source: &mut R,
     text: &mut Text,
 ) -> Result<Finish, Cut>
-    requires form { IsFirst model.now }
-    requires ports { HasFewPorts model.now }
     requires turns { turns < 2 ^ 63 }
 
     // Where the source tells its bytes.
     ensures tells { IfOk result (λ how. IfSome (R.left source.old) (λ bytes.
-        Tells model.now (run model.now (records_in model.now bytes) turns) text.old text.new how)) }
+        Tells own.now (run own.now (records_in own.now bytes) turns) text.old text.new how)) }
     ensures cut { IsErrOf result Cut.ReadFault → Told (R.left source.old) (R.left source.new) (λ before.
-        IsCutShort model.now (λ records. run model.now records turns) (records_in model.now before) text.old text.new before) }
+        IsCutShort own.now (λ records. run own.now records turns) (records_in own.now before) text.old text.new before) }
     ensures front { OnErr result (IfSome (R.left source.old) (λ bytes.
-        IsFront text.old text.new (trace_text model.now (run model.now (records_in model.now bytes) turns).events))) }
+        IsFront text.old text.new (trace_text own.now (run own.now (records_in own.now bytes) turns).events))) }
     ensures taken { Told (R.left source.old) (R.left source.new) (λ before.
-        TakesWanted (λ records. run model.now records turns) (records_in model.now before) before) }
+        TakesWanted (λ records. run own.now records turns) (records_in own.now before) before) }
     ensures quiet { result ≡ Ok Finish.Quiet → Told (R.left source.old) (R.left source.new) (λ _ after. after ≡ []) }
 
     ensures cause { IsErrOf result Cut.ReadFault → Rose (R.faults source.old) (R.faults source.new) }
@@ -81,47 +82,48 @@ pub fn run_model<R: Source>(
     ensures idle { turns ≡ 0 → source.new ≡ source.old }
 {
     let mut events = Seq::new(alloc);
-    let started = Plain::start(alloc, model, &mut events);
-    write_events(events.as_slice(), model, text)?;
+    let started = Plain::start(alloc, own.program(), &mut events);
+    write_events(events.as_slice(), own, text)?;
     match started {
         Ok(plain) => go(
             alloc,
             plain,
-            Heads::new(alloc, model)?,
-            model,
+            Heads::new(alloc, own.ins(), own.types())?,
+            own,
             turns,
             source,
             text,
         ),
-        Err(end) => Ok(finish(finish_of(end)?, 0, 0, text)?),
+        Err(end) => Ok(finish(finish_of(end, own)?, 0, 0, text)?),
     }
 }
 
 fn go<R: Source>(
     alloc: Global,
     mut plain: Plain<'_>,
-    mut heads: Heads,
-    model: &FirstModel,
+    mut heads: Heads<'_>,
+    own: &Running<'_>,
     turns: u64,
     source: &mut R,
     text: &mut Text,
 ) -> Result<Finish, Cut>
-    requires model { plain.model ≡ model.now }
-    requires fresh { plain.spent ≡ false }
-    requires bounded { plain.turn + turns < 2 ^ 63 }
-    requires ports { ArePorts heads.ports }
+    requires model { plain.program ≡ own.now.model }
+    requires root { IsRoot own.now plain.engine }
+    requires fresh { plain.engine.spent ≡ false }
+    requires bounded { plain.engine.turn + turns < 2 ^ 63 }
+    requires input { IsInput own.now heads }
     requires ready { IsReady heads.reader }
     requires unasked { heads.head ≡ None }
 
     ensures tells { IfOk result (λ how. Told (R.left source.old) (R.left source.new) (λ before _.
-        Tells model.now (go turns (behind_head heads before) plain.entry) text.old text.new how)) }
+        Tells own.now (go own.now turns (behind_head heads.entry before) plain.entry.engine) text.old text.new how)) }
     ensures cut { IsErrOf result Cut.ReadFault → Told (R.left source.old) (R.left source.new) (λ before.
-        IsCutShort model.now (λ records. go turns records plain.entry) (behind_head heads before) text.old text.new before) }
+        IsCutShort own.now (λ records. go own.now turns records plain.entry.engine) (behind_head heads.entry before) text.old text.new before) }
     ensures front { IsErrOf result Cut.Memory → Told (R.left source.old) (R.left source.new) (λ before _.
-        IsFront text.old text.new (trace_text model.now (go turns (behind_head heads before) plain.entry).events)) }
+        IsFront text.old text.new (trace_text own.now (go own.now turns (behind_head heads.entry before) plain.entry.engine).events)) }
     ensures taken { Told (R.left source.old) (R.left source.new) (λ before.
-        TakesWanted (λ records. go turns records plain.entry) (behind_head heads before) before) }
-    ensures quiet { heads.reader.ended ≡ false → result ≡ Ok Finish.Quiet
+        TakesWanted (λ records. go own.now turns records plain.entry.engine) (behind_head heads.entry before) before) }
+    ensures quiet { heads.entry.reader.ended ≡ false → result ≡ Ok Finish.Quiet
         → Told (R.left source.old) (R.left source.new) (λ _ after. after ≡ []) }
 
     ensures cause { IsErrOf result Cut.ReadFault → Rose (R.faults source.old) (R.faults source.new) }
@@ -132,7 +134,8 @@ fn go<R: Source>(
         if let Err(why) = heads.ask(source) {
             return stop(why, plain.turn(), plain.time(), text);
         }
-        match turn(alloc, &mut plain, heads.head.as_ref(), model, text)? {
+        own.comes();
+        match turn(alloc, &mut plain, heads.head(), own, text)? {
             After::Turned { took_input } => heads.pass(took_input),
             After::Ended(how) => return Ok(how),
         }
@@ -145,34 +148,34 @@ fn turn(
     alloc: Global,
     plain: &mut Plain<'_>,
     head: Option<&Arrival>,
-    model: &FirstModel,
+    own: &Running<'_>,
     text: &mut Text,
 ) -> Result<After, Memory>
-    requires model { plain.old.model ≡ model.now }
-    requires fresh { plain.old.spent ≡ false }
-    requires turns { plain.old.turn < 2 ^ 63 }
-    requires head { IfSome (option_copied head) (λ arrival. IsMoment arrival.time) }
-    ensures turns { IfOk result (Turns model.now plain.old (option_copied head.entry) plain.new text.old text.new) }
+    requires model { plain.old.program ≡ own.now.model }
+    requires fresh { plain.old.engine.spent ≡ false }
+    requires turns { plain.old.engine.turn < 2 ^ 63 }
+    requires head { HeadComes plain.old (option_copied head) }
+    ensures turns { IfOk result (Turns own.now plain.old.engine (option_copied head.entry) plain.new.engine text.old text.new) }
     ensures readies { IfOk result (Readies plain.old plain.new) }
     ensures front { OnErr result ((later : Bool → Engine → Run) →
-        IsFront text.old text.new (trace_text model.now (turn_on plain.old (option_copied head.entry) later).events)) }
+        IsFront text.old text.new (trace_text own.now (turn_on own.now plain.old.engine (option_copied head.entry) later).events)) }
 {
     let done = plain.turn();
     let last = plain.time();
     let time = plain.turn_time(head).unwrap_or(last);
     let mut events = Seq::new(alloc);
     let step = plain.advance(head, &mut events);
-    write_events(events.as_slice(), model, text)?;
+    write_events(events.as_slice(), own, text)?;
     match step {
         Ok(Step::Turned { took_input }) => Ok(After::Turned { took_input }),
         Ok(Step::Quiet) => Ok(After::Ended(finish(Finish::Quiet, done, last, text)?)),
-        Err(end) => Ok(After::Ended(finish(finish_of(end)?, done + 1, time, text)?)),
+        Err(end) => Ok(After::Ended(finish(finish_of(end, own)?, done + 1, time, text)?)),
     }
 }
 
-/// How a run ends whose start or turn did not come to its end. Models keep no places yet.
-fn finish_of(end: TurnEnd) -> Result<Finish, Memory>
-    ensures { IfOk result (λ how. (turns time : ℕ) → faulted end turns time ≡ ended how turns time) }
+/// How a run ends whose start or turn did not come to its end.
+fn finish_of(end: TurnEnd, own: &Running<'_>) -> Result<Finish, Memory>
+    ensures { IfOk result (λ how. (turns time : ℕ) → faulted own.now end turns time ≡ ended how turns time) }
 {
     match end {
         TurnEnd::Memory => Err(Memory),
@@ -180,14 +183,17 @@ fn finish_of(end: TurnEnd) -> Result<Finish, Memory>
             path,
             site,
             kind,
-            ..
-        } => Ok(Finish::Fault(Fault {
-            path,
-            site,
-            kind,
-            line: 0,
-            column: 0,
-        })),
+            at,
+        } => {
+            let (line, column) = own.spot(at);
+            Ok(Finish::Fault(Fault {
+                path,
+                site,
+                kind,
+                line,
+                column,
+            }))
+        }
     }
 }
 
@@ -217,12 +223,12 @@ fn finish(how: Finish, turns: u64, time: u64, text: &mut Text) -> Result<Finish,
 }
 
 /// Appends the lines of events. Without memory those of the first of them are appended.
-fn write_events(events: &[Event], model: &FirstModel, text: &mut Text) -> Result<(), Memory>
-    ensures ok { OnOk result (text.new ≡ text.old ++ trace_text model.now events.now) }
-    ensures front { OnErr result (IsFront text.old text.new (trace_text model.now events.now)) }
+fn write_events(events: &[Event], own: &Running<'_>, text: &mut Text) -> Result<(), Memory>
+    ensures ok { OnOk result (text.new ≡ text.old ++ trace_text own.now events.now) }
+    ensures front { OnErr result (IsFront text.old text.new (trace_text own.now events.now)) }
 {
     for event in events {
-        write_event(event, model, text)?;
+        own.write_event(event, text)?;
     }
     Ok(())
 }

@@ -1,2 +1,2 @@
-pub mod Bindings
+pub mod Coming
 pub mod Telling

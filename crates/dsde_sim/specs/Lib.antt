@@ -1,5 +1,1 @@
-pub mod Engine
-pub mod Leaf
-pub mod Meaning
-pub mod Text
-pub mod Turn
+pub mod Working

@@ -3,7 +3,7 @@ use Rattle.std.specs.Prelude.{◌≡◌, ℕ, ◌⊎◌, List, [], ◌++◌, tak
 use Rattle.dsde_io.specs.Bytes.{Gains, GainsFront}
 use Rattle.dsde_rules.specs.declared.wrong.WrongKind.{WrongKind}
 use Rattle.dsde_rules.specs.declared.wrong.WrongKind.TheVariants as wrong
-use Rattle.dsde_sim.specs.Text.{input_text, fault_text}
+use Rattle.dsde_trace.specs.Text.{input_text, fault_text}
 use Rattle.dsde_values.specs.Path.{path_text}
 use Rattle.dsde_verdict.specs.declared.refusal.Refusal.{Refusal}
 use Rattle.dsde_verdict.specs.declared.refusal.Refusal.TheVariants as refusal

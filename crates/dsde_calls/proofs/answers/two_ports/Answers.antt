@@ -21,9 +21,6 @@ apart (suc i) j d before within = absurd (omega arith)
 both_named : All (λ (port : Field). is_word port.name ≡ true) (x ∷ y_2 ∷ [])
 both_named = All-cons (λ (port : Field). is_word port.name ≡ true) x (y_2 ∷ []) refl (All-cons (λ (port : Field). is_word port.name ≡ true) y_2 [] refl (All-nil _))
 
-both_whole : All (λ (port : Field). port.ty ≡ ty.Int) (x ∷ y_2 ∷ [])
-both_whole = All-cons (λ (port : Field). port.ty ≡ ty.Int) x (y_2 ∷ []) refl (All-cons (λ (port : Field). port.ty ≡ ty.Int) y_2 [] refl (All-nil _))
-
 pub returns : goal.returns
 returns c = rw (c.in_ok-push-2.ensures.ok, c.in_ok-push.ensures.ok, c.new-ports.ensures, c.in_ok-port.ensures, c.in_ok-port-2.ensures)
-    (record { few = omega arith; named = both_named; distinct = apart; whole = both_whole })
+    (record { few = omega arith; named = both_named; distinct = apart })

@@ -5,8 +5,8 @@ use Rattle.dsde_run.specs.Run.{run, records_in}
 use Rattle.dsde_command.specs.Commands.{CheckCommand, RunCommand, checks, runs}
 use Rattle.dsde_cli.specs.Answer.{Answers, answer_of}
 use Rattle.dsde_cli.specs.Causes.{Holds, HoldsModel}
-use Rattle.dsde_cli.specs.Outcome.{Comes}
-use Rattle.dsde_cli.proofs.Outcomes.{same_run, same_check, no_run, no_task, comes-reported, answers-reported}
+use Rattle.dsde_cli.specs.Outcome.{Comes, SaysEnd}
+use Rattle.dsde_cli.proofs.Outcomes.{same_run, same_check, no_run, no_task, comes-reported, ends-reported, answers-reported}
 use Rattle.dsde_cli.proofs.call.dsde.Goals as goal
 use Rattle.dsde_cli.proofs.call.dsde.Goals.{in-Some-Check, in-Some-Run, in-None}
 
@@ -15,14 +15,14 @@ returns-clause-runs g c = λ loaded. elim c.match-read_command.branch [
   | in-Some-Run w ↦
       let own : RunCommand = record { model = w.in-Some-Run.model.now; turns = w.in-Some-Run.turns } in
       let same = same_run own loaded.asked.run ((rw w.in-Some-Run.field-0-is at w.in-Some-Run.ensures.spelled) ∙ loaded.asked.spelled) in
-      let here = subst (λ asked. Holds asked.model (g.F.Shelf.held c.args.shelf.now) loaded.model) (sym same) loaded.holds in
+      let here = subst (λ asked. Holds asked.model (g.F.Shelf.held c.args.shelf.now) loaded.own) (sym same) loaded.holds in
       let turns : own.turns ≡ loaded.asked.run.turns = ap (λ asked. asked.turns) same in
       subst (λ turns. IfSome (g.R.Source.left c.args.input.now) (λ bytes. IfSome (g.W.Sink.written c.args.out.now) (λ written.
-      Comes loaded.model (λ records. run loaded.model records turns) bytes (g.R.Source.left c.match-read_command.input) written (g.W.Sink.written c.match-read_command.out) c.report.result))) turns
+      Comes loaded.own (λ records. run loaded.own records turns) bytes (g.R.Source.left c.match-read_command.input) written (g.W.Sink.written c.match-read_command.out) c.report.result))) turns
       (rw (w.input-is, w.out-is)
-      (comes-reported loaded.model (λ records. run loaded.model records own.turns)
+      (comes-reported loaded.own (λ records. run loaded.own records own.turns)
       (g.R.Source.left c.args.input.now) (g.R.Source.left w.load_and_run-status.new.input) (g.W.Sink.written c.args.out.now) (g.W.Sink.written w.load_and_run-status.new.out)
-      w.load_and_run-status.result c.report.result (w.load_and_run-status.ensures.runs loaded.model here) (rw w.status-is at c.report.ensures.same)))
+      w.load_and_run-status.result c.report.result (w.load_and_run-status.ensures.runs loaded.own here) (rw w.status-is at c.report.ensures.same)))
   | in-Some-Check w ↦ absurd (no_run (record { model = w.in-Some-Check.model.now; print = w.in-Some-Check.print }) loaded.asked.run ((rw w.in-Some-Check.field-0-is at w.in-Some-Check.ensures.spelled) ∙ loaded.asked.spelled))
   | in-None w ↦ absurd (no_task (runs loaded.asked.run) (w.in-None.ensures.spelled ∙ loaded.asked.spelled))
 ]
@@ -32,11 +32,11 @@ returns-clause-taken g c = λ loaded. elim c.match-read_command.branch [
   | in-Some-Run w ↦
       let own : RunCommand = record { model = w.in-Some-Run.model.now; turns = w.in-Some-Run.turns } in
       let same = same_run own loaded.asked.run ((rw w.in-Some-Run.field-0-is at w.in-Some-Run.ensures.spelled) ∙ loaded.asked.spelled) in
-      let here = subst (λ asked. Holds asked.model (g.F.Shelf.held c.args.shelf.now) loaded.model) (sym same) loaded.holds in
+      let here = subst (λ asked. Holds asked.model (g.F.Shelf.held c.args.shelf.now) loaded.own) (sym same) loaded.holds in
       let turns : own.turns ≡ loaded.asked.run.turns = ap (λ asked. asked.turns) same in
       subst (λ turns. Told (g.R.Source.left c.args.input.now) (g.R.Source.left c.match-read_command.input) (λ before.
-      TakesWanted (λ records. run loaded.model records turns) (records_in loaded.model before) before)) turns
-      (rw w.input-is (w.load_and_run-status.ensures.taken loaded.model here))
+      TakesWanted (λ records. run loaded.own records turns) (records_in loaded.own before) before)) turns
+      (rw w.input-is (w.load_and_run-status.ensures.taken loaded.own here))
   | in-Some-Check w ↦ absurd (no_run (record { model = w.in-Some-Check.model.now; print = w.in-Some-Check.print }) loaded.asked.run ((rw w.in-Some-Check.field-0-is at w.in-Some-Check.ensures.spelled) ∙ loaded.asked.spelled))
   | in-None w ↦ absurd (no_task (runs loaded.asked.run) (w.in-None.ensures.spelled ∙ loaded.asked.spelled))
 ]
@@ -55,4 +55,21 @@ returns-clause-checks g c = λ checked. elim c.match-read_command.branch [
       w.load_and_check-status.result c.report.result (w.load_and_check-status.ensures.checks checked.model here) (rw w.status-is at c.report.ensures.same)))
   | in-Some-Run w ↦ absurd (no_run checked.asked.check (record { model = w.in-Some-Run.model.now; turns = w.in-Some-Run.turns }) (sym ((rw w.in-Some-Run.field-0-is at w.in-Some-Run.ensures.spelled) ∙ checked.asked.spelled)))
   | in-None w ↦ absurd (no_task (checks checked.asked.check) (w.in-None.ensures.spelled ∙ checked.asked.spelled))
+]
+
+pub returns-clause-ends : goal.returns-clause-ends
+returns-clause-ends g c = λ loaded. elim c.match-read_command.branch [
+  | in-Some-Run w ↦
+      let asked : RunCommand = record { model = w.in-Some-Run.model.now; turns = w.in-Some-Run.turns } in
+      let same = same_run asked loaded.asked.run ((rw w.in-Some-Run.field-0-is at w.in-Some-Run.ensures.spelled) ∙ loaded.asked.spelled) in
+      let here = subst (λ asked. Holds asked.model (g.F.Shelf.held c.args.shelf.now) loaded.own) (sym same) loaded.holds in
+      let turns : asked.turns ≡ loaded.asked.run.turns = ap (λ asked. asked.turns) same in
+      subst (λ turns. IfSome (g.R.Source.left c.args.input.now) (λ bytes.
+      SaysEnd (run loaded.own (records_in loaded.own bytes) turns).end (g.R.Source.left c.match-read_command.input) c.report.result)) turns
+      (rw w.input-is
+      (ends-reported loaded.own (λ records. run loaded.own records asked.turns)
+      (g.R.Source.left c.args.input.now) (g.R.Source.left w.load_and_run-status.new.input)
+      w.load_and_run-status.result c.report.result (w.load_and_run-status.ensures.ends loaded.own here) (rw w.status-is at c.report.ensures.same)))
+  | in-Some-Check w ↦ absurd (no_run (record { model = w.in-Some-Check.model.now; print = w.in-Some-Check.print }) loaded.asked.run ((rw w.in-Some-Check.field-0-is at w.in-Some-Check.ensures.spelled) ∙ loaded.asked.spelled))
+  | in-None w ↦ absurd (no_task (runs loaded.asked.run) (w.in-None.ensures.spelled ∙ loaded.asked.spelled))
 ]

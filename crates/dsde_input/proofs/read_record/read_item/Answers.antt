@@ -11,12 +11,12 @@ returns-in_default c =
 pub returns-in_default-port_of : goal.returns-in_default-port_of
 returns-in_default-port_of c =
     let cut = cut_from_position 32 c.args.text.now c.in-Some.size (sym c.in-Some.ensures) in
-    no_item_port c.args.ports.now c.args.types.now c.requires c.args.text.now c.in-Some.size cut (sym c.in_default-port_of.ensures)
+    no_item_port c.args.ports.now c.args.types.now c.requires.ports c.args.text.now c.in-Some.size cut (sym c.in_default-port_of.ensures)
 
 pub returns-in-Ok : goal.returns-in-Ok
 returns-in-Ok c =
     let cut = cut_from_position 32 c.args.text.now c.in-Some.size (sym c.in-Some.ensures) in
-    some_item c.args.ports.now c.args.types.now c.requires c.args.text.now c.in-Some.size cut
+    some_item c.args.ports.now c.args.types.now c.requires.ports c.args.text.now c.in-Some.size cut
     c.in-Some-port_of.port c.index-as_slice-port.result (sym c.in-Some-port_of.ensures)
     (port_read c.as_slice.result.now c.args.ports.now c.in-Some-port_of.port c.index-as_slice-port.result c.as_slice.ensures c.index-as_slice-port.is)
     _ (rest_from (c.in-Some.size + 1) c.args.text.now)
@@ -25,7 +25,7 @@ returns-in-Ok c =
 pub returns-in-Err-NotAValue : goal.returns-in-Err-NotAValue
 returns-in-Err-NotAValue c =
     let cut = cut_from_position 32 c.args.text.now c.in-Some.size (sym c.in-Some.ensures) in
-    no_item_value c.args.ports.now c.args.types.now c.requires c.args.text.now c.in-Some.size cut
+    no_item_value c.args.ports.now c.args.types.now c.requires.ports c.args.text.now c.in-Some.size cut
     c.in-Some-port_of.port c.index-as_slice-port.result (sym c.in-Some-port_of.ensures)
     (port_read c.as_slice.result.now c.args.ports.now c.in-Some-port_of.port c.index-as_slice-port.result c.as_slice.ensures c.index-as_slice-port.is)
     _ (rest_from (c.in-Some.size + 1) c.args.text.now)

@@ -1,0 +1,14 @@
+pub mod Infos
+pub mod Filling
+pub mod Ends
+pub mod Advances
+pub mod Bodies
+pub mod Inits
+pub mod Landing
+pub mod Phases
+pub mod Inner
+pub mod Inputs
+pub mod Outer
+pub mod Transitions
+pub mod Settling
+pub mod Tops

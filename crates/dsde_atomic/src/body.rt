@@ -1,0 +1,75 @@
+//! The bodies of models, and the values that they see.
+
+ghost use Rattle.std.specs.Prelude.{◌≡◌, ◌<◌, ◌≤◌, ◌++◌, Some, length, drop, IfOk};
+ghost use Rattle.dsde_nodes.specs.Models.{infos_of};
+ghost use Rattle.dsde_standing.specs.Bodies.{Own, BodyStands};
+ghost use Rattle.dsde_atomic.specs.Steps.{own_at, sited};
+
+use crate::laws::laws;
+use dsde_faults::{EvalEnd, LeafEnd, Site};
+use dsde_lists::Memory;
+use dsde_nodes::{Code, ModelId};
+use dsde_program::Program;
+use dsde_values::{Seq, Value, Values, copy_value};
+use std::alloc::Global;
+
+/// The body of the atomic model with a number, or of the network's executive.
+pub(crate) fn code_of<'p>(program: &'p Program, model: ModelId) -> &'p Code
+    requires { model.0 < length (infos_of program.now) }
+    ensures { (own : Own) → own_at program.now model.0 ≡ Some own → BodyStands program.now own result.now }
+{
+    laws();
+    program.right();
+    program.code(model)
+}
+
+/// An end in a part of a component.
+pub(crate) fn at_site(site: Site, end: EvalEnd) -> LeafEnd
+    ensures { result ≡ sited site end }
+{
+    match end {
+        EvalEnd::Fault(kind, at) => LeafEnd::Fault(site, kind, at),
+        EvalEnd::Memory => LeafEnd::Memory,
+    }
+}
+
+/// A copy of values.
+pub(crate) fn copied(alloc: Global, values: &[Value]) -> Result<Values, Memory>
+    ensures { IfOk result (λ copies. copies ≡ values.now) }
+{
+    let mut copies = Seq::new(alloc);
+    for value in values {
+        copies.push(copy_value(alloc, value)?)?;
+    }
+    Ok(copies)
+}
+
+/// Values with others behind them.
+pub(crate) fn joined(values: Values, others: Values) -> Result<Values, Memory>
+    ensures { IfOk result (λ all. all ≡ values ++ others) }
+{
+    let mut all = values.into_vec();
+    let mut behind = others.into_vec();
+    all.append(&mut behind)?;
+    Ok(Seq::from_vec(all))
+}
+
+/// The values behind the first ones.
+pub(crate) fn behind(values: Values, count: usize) -> Values
+    requires { count ≤ length values }
+    ensures { result ≡ drop count values }
+{
+    let mut all = values.into_vec();
+    let size = all.len();
+    all.rotate_left(count);
+    all.truncate(size - count);
+    Seq::from_vec(all)
+}
+
+/// What a body sees: a copy of the arguments, and the state behind them.
+pub(crate) fn slots_of(alloc: Global, args: &Values, state: Values) -> Result<Values, Memory>
+    ensures { IfOk result (λ slots. slots ≡ args.now ++ state) }
+{
+    let args = copied(alloc, args.as_slice())?;
+    joined(args, state)
+}

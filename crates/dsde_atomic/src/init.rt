@@ -1,0 +1,48 @@
+//! The first values of state variables.
+
+ghost use Rattle.std.specs.Prelude.{◌≡◌, IfOk};
+ghost use Rattle.dsde_formalism.specs.Leaf.{Gives};
+ghost use Rattle.dsde_atomic.specs.Program.{system};
+ghost use Rattle.dsde_atomic.specs.Fitting.{FitsArgs, FitsState};
+ghost use Rattle.dsde_atomic.specs.Steps.{Begins};
+
+use crate::body::{at_site, behind, code_of, copied};
+use dsde_eval::{Env, eval};
+use dsde_faults::{EvalEnd, LeafEnd, Site};
+use dsde_nodes::ModelId;
+use dsde_program::Program;
+use dsde_values::Values;
+use std::alloc::Global;
+
+/// The initial state: the first value of each state variable, in their order.
+pub(crate) fn init(
+    alloc: Global,
+    program: &Program,
+    model: ModelId,
+    args: &Values,
+) -> Result<Values, LeafEnd>
+    requires { FitsArgs program.now model.0 args.now }
+    ensures gives { Gives ((system program.now).component model args.now).init result }
+    ensures fits { IfOk result (λ state. FitsState program.now model.0 state) }
+{
+    let slots = copied(alloc, args.as_slice())?;
+    let mut env = Env { slots };
+    match begin(alloc, program, model, &mut env) {
+        Ok(()) => Ok(behind(env.slots, args.len())),
+        Err(end) => Err(at_site(Site::Init, end)),
+    }
+}
+
+/// Puts the first value of each state variable behind the arguments, each over what is before it.
+fn begin(alloc: Global, program: &Program, model: ModelId, env: &mut Env) -> Result<(), EvalEnd>
+    requires { FitsArgs program.now model.0 env.old.slots }
+    ensures { Begins program.now model.0 env.old.slots result env.new.slots }
+{
+    let code = code_of(program, model);
+    let numbers = code.inits.as_slice();
+    for number in numbers {
+        let value = eval(alloc, program, *number, env)?;
+        env.slots.push(value)?;
+    }
+    Ok(())
+}

@@ -1,0 +1,116 @@
+//! Starts, outputs and moves of components.
+
+ghost use Rattle.std.specs.Prelude.{◌≡◌, IfOk};
+ghost use Rattle.dsde_values.specs.When.{IsMoment};
+ghost use Rattle.dsde_formalism.specs.Leaf.{Gives, settled, start_leaf, output_leaf, move_leaf};
+ghost use Rattle.dsde_atomic.specs.Program.{system};
+ghost use Rattle.dsde_atomic.specs.Fitting.{FitsArgs, FitsInputs, FitsLeaf, FitsSends, FitsState};
+
+use crate::body::{at_site, behind, code_of, copied, slots_of};
+use crate::due::due;
+use crate::init::init;
+use crate::moves::transition;
+use dsde_eval::{Env, run_block};
+use dsde_faults::{LeafEnd, Site};
+use dsde_formalism::{Inputs, Leaf, MoveKind};
+use dsde_nodes::ModelId;
+use dsde_program::Program;
+use dsde_values::{Item, Seq, Values};
+use std::alloc::Global;
+
+/// A component of the model with these arguments that starts at `time`: an atomic model's, or the
+/// executive of a network.
+pub fn start_leaf(
+    alloc: Global,
+    program: &Program,
+    model: ModelId,
+    boss: bool,
+    args: Values,
+    time: u64,
+) -> Result<Leaf, LeafEnd>
+    requires moment { IsMoment time }
+    requires args { FitsArgs program.now model.0 args }
+    ensures gives { Gives (start_leaf (system program.now) model boss args time) result }
+    ensures fits { IfOk result (λ leaf. FitsLeaf program.now leaf) }
+    ensures model { IfOk result (λ leaf. leaf.model ≡ model) }
+{
+    let state = init(alloc, program, model, &args)?;
+    settled(alloc, program, model, boss, args, state, time)
+}
+
+/// A component in this state after an event at `time`.
+fn settled(
+    alloc: Global,
+    program: &Program,
+    model: ModelId,
+    boss: bool,
+    args: Values,
+    state: Values,
+    time: u64,
+) -> Result<Leaf, LeafEnd>
+    requires moment { IsMoment time }
+    requires args { FitsArgs program.now model.0 args }
+    requires state { FitsState program.now model.0 state }
+    ensures gives { Gives (settled (system program.now) model boss args state time) result }
+    ensures fits { IfOk result (λ leaf. FitsLeaf program.now leaf) }
+    ensures model { IfOk result (λ leaf. leaf.model ≡ model) }
+{
+    let params = args.len();
+    let slots = slots_of(alloc, &args, state)?;
+    let mut env = Env { slots };
+    let next = due(alloc, program, model, &mut env, time)?;
+    let state = behind(env.slots, params);
+    Ok(Leaf {
+        model,
+        boss,
+        args,
+        state,
+        last: time,
+        next,
+    })
+}
+
+/// What the component sends where it is due, in the order in which it is sent.
+pub fn output_leaf(alloc: Global, program: &Program, leaf: &Leaf) -> Result<Seq<Item>, LeafEnd>
+    requires { FitsLeaf program.now leaf.now }
+    ensures gives { Gives (output_leaf (system program.now) leaf.now) result }
+    ensures fits { IfOk result (λ sends. FitsSends program.now leaf.now.model.0 sends) }
+{
+    let mut sends = Seq::new(alloc);
+    let block = match code_of(program, leaf.model).output {
+        Some(block) => block,
+        None => return Ok(sends),
+    };
+    let state = copied(alloc, leaf.state.as_slice())?;
+    let slots = slots_of(alloc, &leaf.args, state)?;
+    let mut env = Env { slots };
+    match run_block(alloc, program, block, &mut env, &mut sends) {
+        Ok(()) => Ok(sends),
+        Err(end) => Err(at_site(Site::Output, end)),
+    }
+}
+
+/// The component after its move at `time`, with the values that came at each in port.
+pub fn move_leaf(
+    alloc: Global,
+    program: &Program,
+    leaf: &Leaf,
+    kind: MoveKind,
+    time: u64,
+    got: Inputs,
+) -> Result<Leaf, LeafEnd>
+    requires moment { IsMoment time }
+    requires leaf { FitsLeaf program.now leaf.now }
+    requires got { FitsInputs program.now leaf.now.model.0 got.ports }
+    ensures gives { Gives (move_leaf (system program.now) leaf.now kind time got.ports) result }
+    ensures fits { IfOk result (λ leaf. FitsLeaf program.now leaf) }
+    ensures model { IfOk result (λ moved. moved.model ≡ leaf.now.model) }
+{
+    let state = copied(alloc, leaf.state.as_slice())?;
+    let elapsed = time.saturating_sub(leaf.last);
+    let moved = transition(
+        alloc, program, leaf.model, &leaf.args, state, kind, elapsed, got,
+    )?;
+    let args = copied(alloc, leaf.args.as_slice())?;
+    settled(alloc, program, leaf.model, leaf.boss, args, moved, time)
+}

@@ -1,0 +1,16 @@
+//! The components of a program: their starts, what they send, and their moves, exactly as the
+//! program means them.
+#![tactic(auto)]
+
+mod body;
+mod due;
+mod init;
+mod laws;
+mod leaf;
+mod moves;
+mod ports;
+mod top;
+
+pub use leaf::{move_leaf, output_leaf, start_leaf};
+pub use ports::{ports_in, ports_out};
+pub use top::top_args;

@@ -1,0 +1,35 @@
+//! The model that runs.
+
+ghost use Rattle.std.specs.Prelude.{◌≡◌, IfOk};
+ghost use Rattle.dsde_nodes.specs.Models.{resolved};
+ghost use Rattle.dsde_atomic.specs.Program.{system};
+ghost use Rattle.dsde_atomic.specs.Fitting.{FitsArgs, Topped};
+
+use crate::body::at_site;
+use crate::laws::laws;
+use dsde_eval::{Env, eval};
+use dsde_faults::{LeafEnd, Site};
+use dsde_program::Program;
+use dsde_values::{Seq, Values};
+use std::alloc::Global;
+
+/// The arguments of the model that runs.
+pub fn top_args(alloc: Global, program: &Program) -> Result<Values, LeafEnd>
+    ensures gives { Topped (system program.now).top (resolved program.now).own.top_model result }
+    ensures fits { IfOk result (λ args. FitsArgs program.now (resolved program.now).own.top_model.0 args) }
+{
+    laws();
+    program.right();
+    let mut env = Env {
+        slots: Seq::new(alloc),
+    };
+    let mut args = Seq::new(alloc);
+    let numbers = program.top_args().as_slice();
+    for number in numbers {
+        match eval(alloc, program, *number, &mut env) {
+            Ok(value) => args.push(value)?,
+            Err(end) => return Err(at_site(Site::Top, end)),
+        }
+    }
+    Ok(args)
+}

@@ -1,0 +1,4 @@
+pub mod Typing
+pub mod Exprs
+pub mod Blocks
+pub mod Vias

@@ -1,0 +1,14 @@
+use Rattle.dsde_evaluator.specs.Evaluating as evaluating
+use Rattle.dsde_eval.proofs.Blocks.{run-allowed, run-ran}
+use Rattle.dsde_eval.proofs.env.run_block.Goals as goal
+
+pub block-requires : goal.block-requires
+block-requires c =
+    run-allowed c.args.program.now c.right.ensures c.laws.ensures.blocks c.laws.ensures.known c.laws.ensures.functions
+    (evaluating.coded_of c.evaluator.result) c.evaluator.ensures c.args.block.0 c.args.env.now.slots c.args.sends.now c.requires
+
+pub returns : goal.returns
+returns c =
+    run-ran c.args.program.now c.right.ensures c.laws.ensures.blocks c.laws.ensures.known c.laws.ensures.functions
+    (evaluating.coded_of c.evaluator.result) c.evaluator.ensures c.args.block.0 c.args.env.now.slots c.args.sends.now
+    c.block.result c.block.new.slots c.block.new.sends c.block.ensures

@@ -1,0 +1,64 @@
+//! Expressions and blocks by their numbers.
+
+ghost use Rattle.std.specs.Prelude.{◌≡◌};
+ghost use Rattle.dsde_functions.specs.Coded.{coded_of};
+ghost use Rattle.dsde_evaluator.specs.declared.eval.Evaluator.{Evaluator};
+ghost use Rattle.dsde_evaluator.specs.Evaluating as evaluating;
+ghost use Rattle.dsde_eval.specs.Conditions.{CanEval, Came, CanRun, Ran};
+
+use crate::laws::laws;
+use dsde_evaluator::Evaluator;
+use dsde_faults::EvalEnd;
+use dsde_nodes::{BlockId, ExprId};
+use dsde_program::Program;
+use dsde_values::{Item, Seq, Value, Values};
+use std::alloc::Global;
+
+/// The height that no expression and no block exceeds in which nothing is wrong.
+const GREATEST_HEIGHT: u32 = 512;
+
+/// The values that an expression or a block sees, each in its slot.
+#[derive(Debug, Drop)]
+pub struct Env {
+    pub slots: Values,
+}
+
+/// What evaluates the expressions of a program.
+fn evaluator<'p>(alloc: Global, program: &'p Program) -> Evaluator<'p>
+    ensures { evaluating.coded_of result ≡ coded_of program.now }
+{
+    Evaluator {
+        alloc,
+        tables: program.tables(),
+        functions: program.functions(),
+    }
+}
+
+/// What the expression with a number comes to: a value, exactly what it means over the values of
+/// its slots, or the first fault. The slots are then as they were.
+pub fn eval(alloc: Global, program: &Program, expr: ExprId, env: &mut Env) -> Result<Value, EvalEnd>
+    requires { CanEval program.now expr.0 env.old.slots }
+    ensures means { Came program.now expr.0 env.old.slots result }
+    ensures keeps { env.new ≡ env.old }
+{
+    laws();
+    program.right();
+    evaluator(alloc, program).eval(GREATEST_HEIGHT, expr, &mut env.slots)
+}
+
+/// Runs the block with a number. The slots are then those behind its statements, or where the first
+/// fault stopped them, and what they sent stands behind what was sent before.
+pub fn run_block(
+    alloc: Global,
+    program: &Program,
+    block: BlockId,
+    env: &mut Env,
+    sends: &mut Seq<Item>,
+) -> Result<(), EvalEnd>
+    requires { CanRun program.now block.0 env.old.slots sends.old }
+    ensures { Ran program.now block.0 env.old.slots sends.old result env.new.slots sends.new }
+{
+    laws();
+    program.right();
+    evaluator(alloc, program).block(GREATEST_HEIGHT + 1, block, &mut env.slots, sends)
+}

@@ -1,0 +1,9 @@
+//! Expressions, blocks and translations of a program, over slots: exactly what they mean.
+#![tactic(auto)]
+
+mod env;
+mod laws;
+mod via;
+
+pub use env::{Env, eval, run_block};
+pub use via::translate;

@@ -1,0 +1,60 @@
+//! Translations of what goes along a link.
+
+ghost use Rattle.std.specs.Prelude.{◌≡◌, ◌<◌, Some, length, slice_get, option_copied, IfOk, OnOk};
+ghost use Rattle.dsde_nodes.specs.Models.{resolved};
+ghost use Rattle.dsde_eval.specs.Conditions.{CanTranslate, Translated, via_values, option_value, IsOption};
+
+use crate::env::{Env, eval};
+use dsde_faults::EvalEnd;
+use dsde_lists::Memory;
+use dsde_nodes::ViaId;
+use dsde_program::Program;
+use dsde_values::{Seq, Value, Values, copy_value};
+use std::alloc::Global;
+
+/// What the translation with a number makes of a value, with the key of the component at its other
+/// end where it takes one: a value, or none.
+pub fn translate(
+    alloc: Global,
+    program: &Program,
+    via: ViaId,
+    key: Option<&Value>,
+    value: &Value,
+) -> Result<Option<Value>, Memory>
+    requires { CanTranslate program.now via.0 (option_copied key) value.now }
+    ensures { IfOk result (λ held. Translated program.now via.0 (option_copied key.entry) value.now held) }
+{
+    let code = program.via(via);
+    let mut env = Env {
+        slots: slots_of(alloc, key, value)?,
+    };
+    match eval(alloc, program, code.body, &mut env) {
+        Ok(own) => Ok(held(own)),
+        Err(EvalEnd::Memory) => Err(Memory),
+        Err(EvalEnd::Fault(..)) => unreachable!(),
+    }
+}
+
+/// What a translation sees: its value, and its key if it has one.
+fn slots_of(alloc: Global, key: Option<&Value>, value: &Value) -> Result<Values, Memory>
+    ensures { IfOk result (λ slots. slots ≡ via_values (option_copied key.entry) value.now) }
+{
+    let mut slots = Seq::new(alloc);
+    slots.push(copy_value(alloc, value)?)?;
+    if let Some(key) = key {
+        slots.push(copy_value(alloc, key)?)?;
+    }
+    Ok(slots)
+}
+
+/// An option's value, if it has one.
+fn held(value: Value) -> Option<Value>
+    requires { IsOption value }
+    ensures { option_value result ≡ value }
+{
+    match value {
+        Value::Nothing => None,
+        Value::Some(inner) => Some(inner.into_inner()),
+        _ => unreachable!(),
+    }
+}

@@ -1,0 +1,14 @@
+mod Standing
+mod Places
+mod OfType
+mod Types
+mod Steps
+mod Fitting
+mod Seeing
+mod Shows
+mod Does
+mod Statements
+mod Braces
+mod Loops
+mod Choices
+mod Whole

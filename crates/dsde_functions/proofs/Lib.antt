@@ -1,0 +1,11 @@
+mod Standing
+mod Steps
+mod Types
+mod Places
+mod Names
+mod TypeText
+mod Params
+mod FuncAgrees
+mod Frame
+mod Decls
+mod Whole

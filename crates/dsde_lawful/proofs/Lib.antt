@@ -1,0 +1,7 @@
+mod Words
+mod Steps
+mod Heads
+mod Types
+mod Ports
+mod Infos
+mod Tops

@@ -1,0 +1,10 @@
+pub mod Outcome
+pub mod Operators
+pub mod Flow
+pub mod Meaning
+pub mod Functions
+pub mod Tables
+pub mod Proper
+pub mod Typed
+pub mod Scopes
+pub mod Agreement

@@ -1,0 +1,5 @@
+mod Plain
+mod ExprParts
+mod ExprProper
+mod StmtProper
+mod DeclProper

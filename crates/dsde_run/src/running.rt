@@ -1,0 +1,115 @@
+//! A program that runs, with what its trace is written by.
+
+ghost use Rattle.std.specs.Prelude.{◌≡◌, ◌++◌, false, OnOk, OnErr};
+ghost use Rattle.dsde_values.specs.Value.{IsLawful};
+ghost use Rattle.dsde_records.specs.Record.{ArePorts};
+ghost use Rattle.dsde_nodes.specs.Models.{types_of};
+ghost use Rattle.dsde_runs.specs.Run.{spot_at};
+ghost use Rattle.dsde_run.specs.Run.{declares_network, info_of, running, event_text};
+ghost use Rattle.dsde_run.specs.Steps.{ItemsCome};
+
+use dsde_lawful::{ports_are_lawful, top_is_declared, types_are_lawful};
+use dsde_lexer::Places;
+use dsde_nodes::Info;
+use dsde_program::Program;
+use dsde_standing::{bodies_stand, tops_stand};
+use dsde_trace::write_event;
+use dsde_turns::Event;
+use dsde_values::{Field, Memory, Seq, Text, Types};
+use std::marker::Model;
+
+/// A program that runs, with the line and the column of each place of its model's text. Contracts see
+/// the model and the places.
+#[derive(Drop)]
+pub struct Running<'p> {
+    program: &'p Program<'p>,
+    places: &'p Places,
+    info: &'p Info,
+}
+
+impl<'p> Model for Running<'p> {
+    ghost use Rattle.std.specs.Prelude.{◌≡◌, false};
+    ghost use Rattle.std.specs.Coded.{codes};
+    ghost use Rattle.dsde_syntax.specs.contracts.decl.Model as model;
+    ghost use Rattle.dsde_run.specs.Run as own;
+    ghost use Rattle.dsde_program.specs.Right.{IsRight};
+
+    ghost Value = { own.Running };
+
+    ghost coded = { Prim.hlevel (codes, model.the_row.coded) };
+
+    ghost view = { λ running. own.running running.program.now running.places.now };
+
+    ghost invariant = { λ running. IsRight running.program.now × (own.declares_network running.program.now ≡ false) × (running.info.now ≡ own.info_of running.program.now) };
+}
+
+impl<'p> Running<'p> {
+    /// The program, to be run, with the places of its model's text. It declares no network.
+    pub fn new(program: &'p Program<'p>, places: &'p Places) -> Running<'p>
+        requires { declares_network program.now ≡ false }
+        ensures { result ≡ running program.now places.now }
+    {
+        // A law: the model that runs is one of the program's.
+        top_is_declared();
+        program.right();
+        Running {
+            program,
+            places,
+            info: program.info(program.top_model()),
+        }
+    }
+
+    /// The program.
+    pub fn program(&self) -> &'p Program<'p>
+        ensures { result.now ≡ self.now.model }
+    {
+        self.program
+    }
+
+    /// The in ports of the model that runs.
+    pub fn ins(&self) -> &'p Seq<Field>
+        ensures value { result.now ≡ (info_of self.now.model).ins }
+        ensures lawful { ArePorts result.now }
+    {
+        // Laws: the in ports of a model in which nothing is wrong are what an input may come to.
+        top_is_declared();
+        ports_are_lawful();
+        &self.info.ins
+    }
+
+    /// The types of the program.
+    pub fn types(&self) -> &'p Types
+        ensures value { result.now ≡ types_of self.now.model }
+        ensures lawful { IsLawful result.now }
+    {
+        // A law: the types of a model in which nothing is wrong are lawful.
+        types_are_lawful();
+        self.program.types()
+    }
+
+    /// A law: what comes by the in ports of the input comes to the root.
+    pub(crate) fn comes(&self)
+        ensures { ItemsCome self.now }
+    {
+        tops_stand();
+        bodies_stand();
+        top_is_declared();
+        let _ = &self.info;
+    }
+
+    /// The line and the column of a place of the model's text, both counted from 1; both are 0 where
+    /// it has no such place.
+    pub fn spot(&self, at: u32) -> (u32, u32)
+        ensures { result ≡ spot_at self.now.spots at }
+    {
+        self.places.find(at).unwrap_or((0, 0))
+    }
+
+    /// Appends the line of an event. Without memory the text stays as it was.
+    pub fn write_event(&self, event: &Event, text: &mut Text) -> Result<(), Memory>
+        ensures ok { OnOk result (text.new ≡ text.old ++ event_text self.now event.now) }
+        ensures err { OnErr result (text.new ≡ text.old) }
+    {
+        write_event(event, self.info, self.program.types(), text)
+    }
+}

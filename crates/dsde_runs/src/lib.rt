@@ -1,0 +1,2 @@
+//! Whole runs of a system on the records of an input, as definitions; no code.
+#![tactic(auto)]

@@ -1,0 +1,6 @@
+//! The lines of a trace.
+#![tactic(auto)]
+
+mod text;
+
+pub use text::{input_text, write_end, write_event, write_fault};

@@ -1,0 +1,284 @@
+//! The lines of a trace.
+
+ghost use Rattle.std.specs.Prelude.{◌≡◌, ◌++◌, [], ◌∷◌, length, map, take, codes, decimal, OnOk, OnErr};
+ghost use Rattle.dsde_values.specs.Value.{spelling, joined, field_texts};
+ghost use Rattle.dsde_trace.specs.Text.{event_text, end_text, finish_text, fault_text, state_text, settled_text, port_text, when_text, move_text, input_text, site_text, kind_text};
+
+use dsde_faults::{FaultKind, Site};
+use dsde_formalism::MoveKind;
+use dsde_lists::append_decimal;
+use dsde_nodes::Info;
+use dsde_turns::{Event, Fault, Finish, InputKind};
+use dsde_values::{Field, Memory, Text, Types, Value, When, write_path, write_value};
+
+/// Appends the event's line and a line feed, for a model that declares this, over its table of types.
+/// Without memory the text stays as it was.
+pub fn write_event(event: &Event, info: &Info, types: &Types, text: &mut Text) -> Result<(), Memory>
+    ensures ok { OnOk result (text.new ≡ text.old ++ event_text info.now types.now event.now) }
+    ensures err { OnErr result (text.new ≡ text.old) }
+{
+    let start = text.len();
+    let written = append_event(event, info, types, text);
+    text.whole_or_none(start, written)
+}
+
+/// Appends the last line of a trace, which says how the run ended, after how many turns and at
+/// which time. Without memory the text stays as it was.
+pub fn write_end(how: &Finish, turns: u64, time: u64, text: &mut Text) -> Result<(), Memory>
+    ensures ok { OnOk result (text.new ≡ text.old ++ end_text how.now turns time) }
+    ensures err { OnErr result (text.new ≡ text.old) }
+{
+    let start = text.len();
+    let written = append_end(how, turns, time, text);
+    text.whole_or_none(start, written)
+}
+
+/// Appends a fault's path, site, kind and place. Without memory the text stays as it was.
+pub fn write_fault(fault: &Fault, text: &mut Text) -> Result<(), Memory>
+    ensures ok { OnOk result (text.new ≡ text.old ++ fault_text fault.now) }
+    ensures err { OnErr result (text.new ≡ text.old) }
+{
+    let start = text.len();
+    let written = append_fault(fault, text);
+    text.whole_or_none(start, written)
+}
+
+// The functions below leave some part of what they append, from its front, where memory runs out.
+
+fn append_event(event: &Event, info: &Info, types: &Types, text: &mut Text) -> Result<(), Memory>
+    ensures ok { OnOk result (text.new ≡ text.old ++ event_text info.now types.now event.now) }
+    ensures grows { take (length text.old) text.new ≡ text.old }
+{
+    match event {
+        Event::AddLeaf { state, next } => {
+            text.extend_from_slice(b"add root ")?;
+            text.extend_from_slice(info.name.as_slice())?;
+            append_settled(info.states.as_slice(), state.as_slice(), types, *next, text)
+        }
+        Event::Turn { number, time } => append_turn(*number, *time, text),
+        Event::Out { port, value } => {
+            text.extend_from_slice(b"out root ")?;
+            append_at(info.outs.as_slice(), *port, value, types, text)
+        }
+        Event::Get { port, value } => {
+            text.extend_from_slice(b"get root ")?;
+            append_at(info.ins.as_slice(), *port, value, types, text)
+        }
+        Event::Move { kind, state, next } => {
+            text.extend_from_slice(b"move root ")?;
+            text.extend_from_slice(move_text(*kind).as_bytes())?;
+            append_settled(info.states.as_slice(), state.as_slice(), types, *next, text)
+        }
+        Event::Finish { how, turns, time } => append_end(how, *turns, *time, text),
+    }
+}
+
+fn append_turn(number: u64, time: u64, text: &mut Text) -> Result<(), Memory>
+    ensures ok { OnOk result (text.new ≡ text.old ++ codes "turn " ++ decimal number ++ codes " at " ++ decimal time ++ codes "\n") }
+    ensures grows { take (length text.old) text.new ≡ text.old }
+{
+    text.extend_from_slice(b"turn ")?;
+    append_decimal(number, text)?;
+    text.extend_from_slice(b" at ")?;
+    append_decimal(time, text)?;
+    text.push(b'\n')
+}
+
+/// The name of the port with a number.
+fn port_text(ports: &[Field], port: u32) -> &[u8]
+    ensures { result.now ≡ port_text ports.now port }
+{
+    match ports.get(port as usize) {
+        Some(field) => field.name.as_slice(),
+        None => b"",
+    }
+}
+
+/// The end of a line: a port and a value at it.
+fn append_at(
+    ports: &[Field],
+    port: u32,
+    value: &Value,
+    types: &Types,
+    text: &mut Text,
+) -> Result<(), Memory>
+    ensures ok { OnOk result (text.new ≡ text.old ++ port_text ports.now port ++ codes " " ++ spelling types.now value.now ++ codes "\n") }
+    ensures grows { take (length text.old) text.new ≡ text.old }
+{
+    text.extend_from_slice(port_text(ports, port))?;
+    text.push(b' ')?;
+    append_value(value, types, text)?;
+    text.push(b'\n')
+}
+
+/// A value as it is spelled.
+fn append_value(value: &Value, types: &Types, text: &mut Text) -> Result<(), Memory>
+    ensures ok { OnOk result (text.new ≡ text.old ++ spelling types.now value.now) }
+    ensures grows { take (length text.old) text.new ≡ text.old }
+{
+    write_value(value, types, text)
+}
+
+/// The end of a line: a state, and when it is left.
+fn append_settled(
+    states: &[Field],
+    state: &[Value],
+    types: &Types,
+    next: When,
+    text: &mut Text,
+) -> Result<(), Memory>
+    ensures ok { OnOk result (text.new ≡ text.old ++ settled_text states.now types.now state.now next) }
+    ensures grows { take (length text.old) text.new ≡ text.old }
+{
+    text.extend_from_slice(b" {")?;
+    append_bindings(states, state, types, text)?;
+    text.extend_from_slice(b"} next ")?;
+    match next {
+        When::At(time) => append_decimal(time, text)?,
+        When::Never => text.extend_from_slice(b"never")?,
+    }
+    text.push(b'\n')
+}
+
+/// State variables and their values, as many as there are of both.
+fn append_bindings(
+    states: &[Field],
+    state: &[Value],
+    types: &Types,
+    text: &mut Text,
+) -> Result<(), Memory>
+    ensures ok { OnOk result (text.new ≡ text.old ++ joined (field_texts states.now (map (spelling types.now) state.now))) }
+    ensures grows { take (length text.old) text.new ≡ text.old }
+{
+    let Some((first, other_fields)) = states.split_first() else {
+        return Ok(());
+    };
+    let Some((first_value, others)) = state.split_first() else {
+        return Ok(());
+    };
+    append_binding(first, first_value, types, text)?;
+    for (field, value) in other_fields.iter().zip(others) {
+        text.extend_from_slice(b", ")?;
+        append_binding(field, value, types, text)?;
+    }
+    Ok(())
+}
+
+fn append_binding(
+    field: &Field,
+    value: &Value,
+    types: &Types,
+    text: &mut Text,
+) -> Result<(), Memory>
+    ensures ok { OnOk result (text.new ≡ text.old ++ field.now.name ++ codes ": " ++ spelling types.now value.now) }
+    ensures grows { take (length text.old) text.new ≡ text.old }
+{
+    text.extend_from_slice(field.name.as_slice())?;
+    text.extend_from_slice(b": ")?;
+    append_value(value, types, text)
+}
+
+fn append_end(how: &Finish, turns: u64, time: u64, text: &mut Text) -> Result<(), Memory>
+    ensures ok { OnOk result (text.new ≡ text.old ++ end_text how.now turns time) }
+    ensures grows { take (length text.old) text.new ≡ text.old }
+{
+    text.extend_from_slice(b"end ")?;
+    append_how(how, text)?;
+    text.extend_from_slice(b" turns ")?;
+    append_decimal(turns, text)?;
+    text.extend_from_slice(b" at ")?;
+    append_decimal(time, text)?;
+    text.push(b'\n')
+}
+
+fn append_how(how: &Finish, text: &mut Text) -> Result<(), Memory>
+    ensures ok { OnOk result (text.new ≡ text.old ++ finish_text how.now) }
+    ensures grows { take (length text.old) text.new ≡ text.old }
+{
+    match how {
+        Finish::Bound => text.extend_from_slice(b"bound"),
+        Finish::Quiet => text.extend_from_slice(b"quiet"),
+        Finish::Input { kind, line } => {
+            text.extend_from_slice(b"input ")?;
+            text.extend_from_slice(input_text(*kind).as_bytes())?;
+            text.push(b' ')?;
+            append_decimal(*line, text)
+        }
+        Finish::Fault(fault) => {
+            text.extend_from_slice(b"fault ")?;
+            append_fault(fault, text)
+        }
+    }
+}
+
+fn append_fault(fault: &Fault, text: &mut Text) -> Result<(), Memory>
+    ensures ok { OnOk result (text.new ≡ text.old ++ fault_text fault.now) }
+    ensures grows { take (length text.old) text.new ≡ text.old }
+{
+    write_path(&fault.path, text)?;
+    text.push(b' ')?;
+    text.extend_from_slice(site_text(fault.site).as_bytes())?;
+    text.push(b' ')?;
+    text.extend_from_slice(kind_text(fault.kind).as_bytes())?;
+    text.push(b' ')?;
+    append_decimal(u64::from(fault.line), text)?;
+    text.push(b':')?;
+    append_decimal(u64::from(fault.column), text)
+}
+
+fn move_text(kind: MoveKind) -> &'static str
+    ensures { result.now ≡ move_text kind }
+{
+    match kind {
+        MoveKind::Internal => "internal",
+        MoveKind::External => "external",
+        MoveKind::Confluent => "confluent",
+    }
+}
+
+/// The word for a bad line, as traces and notes have it.
+pub fn input_text(kind: InputKind) -> &'static str
+    ensures { result.now ≡ input_text kind }
+{
+    match kind {
+        InputKind::BadLine => "BadLine",
+        InputKind::Backwards => "Backwards",
+        InputKind::LineTooLong => "LineTooLong",
+    }
+}
+
+fn site_text(site: Site) -> &'static str
+    ensures { result.now ≡ site_text site }
+{
+    match site {
+        Site::Top => "top",
+        Site::Start => "start",
+        Site::Init => "init",
+        Site::Advance => "advance",
+        Site::Output => "output",
+        Site::Internal => "internal",
+        Site::External => "external",
+        Site::Confluent => "confluent",
+        Site::Structure => "structure",
+    }
+}
+
+fn kind_text(kind: FaultKind) -> &'static str
+    ensures { result.now ≡ kind_text kind }
+{
+    match kind {
+        FaultKind::Overflow => "Overflow",
+        FaultKind::DivideByZero => "DivideByZero",
+        FaultKind::IndexOutOfRange => "IndexOutOfRange",
+        FaultKind::EmptyOption => "EmptyOption",
+        FaultKind::RangeTooLong => "RangeTooLong",
+        FaultKind::NegativeAdvance => "NegativeAdvance",
+        FaultKind::TimeTooFar => "TimeTooFar",
+        FaultKind::DuplicateComponent => "DuplicateComponent",
+        FaultKind::BadIndex => "BadIndex",
+        FaultKind::DanglingLink => "DanglingLink",
+        FaultKind::TooManyLinks => "TooManyLinks",
+        FaultKind::TooDeep => "TooDeep",
+        FaultKind::Crowded => "Crowded",
+    }
+}

@@ -1,0 +1,3 @@
+pub mod Told
+pub mod Turn
+pub mod Engine
