@@ -70,6 +70,9 @@ pub(crate) fn behind(values: Values, count: usize) -> Values
 pub(crate) fn slots_of(alloc: Global, args: &Values, state: Values) -> Result<Values, Memory>
     ensures { IfOk result (λ slots. slots ≡ args.now ++ state) }
 {
+    if args.len() == 0 {
+        return Ok(state);
+    }
     let args = copied(alloc, args.as_slice())?;
     joined(args, state)
 }

@@ -4,11 +4,14 @@ ghost use Rattle.std.specs.Prelude.{◌≡◌, ◌≢◌, ◌++◌, ◌∷◌, [
 ghost use Rattle.dsde_meaning.specs.Outcome.{Stuck, Gives};
 ghost use Rattle.dsde_meaning.specs.Operators.{combined};
 ghost use Rattle.dsde_meaning.specs.Flow.{why};
-ghost use Rattle.dsde_meaning.specs.Tables.{means_in, node_mean, values_from, holds_at, each_from, arms_from, run_code, called_at, builtin_at, set_slot, braced_at, once, for_each, test_at, arms_flow, act_flow, acts_flow, state_of, Flows, Tests};
+ghost use Rattle.dsde_meaning.specs.Tables.{means_in, node_mean, values_from, holds_at, each_from, arms_from, run_code, builtin_at, set_slot, braced_at, once, for_each, test_at, arms_flow, act_flow, acts_flow, state_of, Flows, Tests};
+ghost use Rattle.dsde_nodes.specs.declared.node.Node.TheVariants as node_of;
 ghost use Rattle.dsde_evaluator.specs.Spots.{Reaches};
 ghost use Rattle.dsde_evaluator.specs.Evaluating.{coded_of, one_kept, index_at, Adds};
 
-use crate::spot::{Got, Spot, field_in, held_of, inner_of, is_there, item_of, one_of, taken};
+use crate::spot::{
+    Got, Spot, field_in, held_of, inner_of, is_there, item_of, one_of, slot_copy, taken,
+};
 use dsde_faults::EvalEnd;
 use dsde_nodes::{Act, ActArm, Binary, BlockId, Builtin, ExprId, FnCode, Node, NodeArm, Tables};
 use dsde_operators::{denied, items_of, listed, negated, of_three, of_two, operated, truth_of};
@@ -29,16 +32,54 @@ impl Evaluator<'_> {
     /// fault: the value, which is a copy where it stands in the slots, or the first fault with its
     /// place. `Memory` where memory runs out. The slots are as before, at every end.
     #[cycle(evaluating)]
+    #[tactic(auto, using(crate::proofs::Depths::depths))]
     pub fn eval(&self, depth: u32, number: ExprId, slots: &mut Seq<Value>) -> Result<Value, EvalEnd>
         requires { (means_in (coded_of self.now) depth).part number slots.old ≢ Err Stuck }
         ensures gives { Gives ((means_in (coded_of self.now) depth).part number slots.old) result }
         ensures keeps { slots.new ≡ slots.old }
     {
-        let got = self.reach(depth, number, slots)?;
+        if depth == 0 {
+            unreachable!()
+        }
+        match self.tables.nodes.get(number.0 as usize) {
+            Some(node) => self.value(depth - 1, node, slots),
+            None => unreachable!(),
+        }
+    }
+
+    /// The value of one node, over what its parts come to. Those that are met most go a short way, on
+    /// which nothing is looked for in the slots but what is copied.
+    #[cycle(evaluating)]
+    fn value(&self, depth: u32, node: &Node, slots: &mut Seq<Value>) -> Result<Value, EvalEnd>
+        requires { node_mean (means_in (coded_of self.now) depth) self.now.functions.now node.now slots.old ≢ Err Stuck }
+        ensures gives { Gives (node_mean (means_in (coded_of self.now) depth) self.now.functions.now node.now slots.old) result }
+        ensures keeps { slots.new ≡ slots.old }
+    {
+        match node {
+            Node::Slot(number) => slot_copy(self.alloc, *number, slots),
+            Node::Int(number) => Ok(Value::Int(*number)),
+            Node::Some(part) => self.some(depth, *part, slots),
+            Node::Binary(which, at, left, right) => {
+                self.binary(depth, *which, *at, *left, *right, slots)
+            }
+            _ => self.any(depth, node, slots),
+        }
+    }
+
+    /// The same, by the way that all nodes can go.
+    #[cycle(evaluating)]
+    #[inline(never)]
+    fn any(&self, depth: u32, node: &Node, slots: &mut Seq<Value>) -> Result<Value, EvalEnd>
+        requires { node_mean (means_in (coded_of self.now) depth) self.now.functions.now node.now slots.old ≢ Err Stuck }
+        ensures gives { Gives (node_mean (means_in (coded_of self.now) depth) self.now.functions.now node.now slots.old) result }
+        ensures keeps { slots.new ≡ slots.old }
+    {
+        let got = self.node(depth, node, slots)?;
         taken(self.alloc, got, slots)
     }
 
-    /// The same, but a value that stands in the slots is not copied: the answer is where it stands.
+    /// What an expression comes to, but a value that stands in the slots is not copied: the answer is
+    /// where it stands.
     #[cycle(evaluating)]
     #[tactic(auto, using(crate::proofs::Depths::depths))]
     fn reach(&self, depth: u32, number: ExprId, slots: &mut Seq<Value>) -> Result<Got, EvalEnd>
@@ -55,7 +96,8 @@ impl Evaluator<'_> {
         }
     }
 
-    /// One node, over what its parts come to.
+    /// One node, over what its parts come to. What has parts is a function of its own that is called:
+    /// the room for all of them at once would be cleared at each node.
     #[cycle(evaluating)]
     #[tactic(auto, using(crate::proofs::Steps::steps))]
     fn node(&self, depth: u32, node: &Node, slots: &mut Seq<Value>) -> Result<Got, EvalEnd>
@@ -71,67 +113,185 @@ impl Evaluator<'_> {
             Node::Int(number) => Ok(Got::Own(Value::Int(*number))),
             Node::Bool(truth) => Ok(Got::Own(Value::Bool(*truth))),
             Node::Variant(number, variant) => Ok(Got::Own(Value::Enum(*number, *variant))),
-            Node::New(number, parts) => {
-                let values = self.values(depth, parts.as_slice(), slots)?;
-                Ok(Got::Own(Value::Rec(*number, values)))
-            }
+            Node::New(number, parts) => self.record(depth, *number, parts.as_slice(), slots),
             Node::Nothing => Ok(Got::Own(Value::Nothing)),
             Node::Empty => Ok(Got::Own(Value::List(Seq::new(self.alloc)))),
-            Node::Some(part) => {
-                let own = self.eval(depth, *part, slots)?;
-                Ok(Got::Own(Value::Some(Boxed::new(self.alloc, own)?)))
-            }
-            Node::Call(function, args) => {
-                let mut values = self.values(depth, args.as_slice(), slots)?;
-                Ok(Got::Own(self.call(depth, *function, &mut values)?))
-            }
+            Node::Some(part) => Ok(Got::Own(self.some(depth, *part, slots)?)),
+            Node::Call(function, args) => self.call(depth, *function, args.as_slice(), slots),
             Node::Builtin(which, at, args) => {
-                Ok(Got::Own(self.builtin(depth, *which, *at, args.as_slice(), slots)?))
+                self.builtin(depth, *which, *at, args.as_slice(), slots)
             }
-            Node::List(at, items) => {
-                let values = self.values(depth, items.as_slice(), slots)?;
-                Ok(Got::Own(listed(*at, values)?))
-            }
+            Node::List(at, items) => self.list(depth, *at, items.as_slice(), slots),
             Node::Each { list, cond, value } => {
-                let own = self.eval(depth, *list, slots)?;
-                let items = items_of(own);
-                let values = self.each(depth, *cond, *value, items.as_slice(), slots)?;
-                Ok(Got::Own(Value::List(values)))
+                self.comprehension(depth, *list, *cond, *value, slots)
             }
             Node::If(arms, other) => self.arms(depth, arms.as_slice(), *other, slots),
-            Node::OrElse(left, right) => {
-                let got = self.reach(depth, *left, slots)?;
-                match held_of(got, slots)? {
-                    Some(inner) => Ok(inner),
-                    None => self.reach(depth, *right, slots),
-                }
-            }
+            Node::OrElse(left, right) => self.or_else(depth, *left, *right, slots),
             Node::Binary(which, at, left, right) => {
-                let own = self.eval(depth, *left, slots)?;
-                Ok(Got::Own(self.combined(depth, *which, *at, own, *right, slots)?))
+                let own = self.binary(depth, *which, *at, *left, *right, slots)?;
+                Ok(Got::Own(own))
             }
-            Node::Not(part) => {
-                let own = self.eval(depth, *part, slots)?;
-                Ok(Got::Own(denied(&own)))
-            }
-            Node::Neg(at, part) => {
-                let own = self.eval(depth, *part, slots)?;
-                Ok(Got::Own(negated(*at, &own)?))
-            }
-            Node::Field(number, part) => {
-                let got = self.reach(depth, *part, slots)?;
-                field_in(*number, got, slots)
-            }
+            Node::Not(part) => self.not(depth, *part, slots),
+            Node::Neg(at, part) => self.neg(depth, *at, *part, slots),
+            Node::Field(number, part) => self.field(depth, *number, *part, slots),
             Node::Index(at, list, index) => self.index(depth, *at, *list, *index, slots),
-            Node::Unwrap(at, part) => {
-                let got = self.reach(depth, *part, slots)?;
-                inner_of(*at, got, slots)
-            }
+            Node::Unwrap(at, part) => self.unwrap(depth, *at, *part, slots),
         }
+    }
+
+    /// A record of what the expressions of its fields come to.
+    #[cycle(evaluating)]
+    #[inline(never)]
+    fn record(
+        &self,
+        depth: u32,
+        number: u32,
+        parts: &[ExprId],
+        slots: &mut Seq<Value>,
+    ) -> Result<Got, EvalEnd>
+        requires { node_mean (means_in (coded_of self.now) depth) self.now.functions.now (node_of.New number parts.now) slots.old ≢ Err Stuck }
+        ensures gives { Reaches (node_mean (means_in (coded_of self.now) depth) self.now.functions.now (node_of.New number parts.now) slots.old) result slots.old }
+        ensures keeps { slots.new ≡ slots.old }
+    {
+        let values = self.values(depth, parts, slots)?;
+        Ok(Got::Own(Value::Rec(number, values)))
+    }
+
+    /// An option that holds a value.
+    #[cycle(evaluating)]
+    #[inline(never)]
+    fn some(&self, depth: u32, part: ExprId, slots: &mut Seq<Value>) -> Result<Value, EvalEnd>
+        requires { node_mean (means_in (coded_of self.now) depth) self.now.functions.now (node_of.Some part) slots.old ≢ Err Stuck }
+        ensures gives { Gives (node_mean (means_in (coded_of self.now) depth) self.now.functions.now (node_of.Some part) slots.old) result }
+        ensures keeps { slots.new ≡ slots.old }
+    {
+        let own = self.eval(depth, part, slots)?;
+        Ok(Value::Some(Boxed::new(self.alloc, own)?))
+    }
+
+    /// A list of what some expressions come to.
+    #[cycle(evaluating)]
+    #[inline(never)]
+    fn list(
+        &self,
+        depth: u32,
+        at: u32,
+        items: &[ExprId],
+        slots: &mut Seq<Value>,
+    ) -> Result<Got, EvalEnd>
+        requires { node_mean (means_in (coded_of self.now) depth) self.now.functions.now (node_of.List at items.now) slots.old ≢ Err Stuck }
+        ensures gives { Reaches (node_mean (means_in (coded_of self.now) depth) self.now.functions.now (node_of.List at items.now) slots.old) result slots.old }
+        ensures keeps { slots.new ≡ slots.old }
+    {
+        let values = self.values(depth, items, slots)?;
+        Ok(Got::Own(listed(at, values)?))
+    }
+
+    /// What an option holds, and else the expression to its right.
+    #[cycle(evaluating)]
+    #[tactic(auto, using(crate::proofs::Steps::steps))]
+    #[inline(never)]
+    fn or_else(
+        &self,
+        depth: u32,
+        left: ExprId,
+        right: ExprId,
+        slots: &mut Seq<Value>,
+    ) -> Result<Got, EvalEnd>
+        requires { node_mean (means_in (coded_of self.now) depth) self.now.functions.now (node_of.OrElse left right) slots.old ≢ Err Stuck }
+        ensures gives { Reaches (node_mean (means_in (coded_of self.now) depth) self.now.functions.now (node_of.OrElse left right) slots.old) result slots.old }
+        ensures keeps { slots.new ≡ slots.old }
+    {
+        let got = self.reach(depth, left, slots)?;
+        match held_of(got, slots)? {
+            Some(inner) => Ok(inner),
+            None => self.reach(depth, right, slots),
+        }
+    }
+
+    /// An operator of two expressions.
+    #[cycle(evaluating)]
+    #[inline(never)]
+    fn binary(
+        &self,
+        depth: u32,
+        which: Binary,
+        at: u32,
+        left: ExprId,
+        right: ExprId,
+        slots: &mut Seq<Value>,
+    ) -> Result<Value, EvalEnd>
+        requires { node_mean (means_in (coded_of self.now) depth) self.now.functions.now (node_of.Binary which at left right) slots.old ≢ Err Stuck }
+        ensures gives { Gives (node_mean (means_in (coded_of self.now) depth) self.now.functions.now (node_of.Binary which at left right) slots.old) result }
+        ensures keeps { slots.new ≡ slots.old }
+    {
+        let own = self.eval(depth, left, slots)?;
+        self.combined(depth, which, at, own, right, slots)
+    }
+
+    /// Whether an expression does not hold.
+    #[cycle(evaluating)]
+    #[inline(never)]
+    fn not(&self, depth: u32, part: ExprId, slots: &mut Seq<Value>) -> Result<Got, EvalEnd>
+        requires { node_mean (means_in (coded_of self.now) depth) self.now.functions.now (node_of.Not part) slots.old ≢ Err Stuck }
+        ensures gives { Reaches (node_mean (means_in (coded_of self.now) depth) self.now.functions.now (node_of.Not part) slots.old) result slots.old }
+        ensures keeps { slots.new ≡ slots.old }
+    {
+        let own = self.eval(depth, part, slots)?;
+        Ok(Got::Own(denied(&own)))
+    }
+
+    /// A number with the other sign.
+    #[cycle(evaluating)]
+    #[inline(never)]
+    fn neg(&self, depth: u32, at: u32, part: ExprId, slots: &mut Seq<Value>) -> Result<Got, EvalEnd>
+        requires { node_mean (means_in (coded_of self.now) depth) self.now.functions.now (node_of.Neg at part) slots.old ≢ Err Stuck }
+        ensures gives { Reaches (node_mean (means_in (coded_of self.now) depth) self.now.functions.now (node_of.Neg at part) slots.old) result slots.old }
+        ensures keeps { slots.new ≡ slots.old }
+    {
+        let own = self.eval(depth, part, slots)?;
+        Ok(Got::Own(negated(at, &own)?))
+    }
+
+    /// A field of a record. The record is not copied.
+    #[cycle(evaluating)]
+    #[inline(never)]
+    fn field(
+        &self,
+        depth: u32,
+        number: u32,
+        part: ExprId,
+        slots: &mut Seq<Value>,
+    ) -> Result<Got, EvalEnd>
+        requires { node_mean (means_in (coded_of self.now) depth) self.now.functions.now (node_of.Field number part) slots.old ≢ Err Stuck }
+        ensures gives { Reaches (node_mean (means_in (coded_of self.now) depth) self.now.functions.now (node_of.Field number part) slots.old) result slots.old }
+        ensures keeps { slots.new ≡ slots.old }
+    {
+        let got = self.reach(depth, part, slots)?;
+        field_in(number, got, slots)
+    }
+
+    /// What an option holds, which must hold a value.
+    #[cycle(evaluating)]
+    #[inline(never)]
+    fn unwrap(
+        &self,
+        depth: u32,
+        at: u32,
+        part: ExprId,
+        slots: &mut Seq<Value>,
+    ) -> Result<Got, EvalEnd>
+        requires { node_mean (means_in (coded_of self.now) depth) self.now.functions.now (node_of.Unwrap at part) slots.old ≢ Err Stuck }
+        ensures gives { Reaches (node_mean (means_in (coded_of self.now) depth) self.now.functions.now (node_of.Unwrap at part) slots.old) result slots.old }
+        ensures keeps { slots.new ≡ slots.old }
+    {
+        let got = self.reach(depth, part, slots)?;
+        inner_of(at, got, slots)
     }
 
     /// The item of a list at an index. The list is not copied.
     #[cycle(evaluating)]
+    #[inline(never)]
     fn index(
         &self,
         depth: u32,
@@ -169,14 +329,23 @@ impl Evaluator<'_> {
         Ok(done)
     }
 
-    /// A call of the function with a number, over the values of its arguments.
+    /// A call of the function with a number, over what its arguments come to.
     #[cycle(evaluating)]
-    fn call(&self, depth: u32, function: u32, values: &mut Seq<Value>) -> Result<Value, EvalEnd>
-        requires { called_at (means_in (coded_of self.now) depth) self.now.functions.now function values.old ≢ Err Stuck }
-        ensures { Gives (called_at (means_in (coded_of self.now) depth) self.now.functions.now function values.old) result }
+    #[inline(never)]
+    fn call(
+        &self,
+        depth: u32,
+        function: u32,
+        args: &[ExprId],
+        slots: &mut Seq<Value>,
+    ) -> Result<Got, EvalEnd>
+        requires { node_mean (means_in (coded_of self.now) depth) self.now.functions.now (node_of.Call function args.now) slots.old ≢ Err Stuck }
+        ensures gives { Reaches (node_mean (means_in (coded_of self.now) depth) self.now.functions.now (node_of.Call function args.now) slots.old) result slots.old }
+        ensures keeps { slots.new ≡ slots.old }
     {
+        let mut values = self.values(depth, args, slots)?;
         match self.functions.get(function as usize) {
-            Some(code) => self.run_code(depth, code, values),
+            Some(code) => Ok(Got::Own(self.run_code(depth, code, &mut values)?)),
             None => unreachable!(),
         }
     }
@@ -194,6 +363,7 @@ impl Evaluator<'_> {
 
     /// A builtin of its arguments. A single one is not copied.
     #[cycle(evaluating)]
+    #[inline(never)]
     fn builtin(
         &self,
         depth: u32,
@@ -201,26 +371,26 @@ impl Evaluator<'_> {
         at: u32,
         args: &[ExprId],
         slots: &mut Seq<Value>,
-    ) -> Result<Value, EvalEnd>
+    ) -> Result<Got, EvalEnd>
         requires { builtin_at (means_in (coded_of self.now) depth).part which at args.now slots.old ≢ Err Stuck }
-        ensures gives { Gives (builtin_at (means_in (coded_of self.now) depth).part which at args.now slots.old) result }
+        ensures gives { Reaches (builtin_at (means_in (coded_of self.now) depth).part which at args.now slots.old) result slots.old }
         ensures keeps { slots.new ≡ slots.old }
     {
         match args {
             [one] => {
                 let first = self.reach(depth, *one, slots)?;
-                one_of(which, first, slots)
+                Ok(Got::Own(one_of(which, first, slots)?))
             }
             [one, two] => {
                 let first = self.eval(depth, *one, slots)?;
                 let second = self.eval(depth, *two, slots)?;
-                of_two(self.alloc, which, at, first, second)
+                Ok(Got::Own(of_two(self.alloc, which, at, first, second)?))
             }
             [one, two, three] => {
                 let first = self.eval(depth, *one, slots)?;
                 let second = self.eval(depth, *two, slots)?;
                 let third = self.eval(depth, *three, slots)?;
-                of_three(which, at, first, second, third)
+                Ok(Got::Own(of_three(which, at, first, second, third)?))
             }
             _ => unreachable!(),
         }
@@ -262,6 +432,27 @@ impl Evaluator<'_> {
                 operated(which, at, left, other)
             }
         }
+    }
+
+    /// The list that a comprehension makes of another.
+    #[cycle(evaluating)]
+    #[inline(never)]
+    fn comprehension(
+        &self,
+        depth: u32,
+        list: ExprId,
+        cond: Option<ExprId>,
+        number: ExprId,
+        slots: &mut Seq<Value>,
+    ) -> Result<Got, EvalEnd>
+        requires { node_mean (means_in (coded_of self.now) depth) self.now.functions.now (node_of.Each list cond number) slots.old ≢ Err Stuck }
+        ensures gives { Reaches (node_mean (means_in (coded_of self.now) depth) self.now.functions.now (node_of.Each list cond number) slots.old) result slots.old }
+        ensures keeps { slots.new ≡ slots.old }
+    {
+        let own = self.eval(depth, list, slots)?;
+        let items = items_of(own);
+        let values = self.each(depth, cond, number, items.as_slice(), slots)?;
+        Ok(Got::Own(Value::List(values)))
     }
 
     /// A comprehension's values, for the items of its list.
@@ -353,6 +544,7 @@ impl Evaluator<'_> {
 
     /// The value behind the first condition that holds, and else the last one.
     #[cycle(evaluating)]
+    #[inline(never)]
     fn arms(
         &self,
         depth: u32,

@@ -81,6 +81,14 @@ pub(crate) fn further(spot: Spot, step: usize) -> Result<Got, Memory>
     Ok(Got::At(Spot { slot, steps }))
 }
 
+/// A copy of the value in a slot.
+pub(crate) fn slot_copy(alloc: Global, number: u32, slots: &Seq<Value>) -> Result<Value, EvalEnd>
+    requires { present (slice_get slots.now number) ≢ Err Stuck }
+    ensures { Gives (present (slice_get slots.now number)) result }
+{
+    Ok(copy_value(alloc, item(slots, number as usize))?)
+}
+
 /// The value that was made, or a copy of the one at the spot.
 pub(crate) fn taken(alloc: Global, got: Got, slots: &Seq<Value>) -> Result<Value, EvalEnd>
     requires { found_in got slots.now ≢ Err Stuck }

@@ -198,24 +198,24 @@ module _ (types : Types) (coded : Coded) (whole : Known) (functions : List Funct
           });
     }
 
-    pub if-some : (ys : List Y) (P2 : List Bool) (J2 : List rule_blocks.Walk) (R2 : List (Step Act)) (W2 : List Walk) → AllDo types coded E outs (all_so P2) J2 (all R2) (walk_all W2)
-        → Does types coded E outs act_flow (proper.stmt_step (Stmt-F.If (map P (map f ys)) (Some P2))) (rule_blocks.stmt_step around ports (Stmt-F.If (map J (map f ys)) (Some J2)))
-        (said.stmt_step whole outs (Stmt-F.If (map R (map f ys)) (Some R2))) (meaning.stmt_step whole functions outs (Stmt-F.If (map W (map f ys)) (Some W2)))
-    if-some ys P2 J2 R2 W2 body = record {
+    pub if-some : (ys : List Y) (P_last : List Bool) (J_last : List rule_blocks.Walk) (R_last : List (Step Act)) (W_last : List Walk) → AllDo types coded E outs (all_so P_last) J_last (all R_last) (walk_all W_last)
+        → Does types coded E outs act_flow (proper.stmt_step (Stmt-F.If (map P (map f ys)) (Some P_last))) (rule_blocks.stmt_step around ports (Stmt-F.If (map J (map f ys)) (Some J_last)))
+        (said.stmt_step whole outs (Stmt-F.If (map R (map f ys)) (Some R_last))) (meaning.stmt_step whole functions outs (Stmt-F.If (map W (map f ys)) (Some W_last)))
+    if-some ys P_last J_last R_last W_last body = record {
       does = λ plain scope passed slots next h sees.
           let w1 = went (rule_blocks.arms_walk (map J (map f ys)) 0 scope) _ passed h in
-          let w2 = went (inner J2 w1.value scope) _ passed w1.next in
-          let w3 = went (rule_blocks.walk_all J2 w1.value scope) _ w2.value w2.first in
+          let w2 = went (inner J_last w1.value scope) _ passed w1.next in
+          let w3 = went (rule_blocks.walk_all J_last w1.value scope) _ w2.value w2.first in
           let high : w3.value.height ≡ w2.value = ok-is w3.value.height w2.value w3.next in
-          let rises : w1.value ≤ w3.value.height = walk-rises J2 w1.value scope w3.value w3.first in
+          let rises : w1.value ≤ w3.value.height = walk-rises J_last w1.value scope w3.value w3.first in
           let one = all (map R (map f ys)) slots next in
           let keeps : one.scope ≡ slots = arms-keep ys slots next in
           let next1 : Next = behind next one in
-          let held : Piece Block = all R2 one.scope (within_braces next1) in
+          let held : Piece Block = all R_last one.scope (within_braces next1) in
           let sees1 : Sees E scope one.scope = subst (λ (l : List Field). Sees E scope l) (sym keeps) sees in
-          let done = body.does (and-right (all_so (map P (map f ys))) (all_so P2) plain) w1.value scope w3.value one.scope (within_braces next1) w3.first sees1 in
+          let done = body.does (and-right (all_so (map P (map f ys))) (all_so P_last) plain) w1.value scope w3.value one.scope (within_braces next1) w3.first sees1 in
           let after : Passed = record { scope = scope; height = above w2.value } in
-          subst (λ (p : Passed). Done types coded E outs act_flow p slots next (said.stmt_step whole outs (Stmt-F.If (map R (map f ys)) (Some R2)) slots next) (meaning.stmt_step whole functions outs (Stmt-F.If (map W (map f ys)) (Some W2))))
+          subst (λ (p : Passed). Done types coded E outs act_flow p slots next (said.stmt_step whole outs (Stmt-F.If (map R (map f ys)) (Some R_last)) slots next) (meaning.stmt_step whole functions outs (Stmt-F.If (map W (map f ys)) (Some W_last))))
           (ok-is after passed w2.next)
           (record {
             more = [];
@@ -224,8 +224,8 @@ module _ (types : Types) (coded : Coded) (whole : Known) (functions : List Funct
             shows = λ before depth fits sent.
                 let acts : List Block = held.own ∷ held.blocks in
                 let If : Type 0 = Ready types coded E outs next (one.nodes ++ ((held.nodes ++ []) ++ [])) (one.blocks ++ ((acts ++ []) ++ [])) (above w2.value) depth in
-                subst (λ (l : List Field). Shows types outs If l (arms_walk (map W (map f ys)) (Some (walk_all W2)) before) (arms_flow (means_in coded depth) one.own (Some (block_id next1.block)) (shown before))) (sym keeps)
-                (arms-show ys (and-left (all_so (map P (map f ys))) (all_so P2) plain) 0 w1.value scope slots next w1.first sees before depth fits sent If
+                subst (λ (l : List Field). Shows types outs If l (arms_walk (map W (map f ys)) (Some (walk_all W_last)) before) (arms_flow (means_in coded depth) one.own (Some (block_id next1.block)) (shown before))) (sym keeps)
+                (arms-show ys (and-left (all_so (map P (map f ys))) (all_so P_last) plain) 0 w1.value scope slots next w1.first sees before depth fits sent If
                 (λ ready.
                 let low : w2.value + 1 ≤ 512 = not-cut w2.value 512 ready.low ready.low in
                 let deep : w2.value + 1 ≤ depth = not-cut w2.value depth ready.low ready.deep in
@@ -234,10 +234,10 @@ module _ (types : Types) (coded : Coded) (whole : Known) (functions : List Funct
                   acts = stands-left coded.blocks next.block one.blocks ((acts ++ []) ++ []) ready.acts;
                   low = omega (arith, rises, high, low);
                   deep = omega (arith, rises, high, deep);
-                }) (Some (block_id next1.block)) (Some (walk_all W2))
-                (subst (λ (l : List Field). Shows types outs If l (meaning.braced (walk_all W2) before) (braced_at (means_in coded depth).run (block_id next1.block) (shown before))) keeps
-                (shows-where types outs _ If one.scope (meaning.braced (walk_all W2) before) (braced_at (means_in coded depth).run (block_id next1.block) (shown before))
-                (braces-show types coded E outs w3.value one.scope next1 held (walk_all W2) done before depth (subst (λ (l : List Field). Fits types before.vars l) (sym keeps) fits) sent)
+                }) (Some (block_id next1.block)) (Some (walk_all W_last))
+                (subst (λ (l : List Field). Shows types outs If l (meaning.braced (walk_all W_last) before) (braced_at (means_in coded depth).run (block_id next1.block) (shown before))) keeps
+                (shows-where types outs _ If one.scope (meaning.braced (walk_all W_last) before) (braced_at (means_in coded depth).run (block_id next1.block) (shown before))
+                (braces-show types coded E outs w3.value one.scope next1 held (walk_all W_last) done before depth (subst (λ (l : List Field). Fits types before.vars l) (sym keeps) fits) sent)
                 (λ ready.
                 let low : w2.value + 1 ≤ 512 = not-cut w2.value 512 ready.low ready.low in
                 let deep : w2.value + 1 ≤ depth = not-cut w2.value depth ready.low ready.deep in

@@ -93,10 +93,46 @@ abbrev pub decreases-act : goal.decreases-act
 decreases-act l = 12 * l.depth + 7
 
 abbrev pub decreases-node : goal.decreases-node
-decreases-node l = 12 * l.depth + 7
+decreases-node l = 12 * l.depth + 8
 
 abbrev pub decreases-acts : goal.decreases-acts
 decreases-acts l = 12 * l.depth + 8
 
 abbrev pub decreases-index : goal.decreases-index
 decreases-index l = 12 * l.depth + 3
+
+abbrev pub decreases-record : goal.decreases-record
+decreases-record l = 12 * l.depth + 4
+
+abbrev pub decreases-some : goal.decreases-some
+decreases-some l = 12 * l.depth + 3
+
+abbrev pub decreases-list : goal.decreases-list
+decreases-list l = 12 * l.depth + 4
+
+abbrev pub decreases-or_else : goal.decreases-or_else
+decreases-or_else l = 12 * l.depth + 3
+
+abbrev pub decreases-binary : goal.decreases-binary
+decreases-binary l = 12 * l.depth + 4
+
+abbrev pub decreases-not : goal.decreases-not
+decreases-not l = 12 * l.depth + 3
+
+abbrev pub decreases-neg : goal.decreases-neg
+decreases-neg l = 12 * l.depth + 3
+
+abbrev pub decreases-field : goal.decreases-field
+decreases-field l = 12 * l.depth + 3
+
+abbrev pub decreases-unwrap : goal.decreases-unwrap
+decreases-unwrap l = 12 * l.depth + 3
+
+abbrev pub decreases-comprehension : goal.decreases-comprehension
+decreases-comprehension l = 12 * l.depth + 7
+
+abbrev pub decreases-value : goal.decreases-value
+decreases-value l = 12 * l.depth + 10
+
+abbrev pub decreases-any : goal.decreases-any
+decreases-any l = 12 * l.depth + 9
