@@ -130,12 +130,13 @@ fn go<R: Source>(
     ensures counted { R.faults source.old ≤ R.faults source.new }
     ensures idle { turns ≡ 0 → source.new ≡ source.old }
 {
+    let mut events = Seq::new(alloc);
     for _turn in 0..turns {
         if let Err(why) = heads.ask(source) {
             return stop(why, plain.turn(), plain.time(), text);
         }
         own.comes();
-        match turn(alloc, &mut plain, heads.head(), own, text)? {
+        match turn(&mut plain, heads.head(), own, &mut events, text)? {
             After::Turned { took_input } => heads.pass(took_input),
             After::Ended(how) => return Ok(how),
         }
@@ -143,29 +144,32 @@ fn go<R: Source>(
     Ok(finish(Finish::Bound, plain.turn(), plain.time(), text)?)
 }
 
-/// Takes one turn with this head of the input.
+/// Takes one turn with this head of the input. Its events are put into a list that is empty, and are
+/// taken out again, so that one list serves all turns.
 fn turn(
-    alloc: Global,
     plain: &mut Plain<'_>,
     head: Option<&Arrival>,
     own: &Running<'_>,
+    events: &mut Seq<Event>,
     text: &mut Text,
 ) -> Result<After, Memory>
     requires model { plain.old.program ≡ own.now.model }
     requires fresh { plain.old.engine.spent ≡ false }
     requires turns { plain.old.engine.turn < 2 ^ 63 }
     requires head { HeadComes plain.old (option_copied head) }
+    requires empty { events.old ≡ [] }
     ensures turns { IfOk result (Turns own.now plain.old.engine (option_copied head.entry) plain.new.engine text.old text.new) }
     ensures readies { IfOk result (Readies plain.old plain.new) }
+    ensures emptied { OnOk result (events.new ≡ []) }
     ensures front { OnErr result ((later : Bool → Engine → Run) →
         IsFront text.old text.new (trace_text own.now (turn_on own.now plain.old.engine (option_copied head.entry) later).events)) }
 {
     let done = plain.turn();
     let last = plain.time();
     let time = plain.turn_time(head).unwrap_or(last);
-    let mut events = Seq::new(alloc);
-    let step = plain.advance(head, &mut events);
+    let step = plain.advance(head, events);
     write_events(events.as_slice(), own, text)?;
+    events.truncate(0);
     match step {
         Ok(Step::Turned { took_input }) => Ok(After::Turned { took_input }),
         Ok(Step::Quiet) => Ok(After::Ended(finish(Finish::Quiet, done, last, text)?)),

@@ -40,6 +40,7 @@ loop-turn-init g c =
       bounded = omega (arith, c.requires.bounded);
       counted = omega arith;
       idle = λ _. refl;
+      empty = c.new-events.ensures;
     }
 
 pub returns-in-Err-clause-tells : goal.returns-in-Err-clause-tells
@@ -161,6 +162,7 @@ loop-turn-preserved g c =
       bounded = omega (arith, next.counted, c.loop-turn.invariant.bounded);
       counted = omega (arith, c.loop-turn.invariant.counted, c.in_default.ensures.counted);
       idle = λ is. absurd (omega (arith, is));
+      empty = c.in_ok-took_input.ensures.emptied;
     }
 
 pub returns-clause-tells : goal.returns-clause-tells

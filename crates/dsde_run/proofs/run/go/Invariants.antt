@@ -23,4 +23,5 @@ invariant-loop-turn g l = record {
   bounded : l.plain.engine.turn + (l.turns - l._turn) < 2 ^ 63;
   counted : g.R.Source.faults l.initial.source ≤ g.R.Source.faults l.source;
   idle : l._turn ≡ 0 → l.source ≡ l.initial.source;
+  empty : l.events ≡ [];
 }

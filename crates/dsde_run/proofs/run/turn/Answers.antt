@@ -19,8 +19,8 @@ use Rattle.dsde_run.proofs.RunLemmas.{Tells-faulted, turn_on-faulted}
 use Rattle.dsde_run.proofs.Fronts.{OnErr-always, IsFront-all, IsFront-turn}
 use Rattle.dsde_run.proofs.run.turn.Goals as goal
 
-pub returns-clause-turns : goal.returns-clause-turns
-returns-clause-turns c = λ later.
+pub returns-in_ok-finish-in-Err-clause-turns : goal.returns-in_ok-finish-in-Err-clause-turns
+returns-in_ok-finish-in-Err-clause-turns c = λ later.
     let finished = c.in_ok-finish-in-Err.ensures.ok in
     let head = option_copied c.args.head in
     let turns = c.args.plain.now.engine.turn + 1 in
@@ -30,8 +30,8 @@ returns-clause-turns c = λ later.
     ∙ ap (unwrap_or (turn_time (next_of c.args.plain.now.engine.tree) (option_copied c.args.head))) c.time-last.ensures in
     Tells-faulted c.args.own.now (advance c.args.own.now c.args.plain.now.engine head) (turn_on c.args.own.now c.args.plain.now.engine head later) c.in-Err.end c.in_ok-finish-in-Err.field-0
     turns time
-    c.new-events.result c.advance-step.new.events c.args.text.now c.write_events.new.text c.finish-in-Err.new.text
-    (turn_on-faulted c.args.own.now c.args.plain.now.engine head c.in-Err.end later) c.new-events.ensures (subst (λ (m : Model). step.Tells (turning.advance (system m) c.args.plain.now.engine (option_copied c.args.head)) c.new-events.result c.advance-step.new.events (Err c.in-Err.end)) c.requires.model c.in-Err.ensures.err)
+    c.args.events.now c.advance-step.new.events c.args.text.now c.write_events.new.text c.finish-in-Err.new.text
+    (turn_on-faulted c.args.own.now c.args.plain.now.engine head c.in-Err.end later) c.requires.empty (subst (λ (m : Model). step.Tells (turning.advance (system m) c.args.plain.now.engine (option_copied c.args.head)) c.args.events.now c.advance-step.new.events (Err c.in-Err.end)) c.requires.model c.in-Err.ensures.err)
     (c.in_ok-finish_of-in-Err.ensures turns time ∙ ap (λ how. ended how turns time) (sym finished.0))
     (c.in_ok-write_events.ensures.ok ∙ ap (λ events. c.args.text.now ++ trace_text c.args.own.now events) c.as_slice.ensures)
     (finished.1
@@ -42,9 +42,9 @@ returns-clause-turns c = λ later.
 pub returns-in_err-write_events-clause-front : goal.returns-in_err-write_events-clause-front
 returns-in_err-write_events-clause-front c =
     let front = IsFront-turn c.args.own.now c.args.plain.now.engine c.advance-step.new.self.engine (option_copied c.args.head) c.advance-step.result
-    c.new-events.result c.advance-step.new.events c.args.text.now c.write_events.new.text
-    c.new-events.ensures (subst (λ (m : Model). IfOk c.advance-step.result (λ found. step.Tells (turning.advance (system m) c.args.plain.now.engine (option_copied c.args.head)) c.new-events.result c.advance-step.new.events (Ok (found, c.advance-step.new.self.engine)))) c.requires.model c.advance-step.ensures.ok)
-    (subst (λ (m : Model). IfErr c.advance-step.result (λ end. step.Tells (turning.advance (system m) c.args.plain.now.engine (option_copied c.args.head)) c.new-events.result c.advance-step.new.events (Err end))) c.requires.model c.advance-step.ensures.err)
+    c.args.events.now c.advance-step.new.events c.args.text.now c.write_events.new.text
+    c.requires.empty (subst (λ (m : Model). IfOk c.advance-step.result (λ found. step.Tells (turning.advance (system m) c.args.plain.now.engine (option_copied c.args.head)) c.args.events.now c.advance-step.new.events (Ok (found, c.advance-step.new.self.engine)))) c.requires.model c.advance-step.ensures.ok)
+    (subst (λ (m : Model). IfErr c.advance-step.result (λ end. step.Tells (turning.advance (system m) c.args.plain.now.engine (option_copied c.args.head)) c.args.events.now c.advance-step.new.events (Err end))) c.requires.model c.advance-step.ensures.err)
     (subst (λ events. IsFront c.args.text.now c.write_events.new.text (trace_text c.args.own.now events)) c.as_slice.ensures c.in_err-write_events.ensures.front) in
     OnErr-always c.from_residual.result ((later : Bool → Engine → Run) →
     IsFront c.args.text.now c.write_events.new.text (trace_text c.args.own.now (turn_on c.args.own.now c.args.plain.now.engine (option_copied c.args.head) later).events)) front
@@ -52,9 +52,9 @@ returns-in_err-write_events-clause-front c =
 pub returns-in_err-finish_of-in-Err-clause-front : goal.returns-in_err-finish_of-in-Err-clause-front
 returns-in_err-finish_of-in-Err-clause-front c =
     let front = IsFront-turn c.args.own.now c.args.plain.now.engine c.advance-step.new.self.engine (option_copied c.args.head) c.advance-step.result
-    c.new-events.result c.advance-step.new.events c.args.text.now c.write_events.new.text
-    c.new-events.ensures (subst (λ (m : Model). IfOk c.advance-step.result (λ found. step.Tells (turning.advance (system m) c.args.plain.now.engine (option_copied c.args.head)) c.new-events.result c.advance-step.new.events (Ok (found, c.advance-step.new.self.engine)))) c.requires.model c.advance-step.ensures.ok)
-    (subst (λ (m : Model). IfErr c.advance-step.result (λ end. step.Tells (turning.advance (system m) c.args.plain.now.engine (option_copied c.args.head)) c.new-events.result c.advance-step.new.events (Err end))) c.requires.model c.advance-step.ensures.err)
+    c.args.events.now c.advance-step.new.events c.args.text.now c.write_events.new.text
+    c.requires.empty (subst (λ (m : Model). IfOk c.advance-step.result (λ found. step.Tells (turning.advance (system m) c.args.plain.now.engine (option_copied c.args.head)) c.args.events.now c.advance-step.new.events (Ok (found, c.advance-step.new.self.engine)))) c.requires.model c.advance-step.ensures.ok)
+    (subst (λ (m : Model). IfErr c.advance-step.result (λ end. step.Tells (turning.advance (system m) c.args.plain.now.engine (option_copied c.args.head)) c.args.events.now c.advance-step.new.events (Err end))) c.requires.model c.advance-step.ensures.err)
     (IsFront-all c.args.text.now c.write_events.new.text (trace_text c.args.own.now c.advance-step.new.events)
     (c.in_ok-write_events.ensures.ok ∙ ap (λ events. c.args.text.now ++ trace_text c.args.own.now events) c.as_slice.ensures)) in
     OnErr-always c.from_residual-in_err-finish_of-in-Err.result ((later : Bool → Engine → Run) →
@@ -63,9 +63,9 @@ returns-in_err-finish_of-in-Err-clause-front c =
 pub returns-in_err-finish-in-Err-clause-front : goal.returns-in_err-finish-in-Err-clause-front
 returns-in_err-finish-in-Err-clause-front c =
     let front = IsFront-turn c.args.own.now c.args.plain.now.engine c.advance-step.new.self.engine (option_copied c.args.head) c.advance-step.result
-    c.new-events.result c.advance-step.new.events c.args.text.now c.finish-in-Err.new.text
-    c.new-events.ensures (subst (λ (m : Model). IfOk c.advance-step.result (λ found. step.Tells (turning.advance (system m) c.args.plain.now.engine (option_copied c.args.head)) c.new-events.result c.advance-step.new.events (Ok (found, c.advance-step.new.self.engine)))) c.requires.model c.advance-step.ensures.ok)
-    (subst (λ (m : Model). IfErr c.advance-step.result (λ end. step.Tells (turning.advance (system m) c.args.plain.now.engine (option_copied c.args.head)) c.new-events.result c.advance-step.new.events (Err end))) c.requires.model c.advance-step.ensures.err)
+    c.args.events.now c.advance-step.new.events c.args.text.now c.finish-in-Err.new.text
+    c.requires.empty (subst (λ (m : Model). IfOk c.advance-step.result (λ found. step.Tells (turning.advance (system m) c.args.plain.now.engine (option_copied c.args.head)) c.args.events.now c.advance-step.new.events (Ok (found, c.advance-step.new.self.engine)))) c.requires.model c.advance-step.ensures.ok)
+    (subst (λ (m : Model). IfErr c.advance-step.result (λ end. step.Tells (turning.advance (system m) c.args.plain.now.engine (option_copied c.args.head)) c.args.events.now c.advance-step.new.events (Err end))) c.requires.model c.advance-step.ensures.err)
     (IsFront-all c.args.text.now c.finish-in-Err.new.text (trace_text c.args.own.now c.advance-step.new.events)
     (c.in_err-finish-in-Err.ensures.err ∙ c.in_ok-write_events.ensures.ok ∙ ap (λ events. c.args.text.now ++ trace_text c.args.own.now events) c.as_slice.ensures)) in
     OnErr-always c.from_residual-in_err-finish-in-Err.result ((later : Bool → Engine → Run) →
