@@ -1,0 +1,8 @@
+//! Draws the plan that the items of a structure give, as the tables of a model have them.
+#![tactic(auto)]
+
+mod drawn;
+mod entries;
+mod planner;
+
+pub use planner::Planner;

@@ -1,0 +1,9 @@
+//! What structures mean: the plan that the items of a structure give over the values of an executive.
+//! Types, definitions and their laws; no code.
+#![tactic(auto)]
+
+mod laid;
+mod laws;
+
+pub use laid::Laid;
+pub use laws::plans_are_in_order;

@@ -1,0 +1,52 @@
+//! Plans: the structures that an executive's state defines.
+
+use dsde_nodes::{ModelId, ViaId};
+use dsde_values::{Name, Seq, Value, Values};
+
+/// A component of a network: its name, its model, and the model's arguments in the order of its
+/// parameters.
+#[derive(Debug, Drop)]
+pub struct Entry {
+    pub name: Name,
+    pub model: ModelId,
+    pub args: Values,
+}
+
+/// Whose port an end of a link is: the network's own, its executive's, or a component's.
+#[derive(Debug, Drop)]
+pub enum Part {
+    Net,
+    Boss,
+    Kid(Name),
+}
+
+/// An end of a link.
+#[derive(Debug, Drop)]
+pub struct End {
+    pub part: Part,
+    /// The number of the port among those of its direction, from 0 in declaration order.
+    pub port: u32,
+}
+
+/// The translation of the values that a link carries, and its key, if it has one.
+#[derive(Debug, Drop)]
+pub struct Via {
+    pub id: ViaId,
+    pub key: Option<Value>,
+}
+
+/// A link: it carries the values of a source to a target.
+#[derive(Debug, Drop)]
+pub struct Link {
+    pub from: End,
+    pub to: End,
+    pub via: Option<Via>,
+}
+
+/// A structure of a network: its components in the order of their names, which are distinct, and its
+/// links in the order in which the structure gives them.
+#[derive(Debug, Drop)]
+pub struct Plan {
+    pub entries: Seq<Entry>,
+    pub links: Seq<Link>,
+}
