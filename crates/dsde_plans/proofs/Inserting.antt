@@ -9,7 +9,7 @@ use Rattle.dsde_values.specs.Path.{name_cmp}
 use Rattle.dsde_structure.specs.declared.plan.Entry.{Entry}
 use Rattle.dsde_structure.specs.Gather.{is_same_name}
 use Rattle.dsde_plans.specs.Layout.{inserted, is_there}
-use Rattle.dsde_plans.specs.Order.{names, IsInOrder}
+use Rattle.dsde_structure.specs.Survival.{names, IsInOrder}
 
 pub empty-in-order : IsInOrder []
 unfolding IsStrictlySortedBy

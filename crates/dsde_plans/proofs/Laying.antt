@@ -16,7 +16,7 @@ use Rattle.dsde_structure.specs.declared.plan.Plan.{Plan}
 use Rattle.dsde_meaning.specs.Outcome.{Fault, Outcome, ◌>>=◌, truth_of, items_of}
 use Rattle.dsde_meaning.specs.Meaning.{Function, Vars, mean, values_of, with_var}
 use Rattle.dsde_plans.specs.Layout.{Layout, Lay, ArmLay, most, inserted, is_there, with_entry, with_link, index_of, end_of, via_of, lay, lay_all, braced, last_lay, arms_lay, for_one, for_lay, item_step, item_arm_step, tied, structure}
-use Rattle.dsde_plans.specs.Order.{IsInOrder}
+use Rattle.dsde_structure.specs.Survival.{IsInOrder}
 use Rattle.dsde_plans.proofs.Inserting.{empty-in-order, inserted-in-order}
 
 -- What came to an end behind a step came behind what that step came to.

@@ -6,7 +6,7 @@ ghost use Rattle.dsde_structure.specs.declared.plan.Plan.{Plan};
 ghost use Rattle.dsde_nodes.specs.Items.{Place};
 ghost use Rattle.dsde_meaning.specs.Meaning.{Function, Vars};
 ghost use Rattle.dsde_plans.specs.Layout.{structure};
-ghost use Rattle.dsde_plans.specs.Order.{IsInOrder};
+ghost use Rattle.dsde_structure.specs.Survival.{IsInOrder};
 
 use dsde_values::orders_are_total;
 

@@ -1,11 +1,15 @@
-//! The structure of a network: its components, its links and what they carry. Types, definitions and
-//! their laws; no code.
+//! The structure of a network: its components, its links and what they carry, and which components
+//! survive where another structure follows.
 #![tactic(auto)]
 
 mod laws;
 mod plan;
 mod sources;
+mod survival;
 
-pub use laws::{links_carry_in_order, nothing_comes_without_links};
-pub use plan::{End, Entry, Link, Part, Plan, Via};
+pub use laws::{
+    comparison_is_a_split, links_carry_in_order, nothing_comes_without_links, survivors_are_equal,
+};
+pub use plan::{Change, End, Entry, Link, Part, Plan, Via};
 pub use sources::{Given, Sources};
+pub use survival::{compare_plans, survives};

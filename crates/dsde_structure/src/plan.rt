@@ -1,7 +1,11 @@
 //! Plans: the structures that an executive's state defines.
 
+ghost use Rattle.std.specs.Prelude.{◌≡◌, IfOk};
+
+use dsde_lists::Memory;
 use dsde_nodes::{ModelId, ViaId};
-use dsde_values::{Name, Seq, Value, Values};
+use dsde_values::{Name, Seq, Value, Values, copy_value};
+use std::alloc::Global;
 
 /// A component of a network: its name, its model, and the model's arguments in the order of its
 /// parameters.
@@ -10,6 +14,30 @@ pub struct Entry {
     pub name: Name,
     pub model: ModelId,
     pub args: Values,
+}
+
+impl Entry {
+    /// An entry equal to this one.
+    pub fn copy(&self, alloc: Global) -> Result<Entry, Memory>
+        ensures { IfOk result (λ entry. entry ≡ self.now) }
+    {
+        Ok(Entry {
+            name: self.name.copy(alloc)?,
+            model: self.model,
+            args: copied(alloc, self.args.as_slice())?,
+        })
+    }
+}
+
+/// A list equal to this one.
+fn copied(alloc: Global, values: &[Value]) -> Result<Values, Memory>
+    ensures { IfOk result (λ copies. copies ≡ values.now) }
+{
+    let mut copies = Seq::new(alloc);
+    for value in values {
+        copies.push(copy_value(alloc, value)?)?;
+    }
+    Ok(copies)
 }
 
 /// Whose port an end of a link is: the network's own, its executive's, or a component's.
@@ -49,4 +77,15 @@ pub struct Link {
 pub struct Plan {
     pub entries: Seq<Entry>,
     pub links: Seq<Link>,
+}
+
+/// What a change from one structure to another does, each in the order of names.
+#[derive(Debug, Drop)]
+pub struct Change {
+    /// Which components it drops.
+    pub gone: Seq<Name>,
+    /// Which survive it.
+    pub kept: Seq<Name>,
+    /// Which start.
+    pub fresh: Seq<Entry>,
 }

@@ -1,0 +1,43 @@
+-- The order of names answers `Equal` at the same name alone.
+use Rattle.std.proofs.Common.{◌≡◌, List, [], ◌∷◌, Option, Some, None, Ordering, refl, ap, subst}
+use Rattle.std.specs.Prelude.{◌↔◌}
+use Rattle.std.specs.declared.cmp.Ordering.TheVariants.{Less, Equal, Greater}
+use Rattle.std.specs.Cmp.{IsTotalOrder}
+use Rattle.std.specs.Cmp.Lexicographic.{slice_cmp}
+use Rattle.std.specs.Option.{option_cmp}
+use Rattle.std.specs.Ordering.{ordering_then, nat_cmp}
+use Rattle.std.proofs.lemmas.Map.Lookups.{exact_unsigned, exact_bytes}
+use Rattle.std.proofs.lemmas.Cmp.{tied_itself}
+use Rattle.dsde_values.specs.declared.name.Name.{Name}
+use Rattle.dsde_values.specs.Path.{name_cmp}
+
+both_equal : (first later : Ordering) → ordering_then first later ≡ Equal → (first ≡ Equal) × (later ≡ Equal)
+both_equal Less later h = absurd (let e : Less ≡ Equal = h in cc)
+both_equal Equal later h = (refl, h)
+both_equal Greater later h = absurd (let e : Greater ≡ Equal = h in cc)
+
+module _ {X : Type 0} (R : X → X → Ordering) (exact : (x y : X) → R x y ≡ Equal → x ≡ y) where
+  exact_lists : (xs ys : List X) → slice_cmp R xs ys ≡ Equal → xs ≡ ys
+  exact_lists [] [] h = refl
+  exact_lists [] (y ∷ ys) h = absurd (let e : Less ≡ Equal = h in cc)
+  exact_lists (x ∷ xs) [] h = absurd (let e : Greater ≡ Equal = h in cc)
+  exact_lists (x ∷ xs) (y ∷ ys) h =
+      let parts = both_equal (R x y) (slice_cmp R xs ys) h in
+      let first = exact x y parts.0 in let rest = exact_lists xs ys parts.1 in cc
+
+  exact_options : (x y : Option X) → option_cmp R x y ≡ Equal → x ≡ y
+  exact_options None None h = refl
+  exact_options None (Some y) h = absurd (let e : Less ≡ Equal = h in cc)
+  exact_options (Some x) None h = absurd (let e : Greater ≡ Equal = h in cc)
+  exact_options (Some x) (Some y) h = ap Some (exact x y h)
+
+exact_names : (name other : Name) → name_cmp name other ≡ Equal → name ≡ other
+exact_names name other h =
+    let parts = both_equal (slice_cmp nat_cmp name.stem other.stem) (option_cmp nat_cmp name.index other.index) h in
+    let stem = exact_bytes name.stem other.stem parts.0 in
+    let index = exact_options nat_cmp exact_unsigned name.index other.index parts.1 in
+    λ i. record { stem = stem i; index = index i }
+
+pub one-name : IsTotalOrder name_cmp → (name other : Name) → (name_cmp name other ≡ Equal) ↔ (name ≡ other)
+one-name total name other =
+    (λ e. exact_names name other e, λ same. subst (λ (n : Name). name_cmp name n ≡ Equal) same (tied_itself total name))

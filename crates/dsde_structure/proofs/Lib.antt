@@ -1,0 +1,4 @@
+mod Merging
+mod Walking
+mod Splitting
+mod Surviving
