@@ -16,9 +16,9 @@ use Rattle.dsde_standing.specs.Bodies.{Own, BodyStands, body_slots, param_slots,
 use Rattle.dsde_formalism.specs.Leaf as formalism
 use Rattle.dsde_formalism.specs.System.{Component}
 use Rattle.dsde_eval.specs.Conditions.{mean_of, CanEval, Came}
-use Rattle.dsde_atomic.specs.Body.{vars_of, body_vars, at_site, due}
-use Rattle.dsde_atomic.specs.Program.{system, component}
-use Rattle.dsde_atomic.specs.Fitting.{Fill, FitsArgs, FitsState}
+use Rattle.dsde_system.specs.Body.{vars_of, body_vars, at_site, due}
+use Rattle.dsde_system.specs.Program.{system, component}
+use Rattle.dsde_system.specs.Fitting.{Fill, FitsArgs, FitsState}
 use Rattle.dsde_atomic.specs.Steps.{own_at, sited, due_by, FitsBody}
 use Rattle.dsde_atomic.proofs.Ends.{some-is, site-end, site-ok, then-end, sound-given, component-is}
 use Rattle.dsde_atomic.proofs.Filling.{fits-vars, values-vars, fill-append, fits-append, values-append}

@@ -17,8 +17,8 @@ use Rattle.dsde_meaning.specs.Typed.{Sound}
 use Rattle.dsde_standing.specs.Bodies.{Own, BodyStands}
 use Rattle.dsde_standing.specs.Laws.{HasOwn, BodiesStand}
 use Rattle.dsde_formalism.specs.Leaf as formalism
-use Rattle.dsde_atomic.specs.Body.{at_site}
-use Rattle.dsde_atomic.specs.Program.{system, component, component_at}
+use Rattle.dsde_system.specs.Body.{at_site}
+use Rattle.dsde_system.specs.Program.{system, component, component_at}
 use Rattle.dsde_atomic.specs.Steps.{own_at, sited}
 
 pub some-is : {A : Type 0} (o : Option A) (a b : A) → o ≡ Some a → o ≡ Some b → a ≡ b

@@ -5,8 +5,8 @@ use Rattle.dsde_values.specs.declared.types.Types.{Types}
 use Rattle.dsde_values.specs.declared.value.Value.{Value}
 use Rattle.dsde_meaning.specs.Meaning.{Vars}
 use Rattle.dsde_meaning.specs.Typed.{Fits, values_in}
-use Rattle.dsde_atomic.specs.Body.{vars_of}
-use Rattle.dsde_atomic.specs.Fitting.{Fill}
+use Rattle.dsde_system.specs.Body.{vars_of}
+use Rattle.dsde_system.specs.Fitting.{Fill}
 
 module _ (types : Types) where
   pub fits-vars : (fields : List Field) (values : List Value) → Fill types fields values → Fits types (vars_of fields values) fields

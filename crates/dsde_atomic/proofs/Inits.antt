@@ -23,9 +23,9 @@ use Rattle.dsde_faults.specs.declared.end.LeafEnd.{LeafEnd}
 use Rattle.dsde_nodes.specs.declared.ids.ModelId.{ModelId}
 use Rattle.dsde_formalism.specs.System.{Component}
 use Rattle.dsde_formalism.specs.Leaf as formalism
-use Rattle.dsde_atomic.specs.Program.{system, component}
-use Rattle.dsde_atomic.specs.Body.{vars_of, inits_from}
-use Rattle.dsde_atomic.specs.Fitting.{Fill, FitsArgs, FitsState}
+use Rattle.dsde_system.specs.Program.{system, component}
+use Rattle.dsde_system.specs.Body.{vars_of, inits_from}
+use Rattle.dsde_system.specs.Fitting.{Fill, FitsArgs, FitsState}
 use Rattle.dsde_atomic.specs.Steps.{own_at, sited, Begun, Begins}
 use Rattle.dsde_atomic.proofs.Ends.{some-is, site-end, site-ok, then-end, sound-given, component-is}
 use Rattle.std.proofs.Common.{slice_index_or}

@@ -20,9 +20,9 @@ use Rattle.dsde_standing.specs.Bodies.{Own, BodyStands, body_slots, body_outs, s
 use Rattle.dsde_formalism.specs.System.{Component, State}
 use Rattle.dsde_formalism.specs.Leaf as formalism
 use Rattle.dsde_eval.specs.Conditions.{block_of, CanRun, Ran}
-use Rattle.dsde_atomic.specs.Body.{at_site, body_vars, moved_by, internal, sends}
-use Rattle.dsde_atomic.specs.Program.{system, component}
-use Rattle.dsde_atomic.specs.Fitting.{Fill, FitsArgs, FitsState, FitsSends}
+use Rattle.dsde_system.specs.Body.{at_site, body_vars, moved_by, internal, sends}
+use Rattle.dsde_system.specs.Program.{system, component}
+use Rattle.dsde_system.specs.Fitting.{Fill, FitsArgs, FitsState, FitsSends}
 use Rattle.dsde_atomic.specs.Steps.{own_at, sited, CanMove, Moved}
 use Rattle.dsde_atomic.proofs.Ends.{site-end, site-ok, component-is}
 use Rattle.dsde_atomic.proofs.Bodies.{state-fill, body-fits, body-are}

@@ -23,8 +23,8 @@ use Rattle.dsde_meaning.specs.Meaning.{Vars}
 use Rattle.dsde_meaning.specs.Typed.{Typed, Fits, values_in}
 use Rattle.dsde_standing.specs.Bodies.{Own, body_ins}
 use Rattle.dsde_formalism.specs.System.{Ports}
-use Rattle.dsde_atomic.specs.Body.{vars_of, lists_of, input_vars, is_flooded}
-use Rattle.dsde_atomic.specs.Fitting.{AreOf, Reach}
+use Rattle.dsde_system.specs.Body.{vars_of, lists_of, input_vars, is_flooded}
+use Rattle.dsde_system.specs.Fitting.{AreOf, Reach}
 use Rattle.dsde_atomic.proofs.Filling.{fits-append, values-append}
 
 or-false : (a b : Bool) → (a || b) ≡ false → (a ≡ false) × (b ≡ false)

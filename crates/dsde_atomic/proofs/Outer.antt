@@ -17,8 +17,8 @@ use Rattle.dsde_meaning.specs.Meaning.{Vars}
 use Rattle.dsde_meaning.specs.Typed.{Fits, values_in}
 use Rattle.dsde_standing.specs.Bodies.{Own, body_slots, body_ins, moved_slots}
 use Rattle.dsde_formalism.specs.System.{State, Ports}
-use Rattle.dsde_atomic.specs.Body.{at_site, body_vars, input_vars, lists_of, moved_by, seeing, is_flooded}
-use Rattle.dsde_atomic.specs.Fitting.{Reach, FitsArgs, FitsState, FitsInputs}
+use Rattle.dsde_system.specs.Body.{at_site, body_vars, input_vars, lists_of, moved_by, seeing, is_flooded}
+use Rattle.dsde_system.specs.Fitting.{Reach, FitsArgs, FitsState, FitsInputs}
 use Rattle.dsde_atomic.specs.Steps.{own_at, sited, CanMove, Moved, IsPhase, HasPhase, Sees}
 use Rattle.dsde_atomic.proofs.Ends.{some-is, site-end, site-ok}
 use Rattle.dsde_atomic.proofs.Filling.{fits-append, values-append}

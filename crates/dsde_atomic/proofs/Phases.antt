@@ -13,8 +13,8 @@ use Rattle.dsde_meaning.specs.Typed.{Fits, values_in}
 use Rattle.dsde_standing.specs.Places.{IsBlock}
 use Rattle.dsde_standing.specs.Bodies.{Own, PhaseStands, body_slots, param_slots, state_slots}
 use Rattle.dsde_formalism.specs.System.{State}
-use Rattle.dsde_atomic.specs.Body.{moved_by}
-use Rattle.dsde_atomic.specs.Fitting.{Fill}
+use Rattle.dsde_system.specs.Body.{moved_by}
+use Rattle.dsde_system.specs.Fitting.{Fill}
 use Rattle.dsde_atomic.specs.Steps.{Moved}
 use Rattle.dsde_atomic.proofs.Filling.{fill-length, drop-past, take-all}
 

@@ -8,7 +8,7 @@ use Rattle.dsde_nodes.specs.declared.ids.ModelId.{ModelId}
 use Rattle.dsde_nodes.specs.Models.{types_of}
 use Rattle.dsde_standing.specs.Bodies.{state_slots}
 use Rattle.dsde_formalism.specs.declared.leaf.Leaf.{Leaf}
-use Rattle.dsde_atomic.specs.Fitting.{Fill, FitsArgs, FitsState, FitsLeaf, IsInTime}
+use Rattle.dsde_system.specs.Fitting.{Fill, FitsArgs, FitsState, FitsLeaf, IsInTime}
 use Rattle.dsde_atomic.proofs.Bodies.{state-fill}
 use Rattle.dsde_values.specs.declared.arrival.Item.{Item}
 use Rattle.dsde_faults.specs.declared.end.EvalEnd.{EvalEnd}

@@ -18,8 +18,8 @@ use Rattle.dsde_standing.specs.Places.{IsExpr}
 use Rattle.dsde_standing.specs.Bodies.{Own, TopOf, TopStands, ArgsStand, owns_of, param_slots, top_in}
 use Rattle.dsde_formalism.specs.System.{Chosen}
 use Rattle.dsde_eval.specs.Conditions.{mean_of, CanEval, Came}
-use Rattle.dsde_atomic.specs.Program.{system, args_from, top_of}
-use Rattle.dsde_atomic.specs.Fitting.{Fill, FitsArgs, Topped}
+use Rattle.dsde_system.specs.Program.{system, args_from, top_of}
+use Rattle.dsde_system.specs.Fitting.{Fill, FitsArgs, Topped}
 use Rattle.dsde_atomic.specs.Steps.{sited}
 use Rattle.dsde_atomic.proofs.Ends.{sound-given, then-end}
 use Rattle.dsde_atomic.proofs.Filling.{fill-append, drop-at, drop-over}

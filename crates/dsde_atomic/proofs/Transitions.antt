@@ -13,9 +13,9 @@ use Rattle.dsde_meaning.specs.Outcome.{Outcome}
 use Rattle.dsde_standing.specs.Bodies.{Own, BodyStands, moved_slots}
 use Rattle.dsde_formalism.specs.System.{Component, State, Ports}
 use Rattle.dsde_formalism.specs.Leaf as formalism
-use Rattle.dsde_atomic.specs.Body.{at_site, seeing, external, confluent, internal}
-use Rattle.dsde_atomic.specs.Program.{system, component}
-use Rattle.dsde_atomic.specs.Fitting.{FitsArgs}
+use Rattle.dsde_system.specs.Body.{at_site, seeing, external, confluent, internal}
+use Rattle.dsde_system.specs.Program.{system, component}
+use Rattle.dsde_system.specs.Fitting.{FitsArgs}
 use Rattle.dsde_atomic.specs.Steps.{own_at, IsPhase, HasPhase, Sees}
 use Rattle.dsde_atomic.proofs.Ends.{site-ok, component-is}
 use Rattle.dsde_atomic.proofs.Phases.{IsThere, there, not-there}

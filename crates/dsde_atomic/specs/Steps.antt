@@ -21,8 +21,8 @@ use Rattle.dsde_standing.specs.Bodies.{Own, owns_of, body_slots, moved_slots, pa
 use Rattle.dsde_eval.specs.Conditions.{block_of}
 use Rattle.dsde_formalism.specs.System.{State, Ports}
 use Rattle.dsde_formalism.specs.Leaf as formalism
-use Rattle.dsde_atomic.specs.Body.{due_after, inits_from, vars_of, seeing, at_site}
-use Rattle.dsde_atomic.specs.Fitting.{Fill}
+use Rattle.dsde_system.specs.Body.{due_after, inits_from, vars_of, seeing, at_site}
+use Rattle.dsde_system.specs.Fitting.{Fill}
 
 -- an end in a part of a component
 abbrev pub sited : Site → EvalEnd → LeafEnd

@@ -7,9 +7,9 @@ ghost use Rattle.dsde_nodes.specs.Models.{infos_of};
 ghost use Rattle.dsde_meaning.specs.Outcome as outcome;
 ghost use Rattle.dsde_meaning.specs.Outcome.{Stuck};
 ghost use Rattle.dsde_formalism.specs.Leaf.{Gives};
-ghost use Rattle.dsde_atomic.specs.Body.{after};
-ghost use Rattle.dsde_atomic.specs.Program.{system};
-ghost use Rattle.dsde_atomic.specs.Fitting.{FitsArgs, FitsState, IsInTime};
+ghost use Rattle.dsde_system.specs.Body.{after};
+ghost use Rattle.dsde_system.specs.Program.{system};
+ghost use Rattle.dsde_system.specs.Fitting.{FitsArgs, FitsState, IsInTime};
 ghost use Rattle.dsde_atomic.specs.Steps.{FitsBody, due_by};
 
 use crate::body::{at_site, code_of};

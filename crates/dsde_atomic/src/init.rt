@@ -2,8 +2,8 @@
 
 ghost use Rattle.std.specs.Prelude.{◌≡◌, IfOk};
 ghost use Rattle.dsde_formalism.specs.Leaf.{Gives};
-ghost use Rattle.dsde_atomic.specs.Program.{system};
-ghost use Rattle.dsde_atomic.specs.Fitting.{FitsArgs, FitsState};
+ghost use Rattle.dsde_system.specs.Program.{system};
+ghost use Rattle.dsde_system.specs.Fitting.{FitsArgs, FitsState};
 ghost use Rattle.dsde_atomic.specs.Steps.{Begins};
 
 use crate::body::{at_site, behind, code_of, copied};

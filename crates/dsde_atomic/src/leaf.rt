@@ -3,8 +3,8 @@
 ghost use Rattle.std.specs.Prelude.{◌≡◌, IfOk};
 ghost use Rattle.dsde_values.specs.When.{IsMoment};
 ghost use Rattle.dsde_formalism.specs.Leaf.{Gives, settled, start_leaf, output_leaf, move_leaf};
-ghost use Rattle.dsde_atomic.specs.Program.{system};
-ghost use Rattle.dsde_atomic.specs.Fitting.{FitsArgs, FitsInputs, FitsLeaf, FitsSends, FitsState};
+ghost use Rattle.dsde_system.specs.Program.{system};
+ghost use Rattle.dsde_system.specs.Fitting.{FitsArgs, FitsInputs, FitsLeaf, FitsSends, FitsState};
 
 use crate::body::{at_site, behind, code_of, copied, slots_of};
 use crate::due::due;
@@ -33,6 +33,7 @@ pub fn start_leaf(
     ensures gives { Gives (start_leaf (system program.now) model boss args time) result }
     ensures fits { IfOk result (λ leaf. FitsLeaf program.now leaf) }
     ensures model { IfOk result (λ leaf. leaf.model ≡ model) }
+    ensures args { IfOk result (λ leaf. leaf.args ≡ args) }
 {
     let state = init(alloc, program, model, &args)?;
     settled(alloc, program, model, boss, args, state, time)
@@ -54,6 +55,7 @@ fn settled(
     ensures gives { Gives (settled (system program.now) model boss args state time) result }
     ensures fits { IfOk result (λ leaf. FitsLeaf program.now leaf) }
     ensures model { IfOk result (λ leaf. leaf.model ≡ model) }
+    ensures args { IfOk result (λ leaf. leaf.args ≡ args) }
 {
     let params = args.len();
     let slots = slots_of(alloc, &args, state)?;
@@ -105,6 +107,7 @@ pub fn move_leaf(
     ensures gives { Gives (move_leaf (system program.now) leaf.now kind time got.ports) result }
     ensures fits { IfOk result (λ leaf. FitsLeaf program.now leaf) }
     ensures model { IfOk result (λ moved. moved.model ≡ leaf.now.model) }
+    ensures args { IfOk result (λ moved. moved.args ≡ leaf.now.args) }
 {
     let state = copied(alloc, leaf.state.as_slice())?;
     let elapsed = time.saturating_sub(leaf.last);

@@ -12,5 +12,7 @@ mod ports;
 mod top;
 
 pub use leaf::{move_leaf, output_leaf, start_leaf};
-pub use ports::{ports_in, ports_out};
+pub use ports::{
+    component_at, is_network, network_at, network_in, network_out, ports_in, ports_out,
+};
 pub use top::top_args;

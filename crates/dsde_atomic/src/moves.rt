@@ -4,9 +4,9 @@ ghost use Rattle.std.specs.Prelude.{◌≡◌, ◌≤◌, ◌++◌, ◌∷◌, [
 ghost use Rattle.dsde_values.specs.declared.value.Value.TheVariants as values;
 ghost use Rattle.dsde_values.specs.When.{IsMoment};
 ghost use Rattle.dsde_formalism.specs.Leaf.{Gives, transition};
-ghost use Rattle.dsde_atomic.specs.Body.{is_flooded, lists_of};
-ghost use Rattle.dsde_atomic.specs.Program.{system};
-ghost use Rattle.dsde_atomic.specs.Fitting.{FitsArgs, FitsInputs, FitsState};
+ghost use Rattle.dsde_system.specs.Body.{is_flooded, lists_of};
+ghost use Rattle.dsde_system.specs.Program.{system};
+ghost use Rattle.dsde_system.specs.Fitting.{FitsArgs, FitsInputs, FitsState};
 ghost use Rattle.dsde_atomic.specs.Steps.{CanMove, HasPhase, Moved, Sees};
 
 use crate::body::{at_site, behind, code_of, slots_of};

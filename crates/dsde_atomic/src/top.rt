@@ -2,8 +2,8 @@
 
 ghost use Rattle.std.specs.Prelude.{◌≡◌, IfOk};
 ghost use Rattle.dsde_nodes.specs.Models.{resolved};
-ghost use Rattle.dsde_atomic.specs.Program.{system};
-ghost use Rattle.dsde_atomic.specs.Fitting.{FitsArgs, Topped};
+ghost use Rattle.dsde_system.specs.Program.{system};
+ghost use Rattle.dsde_system.specs.Fitting.{FitsArgs, Topped};
 
 use crate::body::at_site;
 use crate::laws::laws;

@@ -9,7 +9,7 @@ use Rattle.dsde_io.specs.Held.{Bytes}
 use Rattle.dsde_cli.specs.Causes.{Under}
 use Rattle.dsde_command.specs.Commands.{CheckCommand, RunCommand, Task, checks, runs}
 use Rattle.dsde_cli.specs.Answer.{Answers, AnswersFront}
-use Rattle.dsde_turns.specs.declared.event.Finish.{Finish}
+use Rattle.dsde_events.specs.declared.event.Finish.{Finish}
 use Rattle.dsde_runs.specs.Run.{Run}
 use Rattle.dsde_run.specs.Reading.{IsFront}
 use Rattle.dsde_run.specs.Run.{Running, records_in, trace_text}

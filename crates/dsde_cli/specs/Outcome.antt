@@ -1,8 +1,8 @@
 -- How a call ends that runs a model, and what it leaves.
 use Rattle.std.specs.Prelude.{ℕ, ◌≡◌, ◌⊎◌, ⊤, List, [], ◌++◌, take, Option, Some, IsSomeAnd}
 use Rattle.dsde_records.specs.Records.{Records}
-use Rattle.dsde_turns.specs.declared.event.Finish.{Finish}
-use Rattle.dsde_turns.specs.declared.event.Finish.TheVariants as how
+use Rattle.dsde_events.specs.declared.event.Finish.{Finish}
+use Rattle.dsde_events.specs.declared.event.Finish.TheVariants as how
 use Rattle.dsde_runs.specs.Run.{Run}
 use Rattle.dsde_run.specs.Reading.{IsCutShort}
 use Rattle.dsde_run.specs.Run.{Running, records_in, trace_text}

@@ -11,11 +11,11 @@ ghost use Rattle.dsde_cli.specs.Loaded.{own_of};
 ghost use Rattle.dsde_cli.specs.Outcome.{Comes, SaysEnd, status_of};
 
 use crate::load::{Runnable, load_runnable};
+use dsde_events::Finish;
 use dsde_io::{Shelf, Sink, SinkEnd, Source, write_all};
 use dsde_program::resolve;
 use dsde_run::{Cut, Running, run_model};
 use dsde_status::{Status, What, Why};
-use dsde_turns::Finish;
 use dsde_values::Text;
 use dsde_verdict::one_verdict;
 use std::alloc::Global;

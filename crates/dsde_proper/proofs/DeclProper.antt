@@ -28,7 +28,7 @@ use Rattle.dsde_proper.proofs.StmtProper.{block-plain, stmt-proper}
 
 -- parts that are each proper
 module _ {X : Type 0} (T : X → Tokens) (B P : X → Bool) (each : (x : X) → Holds (B x) (T x) (P x)) where
-  all-proper : (xs : List X) → list_all B xs ≡ true → list_all plain (map T xs) ≡ true → list_all P xs ≡ true
+  pub all-proper : (xs : List X) → list_all B xs ≡ true → list_all plain (map T xs) ≡ true → list_all P xs ≡ true
   all-proper [] goods plains = refl
   all-proper (x ∷ xs) goods plains =
       let good = both (B x) (list_all B xs) goods in
@@ -54,7 +54,7 @@ params-plain params tokens =
     all-plain typed_tokens (λ (typed : Typed). is_plain typed.name) typed-plain params
     (join-plain (mark sign.Comma) (map typed_tokens params) (front-plain (commas (map typed_tokens params)) (mark sign.CloseParen) tokens))
 
-args-proper : (args : List Expr) → list_all is_expr args ≡ true → plain (args_tokens args) ≡ true → list_all is_proper args ≡ true
+pub args-proper : (args : List Expr) → list_all is_expr args ≡ true → plain (args_tokens args) ≡ true → list_all is_proper args ≡ true
 args-proper args level tokens =
     all-proper expr_tokens is_expr is_proper (λ e. record { holds = (expr-proper e).holds }) args level
     (join-plain (mark sign.Comma) (map expr_tokens args) (front-plain (commas (map expr_tokens args)) (mark sign.CloseParen) tokens))

@@ -3,3 +3,5 @@ mod ExprParts
 mod ExprProper
 mod StmtProper
 mod DeclProper
+mod ItemParts
+mod ItemProper

@@ -51,7 +51,7 @@ send-good port e = record {
 
 -- the statements of `else`, which may be left out
 pub record GoodElse (level : Option (List Bool)) (tokens : Option (List Tokens)) (own : Option (List Bool)) : Type 0 where
-  holds : if_written all_hold level ≡ true → plain (optional else_block tokens) ≡ true → option_map_or all_so own true ≡ true
+  pub holds : if_written all_hold level ≡ true → plain (optional else_block tokens) ≡ true → option_map_or all_so own true ≡ true
 
 if-good : (ls : List Bool) (ts : List Tokens) (ps : List Bool) (lo : Option (List Bool)) (to : Option (List Tokens)) (po : Option (List Bool))
     → AllHold (λ holds. holds) (λ own. own) ls ts ps → GoodElse lo to po
@@ -65,7 +65,7 @@ if-good ls ts ps lo to po arms other = record {
       (other.holds placed.right own.right);
 }
 
-else-good : (ls : List Bool) (ts : List Tokens) (ps : List Bool) → AllHold (λ holds. holds) (λ own. own) ls ts ps → GoodElse (Some ls) (Some ts) (Some ps)
+pub else-good : (ls : List Bool) (ts : List Tokens) (ps : List Bool) → AllHold (λ holds. holds) (λ own. own) ls ts ps → GoodElse (Some ls) (Some ts) (Some ps)
 else-good ls ts ps body = record { holds = λ level tokens. body.holds level (block-plain ts tokens) }
 
 for-good : (name : Id) (e : Expr) (ls : List Bool) (ts : List Tokens) (ps : List Bool) → AllHold (λ holds. holds) (λ own. own) ls ts ps

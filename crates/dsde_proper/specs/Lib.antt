@@ -1,1 +1,2 @@
 pub mod IsProper
+pub mod Items

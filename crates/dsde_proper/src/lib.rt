@@ -1,6 +1,6 @@
-//! The law that a model that a text can spell is proper. No code.
+//! The laws that a model that a text can spell is proper. No code.
 #![tactic(auto)]
 
 mod law;
 
-pub use law::shaped_is_proper;
+pub use law::{shaped_is_proper, shaped_items_are_proper};

@@ -8,9 +8,9 @@ use Rattle.std.proofs.Math.Seq.{take-append_seam}
 use Rattle.dsde_run.specs.Run.{Running}
 use Rattle.dsde_values.specs.declared.arrival.Arrival.{Arrival}
 use Rattle.dsde_records.specs.Records.{Records, end, bad, one}
-use Rattle.dsde_turns.specs.declared.event.Event.{Event}
-use Rattle.dsde_turns.specs.declared.event.Finish.TheVariants as how
-use Rattle.dsde_turns.specs.declared.fault.TurnEnd.{TurnEnd}
+use Rattle.dsde_events.specs.declared.event.Event.{Event}
+use Rattle.dsde_events.specs.declared.event.Finish.TheVariants as how
+use Rattle.dsde_events.specs.declared.fault.TurnEnd.{TurnEnd}
 use Rattle.dsde_turns.specs.declared.tree.Step.{Step}
 use Rattle.dsde_turns.specs.declared.tree.Step.TheVariants.{Turned, Quiet}
 use Rattle.dsde_turns.specs.Engine.{Engine}

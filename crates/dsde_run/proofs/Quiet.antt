@@ -1,5 +1,5 @@
 -- A run that falls quiet has read its input to the end.
-use Rattle.dsde_atomic.specs.Program.{system}
+use Rattle.dsde_system.specs.Program.{system}
 use Rattle.dsde_turns.specs.Engine.{leaf_of}
 use Rattle.dsde_turns.specs.Engine.{next_of}
 use Rattle.std.proofs.Common.{◌≡◌, ◌≢◌, ℕ, ◌+◌, Bool, true, false, List, [], ◌∷◌, ◌++◌, Result, Ok, Err, refl, sym, ap, ◌∙◌}
@@ -10,16 +10,16 @@ use Rattle.dsde_values.specs.declared.when.When.{When}
 use Rattle.dsde_values.specs.declared.when.When.TheVariants.{At, Never}
 use Rattle.dsde_records.specs.declared.end.InputEnd.{InputEnd}
 use Rattle.dsde_records.specs.declared.end.InputEnd.TheVariants as input_end
-use Rattle.dsde_turns.specs.declared.event.Finish.{Finish}
-use Rattle.dsde_turns.specs.declared.event.Finish.TheVariants as how
-use Rattle.dsde_turns.specs.declared.fault.TurnEnd.{TurnEnd}
-use Rattle.dsde_turns.specs.declared.fault.TurnEnd.TheVariants.{Fault, Memory}
+use Rattle.dsde_events.specs.declared.event.Finish.{Finish}
+use Rattle.dsde_events.specs.declared.event.Finish.TheVariants as how
+use Rattle.dsde_events.specs.declared.fault.TurnEnd.{TurnEnd}
+use Rattle.dsde_events.specs.declared.fault.TurnEnd.TheVariants.{Fault, Memory}
 use Rattle.dsde_formalism.specs.declared.leaf.Leaf.{Leaf}
 use Rattle.dsde_turns.specs.declared.tree.Step.{Step}
 use Rattle.dsde_turns.specs.declared.tree.Step.TheVariants.{Turned, Quiet}
 use Rattle.dsde_turns.specs.Engine.{Engine}
-use Rattle.dsde_turns.specs.Told as step
-use Rattle.dsde_turns.specs.Told.{told, ◌then◌}
+use Rattle.dsde_events.specs.Told as step
+use Rattle.dsde_events.specs.Told.{told, ◌then◌}
 use Rattle.dsde_turns.specs.Engine.{turned}
 use Rattle.dsde_turns.specs.Turn.{turn, is_taken, items_at, turn_time}
 use Rattle.dsde_run.specs.Run.{advance}

@@ -7,7 +7,7 @@ use Rattle.dsde_values.specs.declared.arrival.Arrival.{Arrival}
 use Rattle.dsde_records.specs.declared.end.InputEnd.{InputEnd}
 use Rattle.dsde_records.specs.declared.end.InputEnd.TheVariants.{ReadFault}
 use Rattle.dsde_records.specs.Records.{Records, end, bad, one}
-use Rattle.dsde_turns.specs.declared.event.Finish.{Finish}
+use Rattle.dsde_events.specs.declared.event.Finish.{Finish}
 use Rattle.dsde_turns.specs.Engine.{Engine}
 use Rattle.dsde_run.specs.Run.{trace_text}
 use Rattle.dsde_run.specs.Heads.{Heads}

@@ -3,11 +3,11 @@ use Rattle.std.proofs.Common.{◌≡◌, ℕ, List, [], ◌++◌, Ok, ap, sym, �
 use Rattle.std.specs.Prelude.{Option, Some, None, IfSome}
 use Rattle.dsde_run.specs.Run.{Running}
 use Rattle.dsde_records.specs.Records.{Records}
-use Rattle.dsde_turns.specs.declared.event.Event.{Event}
+use Rattle.dsde_events.specs.declared.event.Event.{Event}
 use Rattle.dsde_turns.specs.Engine.{Engine}
 use Rattle.dsde_run.specs.Run.{trace_text}
 use Rattle.dsde_run.specs.Run.{start}
-use Rattle.dsde_turns.specs.Told as turn
+use Rattle.dsde_events.specs.Told as turn
 use Rattle.dsde_run.specs.Reading.{Told, TakesWanted, IsCutShort}
 use Rattle.dsde_runs.specs.Run.{Run}
 use Rattle.dsde_run.specs.Run.{run, go}

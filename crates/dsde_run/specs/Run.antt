@@ -9,12 +9,12 @@ use Rattle.dsde_values.specs.declared.arrival.Arrival.{Arrival}
 use Rattle.dsde_records.specs.Records.{Records}
 use Rattle.dsde_nodes.specs.declared.info.Info.{Info}
 use Rattle.dsde_nodes.specs.Models.{infos_of, types_of, resolved}
-use Rattle.dsde_atomic.specs.Program.{system}
-use Rattle.dsde_turns.specs.declared.event.Event.{Event}
-use Rattle.dsde_turns.specs.declared.fault.TurnEnd.{TurnEnd}
+use Rattle.dsde_system.specs.Program.{system}
+use Rattle.dsde_events.specs.declared.event.Event.{Event}
+use Rattle.dsde_events.specs.declared.fault.TurnEnd.{TurnEnd}
 use Rattle.dsde_turns.specs.declared.tree.Step.{Step}
 use Rattle.dsde_turns.specs.Engine.{Engine}
-use Rattle.dsde_turns.specs.Told.{Told}
+use Rattle.dsde_events.specs.Told.{Told}
 use Rattle.dsde_turns.specs.Turn as turn
 use Rattle.dsde_runs.specs.Run as runs
 use Rattle.dsde_runs.specs.Run.{Run, Spots}
@@ -67,9 +67,9 @@ run own = runs.run (system own.model) own.spots
 abbrev pub records_in : Running → List ℕ → Records
 records_in own bytes = runs.records_in (info_of own.model).ins (types_of own.model) bytes
 
--- the text of its trace
+-- the line of an event of it, and the text of its trace
 abbrev pub event_text : Running → Event → List ℕ
-event_text own = text.event_text (info_of own.model) (types_of own.model)
+event_text own = text.event_text own.model
 
 abbrev pub trace_text : Running → List Event → List ℕ
-trace_text own = text.trace_text (info_of own.model) (types_of own.model)
+trace_text own = text.trace_text own.model

@@ -5,7 +5,7 @@ use Rattle.dsde_values.specs.declared.arrival.Arrival.{Arrival}
 use Rattle.dsde_records.specs.declared.end.InputEnd.{InputEnd}
 use Rattle.dsde_input.specs.Reader.{IsOffence}
 use Rattle.dsde_records.specs.Records.{Records, end, one}
-use Rattle.dsde_turns.specs.declared.event.Finish.{Finish}
+use Rattle.dsde_events.specs.declared.event.Finish.{Finish}
 use Rattle.dsde_nodes.specs.Models.{resolved, types_of}
 use Rattle.dsde_sim.specs.Working.{Working, HeadComes, working}
 use Rattle.dsde_turns.specs.Engine.{Engine, leaf_of}

@@ -16,11 +16,12 @@ ghost use Rattle.dsde_run.specs.Steps.{IsRoot, Tells, Turns, Readies, Stops};
 
 use crate::Running;
 use crate::heads::Heads;
+use dsde_events::{Event, Fault, Finish, InputKind, TurnEnd};
 use dsde_input::InputEnd;
 use dsde_io::Source;
 use dsde_sim::Plain;
 use dsde_trace::write_end;
-use dsde_turns::{Event, Fault, Finish, InputKind, Step, TurnEnd};
+use dsde_turns::Step;
 use dsde_values::{Arrival, Memory, Seq, Text};
 use std::alloc::Global;
 

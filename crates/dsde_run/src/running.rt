@@ -8,13 +8,13 @@ ghost use Rattle.dsde_runs.specs.Run.{spot_at};
 ghost use Rattle.dsde_run.specs.Run.{declares_network, info_of, running, event_text};
 ghost use Rattle.dsde_run.specs.Steps.{ItemsCome};
 
+use dsde_events::Event;
 use dsde_lawful::{ports_are_lawful, top_is_declared, types_are_lawful};
 use dsde_lexer::Places;
 use dsde_nodes::Info;
 use dsde_program::Program;
 use dsde_standing::{bodies_stand, tops_stand};
 use dsde_trace::write_event;
-use dsde_turns::Event;
 use dsde_values::{Field, Memory, Seq, Text, Types};
 use std::marker::Model;
 
@@ -110,6 +110,6 @@ impl<'p> Running<'p> {
         ensures ok { OnOk result (text.new ≡ text.old ++ event_text self.now event.now) }
         ensures err { OnErr result (text.new ≡ text.old) }
     {
-        write_event(event, self.info, self.program.types(), text)
+        write_event(event, self.program, text)
     }
 }

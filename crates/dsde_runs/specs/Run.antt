@@ -9,13 +9,13 @@ use Rattle.dsde_records.specs.declared.end.InputEnd.TheVariants.{BadLine, Backwa
 use Rattle.dsde_records.specs.Lines.{lines}
 use Rattle.dsde_records.specs.Records.{Records, end, bad, one, records_of}
 use Rattle.dsde_formalism.specs.System.{System}
-use Rattle.dsde_turns.specs.declared.event.Event.{Event}
-use Rattle.dsde_turns.specs.declared.event.Event.TheVariants as event
-use Rattle.dsde_turns.specs.declared.event.Finish.{Finish}
-use Rattle.dsde_turns.specs.declared.event.Finish.TheVariants as how
-use Rattle.dsde_turns.specs.declared.event.InputKind.TheVariants as kind
-use Rattle.dsde_turns.specs.declared.fault.TurnEnd.{TurnEnd}
-use Rattle.dsde_turns.specs.declared.fault.TurnEnd.TheVariants.{Fault, Memory}
+use Rattle.dsde_events.specs.declared.event.Event.{Event}
+use Rattle.dsde_events.specs.declared.event.Event.TheVariants as event
+use Rattle.dsde_events.specs.declared.event.Finish.{Finish}
+use Rattle.dsde_events.specs.declared.event.Finish.TheVariants as how
+use Rattle.dsde_events.specs.declared.event.InputKind.TheVariants as kind
+use Rattle.dsde_events.specs.declared.fault.TurnEnd.{TurnEnd}
+use Rattle.dsde_events.specs.declared.fault.TurnEnd.TheVariants.{Fault, Memory}
 use Rattle.dsde_turns.specs.declared.tree.Step.TheVariants.{Turned, Quiet}
 use Rattle.dsde_turns.specs.Engine.{Engine, next_of}
 use Rattle.dsde_turns.specs.Turn.{start, advance, turn_time}

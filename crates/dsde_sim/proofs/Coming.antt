@@ -13,8 +13,8 @@ use Rattle.dsde_standing.specs.Bodies.{Own, owns_of, body_ins}
 use Rattle.dsde_formalism.specs.declared.leaf.Leaf.{Leaf}
 use Rattle.dsde_formalism.specs.Leaf.{component_of}
 use Rattle.dsde_formalism.specs.System.{Ports}
-use Rattle.dsde_atomic.specs.Fitting.{AreOf, Reach, FitsInputs, FitsLeaf}
-use Rattle.dsde_atomic.specs.Program.{system, component_at}
+use Rattle.dsde_system.specs.Fitting.{AreOf, Reach, FitsInputs, FitsLeaf}
+use Rattle.dsde_system.specs.Program.{system, component_at}
 use Rattle.dsde_turns.specs.Turn.{values_at, received, items_at}
 use Rattle.dsde_sim.specs.Working.{FitsItems, Comes, kept}
 

@@ -8,7 +8,7 @@ use Rattle.dsde_nodes.specs.Models.{types_of}
 use Rattle.dsde_formalism.specs.declared.leaf.Leaf.{Leaf}
 use Rattle.dsde_meaning.specs.Typed.{AllSent}
 use Rattle.dsde_standing.specs.Bodies.{Own, owns_of, body_ins}
-use Rattle.dsde_turns.specs.declared.fault.TurnEnd.{TurnEnd}
+use Rattle.dsde_events.specs.declared.fault.TurnEnd.{TurnEnd}
 use Rattle.dsde_turns.specs.Engine.{Engine, leaf_of}
 
 -- a program, and the engine that runs it

@@ -3,20 +3,21 @@
 ghost use Rattle.std.specs.Prelude.{◌≡◌, ◌<◌, ◌^◌, length, IfOk, IfSome};
 ghost use Rattle.dsde_values.specs.When.{IsMoment};
 ghost use Rattle.dsde_formalism.specs.Leaf.{Gives, component_of, is_due, sent_at, has_come, kind_of, move_leaf};
-ghost use Rattle.dsde_atomic.specs.Program.{system};
-ghost use Rattle.dsde_atomic.specs.Fitting.{FitsLeaf, FitsInputs};
-ghost use Rattle.dsde_turns.specs.Told.{IsAtRoot, Tells};
+ghost use Rattle.dsde_system.specs.Program.{system};
+ghost use Rattle.dsde_system.specs.Fitting.{FitsLeaf, FitsInputs};
+ghost use Rattle.dsde_values.specs.Path.{root};
+ghost use Rattle.dsde_events.specs.Told.{at, Comes, Tells};
 ghost use Rattle.dsde_turns.specs.Turn.{turn, output_phase, move_phase, take_move, received};
 ghost use Rattle.dsde_sim.specs.Working.{FitsItems, kept_by};
 
 use crate::received::received;
-use crate::told::{at_root, copy_values, tell_gets, tell_outs};
+use crate::told::{at_root, tell_gets, tell_move, tell_outs};
 use dsde_atomic::{move_leaf, output_leaf, ports_in, ports_out};
+use dsde_events::{Event, TurnEnd};
 use dsde_faults::LeafEnd;
 use dsde_formalism::{Inputs, Leaf, MoveKind};
 use dsde_program::Program;
 use dsde_tables::narrow;
-use dsde_turns::{Event, TurnEnd};
 use dsde_values::{Item, Memory, Seq, Values, When};
 use std::alloc::Global;
 
@@ -131,7 +132,7 @@ fn moved(
     requires moment { IsMoment time }
     requires leaf { FitsLeaf program.now leaf.now }
     requires got { FitsInputs program.now leaf.now.model.0 got.ports }
-    ensures is { IsAtRoot (move_leaf (system program.now) leaf.now kind time got.ports) result }
+    ensures is { Comes (at root (move_leaf (system program.now) leaf.now kind time got.ports)) result }
     ensures fits { IfOk result (FitsLeaf program.now) }
     ensures model { IfOk result (λ moved. moved.model ≡ leaf.now.model) }
 {
@@ -156,13 +157,9 @@ fn take_move(
     ensures fits { IfOk result (FitsLeaf program.now) }
     ensures model { IfOk result (λ moved. moved.model ≡ leaf.now.model) }
 {
-    tell_gets(alloc, got.ports.as_slice(), events)?;
+    tell_gets(alloc, leaf.model, got.ports.as_slice(), events)?;
     let moved = moved(alloc, program, leaf, kind, time, got)?;
-    events.push(Event::Move {
-        kind,
-        state: copy_values(alloc, moved.state.as_slice())?,
-        next: moved.next,
-    })?;
+    tell_move(alloc, kind, &moved, events)?;
     Ok(moved)
 }
 

@@ -3,24 +3,26 @@
 ghost use Rattle.std.specs.Prelude.{◌≡◌, ◌<◌, ◌≤◌, ◌^◌, false, is_err, Ok, Err, IfOk, IfErr, IfSome};
 ghost use Rattle.std.specs.Option.{option_copied};
 ghost use Rattle.dsde_values.specs.When.{IsMoment};
-ghost use Rattle.dsde_atomic.specs.Program.{system};
-ghost use Rattle.dsde_atomic.specs.Fitting.{FitsArgs, FitsLeaf};
+ghost use Rattle.dsde_system.specs.Program.{system};
+ghost use Rattle.dsde_system.specs.Fitting.{FitsArgs, FitsLeaf};
 ghost use Rattle.dsde_formalism.specs.Leaf.{start_leaf};
 ghost use Rattle.dsde_nodes.specs.Models.{resolved};
 ghost use Rattle.dsde_turns.specs.Engine.{leaf_of, next_of, begun, turned};
-ghost use Rattle.dsde_turns.specs.Told.{at_root, IsAtRoot, Tells};
+ghost use Rattle.dsde_values.specs.Path.{root};
+ghost use Rattle.dsde_events.specs.Told.{at, Comes, Tells};
 ghost use Rattle.dsde_turns.specs.Turn.{start, advance, turn, turn_time, is_taken, items_at};
 ghost use Rattle.dsde_turns.specs.declared.tree.Sim.TheVariants as sim;
 ghost use Rattle.dsde_sim.specs.Working.{Working, HeadComes, FitsItems, kept, kept_by};
 
 use crate::phases::turn;
 use crate::received::{is_taken, items_at, turn_time};
-use crate::told::{at_root, copy_values};
+use crate::told::{at_root, tell_leaf};
 use dsde_atomic::{start_leaf, top_args};
+use dsde_events::{Event, TurnEnd};
 use dsde_formalism::Leaf;
 use dsde_nodes::ModelId;
 use dsde_program::Program;
-use dsde_turns::{Event, Sim, Step, TurnEnd};
+use dsde_turns::{Sim, Step};
 use dsde_values::{Arrival, Seq, Values};
 use std::alloc::Global;
 use std::marker::Model;
@@ -39,7 +41,7 @@ pub struct Plain<'p> {
 
 impl<'p> Model for Plain<'p> {
     ghost use Rattle.std.specs.Prelude.{◌≤◌};
-    ghost use Rattle.dsde_atomic.specs.Fitting.{FitsLeaf};
+    ghost use Rattle.dsde_system.specs.Fitting.{FitsLeaf};
     ghost use Rattle.dsde_turns.specs.Engine.{leaf_of};
     ghost use Rattle.dsde_sim.specs.Working.{Working, working};
     ghost use Rattle.dsde_syntax.specs.contracts.decl.Model as model;
@@ -81,7 +83,7 @@ fn keep(tree: &mut Sim, moved: Option<Leaf>)
 /// The root, which starts at time 0.
 fn started(alloc: Global, program: &Program, model: ModelId, args: Values) -> Result<Leaf, TurnEnd>
     requires { FitsArgs program.now model.0 args }
-    ensures is { IsAtRoot (start_leaf (system program.now) model false args 0) result }
+    ensures is { Comes (at root (start_leaf (system program.now) model false args 0)) result }
     ensures fits { IfOk result (FitsLeaf program.now) }
     ensures model { IfOk result (λ leaf. leaf.model ≡ model) }
 {
@@ -104,10 +106,7 @@ impl<'p> Plain<'p> {
         let model = program.top_model();
         let args = at_root(alloc, top_args(alloc, program))?;
         let leaf = started(alloc, program, model, args)?;
-        events.push(Event::AddLeaf {
-            state: copy_values(alloc, leaf.state.as_slice())?,
-            next: leaf.next,
-        })?;
+        tell_leaf(alloc, &leaf, events)?;
         Ok(Plain {
             alloc,
             program,

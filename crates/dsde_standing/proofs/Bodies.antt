@@ -35,13 +35,13 @@ CodesStand model (own ∷ owns) (code ∷ codes) = BodyStands model own code × 
 CodesStand model _ _ = ⊥
 
 -- models, each as it is declared
-abbrev InfosAre : Model → List Own → List Info → Type 0
+abbrev pub InfosAre : Model → List Own → List Info → Type 0
 InfosAre model [] [] = Unit {0}
 InfosAre model (own ∷ owns) (info ∷ infos) = InfoIs model own info × InfosAre model owns infos
 InfosAre model _ _ = ⊥
 
 module _ (model : Model) where
-  infos-are : (decls : List Decl) (infos : List Info) → (more : List Info) × (infos_from (whole_of model) infos decls ≡ infos ++ more) × InfosAre model (owns_of decls) more
+  pub infos-are : (decls : List Decl) (infos : List Info) → (more : List Info) × (infos_from (whole_of model) infos decls ≡ infos ++ more) × InfosAre model (owns_of decls) more
   infos-are [] infos = ([], sym (append-nil infos), tt)
   infos-are (decl.Enum name variants ∷ decls) infos = infos-are decls infos
   infos-are (decl.Rec name fields ∷ decls) infos = infos-are decls infos

@@ -30,6 +30,7 @@ module _ (around : Around) (at : ℕ) (ports : List Port) (body : Body) where
     pub states : Passed
     pub states_are : walk_all (map (state_of around ports) body.states) 0 scope ≡ Ok states
     pub states_low : states.height ≤ passed.height
+    pub last : states.scope ≡ passed.scope
     pub advance : Seen
     pub advance_is : judge around body.advance states.scope ≡ Ok advance
     pub advance_of : advance.ty ≡ ty.Opt ty.Int
@@ -75,7 +76,8 @@ module _ (around : Around) (at : ℕ) (ports : List Port) (body : Body) where
       let two : Went (advance_of around body.advance states.scope) (with_advance states) passed = went (advance_of around body.advance states.scope) (with_advance states) passed one.next-is in
       let three : Went (phases_of around ports body states.scope) (with_phases states two.own) passed = went (phases_of around ports body states.scope) (with_phases states two.own) passed two.next-is in
       let four = went (external_of at body) (λ _. Ok (whole_body states.scope (max states.height (max two.own three.own)))) passed three.next-is in
-      let height : max states.height (max two.own three.own) ≡ passed.height = ap (λ (p : Passed). p.height) (ok-same (whole_body states.scope (max states.height (max two.own three.own))) passed four.next-is) in
+      let same : whole_body states.scope (max states.height (max two.own three.own)) ≡ passed = ok-same (whole_body states.scope (max states.height (max two.own three.own))) passed four.next-is in
+      let height : max states.height (max two.own three.own) ≡ passed.height = ap (λ (p : Passed). p.height) same in
       let seen = went (judge around body.advance states.scope) (λ seen. wanted (ty.Opt ty.Int) seen >>= (λ _. Ok seen.height)) two.own two.is in
       let test = went (wanted (ty.Opt ty.Int) seen.own) (λ _. Ok seen.own.height) two.own seen.next-is in
       let advance : seen.own.height ≡ two.own = ok-same seen.own.height two.own test.next-is in
@@ -90,6 +92,7 @@ module _ (around : Around) (at : ℕ) (ports : List Port) (body : Body) where
         states = states;
         states_are = one.is;
         states_low = omega (arith, height);
+        last = ap (λ (p : Passed). p.scope) same;
         advance = seen.own;
         advance_is = seen.is;
         advance_of = sym (wanted-is (ty.Opt ty.Int) seen.own test.own test.is);

@@ -17,3 +17,9 @@ mod Bodies
 mod Models
 mod Args
 mod Tops
+mod Counts
+mod ItemCounts
+mod StructurePieces
+mod OneStructure
+mod Structures
+mod ModelsAre

@@ -7,6 +7,7 @@ use Rattle.dsde_syntax.specs.declared.decl.Model.{Model}
 use Rattle.dsde_syntax.specs.declared.decl.PortDecl.{PortDecl}
 use Rattle.dsde_syntax.specs.declared.decl.StateDecl.{StateDecl}
 use Rattle.dsde_syntax.specs.declared.decl.Typed.{Typed}
+use Rattle.dsde_syntax.specs.declared.item.Item.{Item}
 use Rattle.dsde_syntax.specs.declared.type_name.TypeName.{TypeName}
 use Rattle.dsde_names.specs.Table.{is_among}
 use Rattle.dsde_values.specs.declared.types.Field.{Field}
@@ -18,6 +19,7 @@ use Rattle.dsde_rules.specs.declared.signatures.Port.{Port}
 use Rattle.dsde_rules.specs.Tables.{by_text, binding_name, field_name, port_name}
 use Rattle.dsde_rules.specs.Judge.{Scope, type_of}
 use Rattle.dsde_rules.specs.Blocks.{Passed, moving, inputs_seen, params_all, ports_all, body_of}
+use Rattle.dsde_rules.specs.Structures.{structure_of}
 use Rattle.dsde_rules.specs.Rules.{around_with}
 use Rattle.dsde_nodes.specs.declared.code.Code.{Code}
 use Rattle.dsde_nodes.specs.declared.ids.BlockId.{BlockId}
@@ -112,6 +114,15 @@ module _ (model : Model) where
     pub plain : are_plain own.params ≡ true
     pub proper : is_proper_body own.body ≡ true
 
+  -- what they say of a network's own ports and of its structure, beside its executive
+  pub record StructureJudged (known : Known) (own : Own) (items : List Item) : Type 0 where
+    pub body : OwnJudged known own
+    pub ports : List Port
+    pub ports_is : ports_all known body.params [] own.ports ≡ Ok ports
+    pub height : ℕ
+    pub structure_is : structure_of (around_with known body.reserved) ports body.ports items body.passed.scope ≡ Ok height
+    pub height_low : height ≤ 512
+
   module _ (known : Known) (own : Own) (judged : OwnJudged known own) where
     abbrev slots0 : List Field
     slots0 = with_slots [] (typed_fields whole own.params)
@@ -140,7 +151,7 @@ module _ (model : Model) where
     slots0-are : slots0 ≡ param_slots model own
     slots0-are = slots-are (typed_fields whole own.params) [] params.new
 
-    directed-are : (out : Bool) → directed out judged.ports ≡ port_fields whole out own.body.ports
+    pub directed-are : (out : Bool) → directed out judged.ports ≡ port_fields whole out own.body.ports
     directed-are out = ap (directed out) ports.is ∙ directed-is whole out own.body.ports
 
     ports-new : NewPorts judged.params [] judged.ports
@@ -164,7 +175,7 @@ module _ (model : Model) where
       slots1-from : slots1 ≡ slots0 ++ state_fields whole own.body.states
       slots1-from = slots-are (state_fields whole own.body.states) slots0 states.new
 
-      slots1-are : slots1 ≡ body_slots model own
+      pub slots1-are : slots1 ≡ body_slots model own
       slots1-are = slots1-from ∙ ap (λ (l : List Field). l ++ state_fields whole own.body.states) slots0-are
 
       seen : map field_of parts.states.scope ≡ slots1
@@ -175,6 +186,12 @@ module _ (model : Model) where
 
       moved : MovedAre parts.states.scope [] slots1 parts.states.scope judged.ports
       moved = moved-are judged.ports [] parts.states.scope slots1 parts.states.scope seen (covered-scope parts.states.scope slots1 seen) states.ports_new
+
+      -- the names that a structure sees
+      pub structure-sees : Sees false judged.passed.scope (body_slots model own)
+      structure-sees =
+          subst (λ (s : Scope). Sees false s (body_slots model own)) parts.last
+          (subst (λ (l : List Field). Sees false parts.states.scope l) slots1-are sees)
 
       -- No name that is seen is `elapsed`.
       scope-plain : is_among binding_name parts.states.scope elapsed_name ≡ false

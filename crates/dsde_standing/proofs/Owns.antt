@@ -25,10 +25,11 @@ use Rattle.dsde_nodes.specs.Pieces.{Block}
 use Rattle.dsde_program.specs.Right.{IsRight}
 use Rattle.dsde_meaning.specs.Proper.{are_plain, is_proper_body}
 use Rattle.dsde_standing.specs.Places.{KnownAt, known_behind}
+use Rattle.dsde_standing.specs.Bodies.{Own}
 use Rattle.dsde_standing.proofs.Steps.{ok-same, holds-not, Went, went}
 use Rattle.dsde_standing.proofs.Funcs.{typed-is}
 use Rattle.dsde_standing.proofs.Within.{known-is-within}
-use Rattle.dsde_standing.proofs.OneBody.{OwnJudged}
+use Rattle.dsde_standing.proofs.OneBody.{OwnJudged, StructureJudged}
 
 -- what is known behind more declarations
 pub known-more : (done rest : List Decl) (base known : Known) → known_behind base done ≡ Ok known → known_behind base (done ++ rest) ≡ known_behind known rest
@@ -122,16 +123,19 @@ module _ (model : Model) (right : IsRight model) where
       abbrev with_scope : Scope → Test
       with_scope scope = ports_all known scope [] ports >>= with_own scope
 
-      pub network-judged : (done : Unit {0}) → network_rule around name params ports exec_at body items ≡ Ok done → are_plain params ≡ true → is_proper_body body ≡ true
-          → OwnJudged model known (record { name = name; at = at; network = true; params = params; ports = ports; start_at = exec_at; body = body })
-      network-judged done is plain proper =
+      abbrev own : Own
+      own = record { name = name; at = at; network = true; params = params; ports = ports; start_at = exec_at; body = body }
+
+      pub structure-judged : (done : Unit {0}) → network_rule around name params ports exec_at body items ≡ Ok done → are_plain params ≡ true → is_proper_body body ≡ true
+          → StructureJudged model known own items
+      structure-judged done is plain proper =
           let one : Went (params_all known [] params) with_scope done = went (params_all known [] params) with_scope done is in
           let two : Went (ports_all known one.own [] ports) (with_own one.own) done = went (ports_all known one.own [] ports) (with_own one.own) done one.next-is in
           let three : Went (ports_all known one.own [] body.ports) (with_execs two.own one.own) done = went (ports_all known one.own [] body.ports) (with_execs two.own one.own) done two.next-is in
           let four : Went (body_of around exec_at three.own body one.own) (with_exec two.own three.own) done = went (body_of around exec_at three.own body one.own) (with_exec two.own three.own) done three.next-is in
           let five : Went (structure_of around two.own three.own items four.own.scope) (with_structure four.own) done = went (structure_of around two.own three.own items four.own.scope) (with_structure four.own) done four.next-is in
           let low = within-low name.at (max four.own.height five.own) done five.next-is in
-          record {
+          let judged : OwnJudged model known own = record {
             at = at_place;
             typed = typed-at known at_place;
             reserved = body_names params body;
@@ -145,4 +149,16 @@ module _ (model : Model) (right : IsRight model) where
             low = omega (arith, low);
             plain = plain;
             proper = proper;
+          } in
+          record {
+            body = judged;
+            ports = two.own;
+            ports_is = two.is;
+            height = five.own;
+            structure_is = five.is;
+            height_low = omega (arith, low);
           }
+
+      pub network-judged : (done : Unit {0}) → network_rule around name params ports exec_at body items ≡ Ok done → are_plain params ≡ true → is_proper_body body ≡ true
+          → OwnJudged model known own
+      network-judged done is plain proper = (structure-judged done is plain proper).body

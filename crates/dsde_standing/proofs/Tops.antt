@@ -190,12 +190,12 @@ module _ (model : Model) (right : IsRight model) where
       }
 
   -- the text of the model with a number
-  record TextOf (owns : List Own) (place : ℕ) (sig : ModelSig) : Type 0 where
-    own : Own
-    at : slice_get owns place ≡ Some own
-    is : model_sig (type_words model.decls) own ≡ sig
+  pub record TextOf (owns : List Own) (place : ℕ) (sig : ModelSig) : Type 0 where
+    pub own : Own
+    pub at : slice_get owns place ≡ Some own
+    pub is : model_sig (type_words model.decls) own ≡ sig
 
-  text-of : (owns : List Own) (place : ℕ) (sig : ModelSig) (found : Option Own) → slice_get owns place ≡ found → option_map (model_sig (type_words model.decls)) found ≡ Some sig → TextOf owns place sig
+  pub text-of : (owns : List Own) (place : ℕ) (sig : ModelSig) (found : Option Own) → slice_get owns place ≡ found → option_map (model_sig (type_words model.decls)) found ≡ Some sig → TextOf owns place sig
   text-of owns place sig None is told = absurd (cc)
   text-of owns place sig (Some own) is told = record { own = own; at = is; is = let same : model_sig (type_words model.decls) own ≡ sig = cc in same }
 

@@ -1,6 +1,6 @@
 //! How a call ends.
 
-use dsde_turns::{Fault, InputKind};
+use dsde_events::{Fault, InputKind};
 use dsde_values::Path;
 use dsde_verdict::Refusal;
 

@@ -1,6 +1,7 @@
--- The text of a trace: a line for each event, for a model that declares this, over its table of types.
-use Rattle.std.specs.Prelude.{ℕ, List, [], ◌++◌, map, codes, decimal, slice_get, flat_map}
+-- The text of a trace: a line for each event of a run of a model.
+use Rattle.std.specs.Prelude.{ℕ, if◌then◌else◌, List, [], ◌++◌, Option, map, codes, decimal, slice_get, flat_map}
 use Rattle.std.specs.Option.{option_map_or}
+use Rattle.dsde_syntax.specs.declared.decl.Model.{Model}
 use Rattle.dsde_values.specs.declared.types.Field.{Field}
 use Rattle.dsde_values.specs.declared.types.Types.{Types}
 use Rattle.dsde_values.specs.declared.value.Value.{Value}
@@ -14,14 +15,40 @@ use Rattle.dsde_faults.specs.declared.kind.Site.{Site}
 use Rattle.dsde_faults.specs.declared.kind.Site.TheVariants as site
 use Rattle.dsde_formalism.specs.declared.leaf.MoveKind.{MoveKind}
 use Rattle.dsde_formalism.specs.declared.leaf.MoveKind.TheVariants as move
+use Rattle.dsde_nodes.specs.declared.ids.ModelId.{ModelId}
 use Rattle.dsde_nodes.specs.declared.info.Info.{Info}
-use Rattle.dsde_turns.specs.declared.event.Event.{Event}
-use Rattle.dsde_turns.specs.declared.event.Event.TheVariants.{AddLeaf, Turn, Out, Get, Move, Finish}
-use Rattle.dsde_turns.specs.declared.event.Finish as finish
-use Rattle.dsde_turns.specs.declared.event.Finish.TheVariants as how
-use Rattle.dsde_turns.specs.declared.event.InputKind.{InputKind}
-use Rattle.dsde_turns.specs.declared.event.InputKind.TheVariants.{BadLine, Backwards, LineTooLong}
-use Rattle.dsde_turns.specs.declared.fault.Fault.{Fault}
+use Rattle.dsde_nodes.specs.Models.{infos_of, types_of, resolved}
+use Rattle.dsde_events.specs.declared.event.Event.{Event}
+use Rattle.dsde_events.specs.declared.event.Event.TheVariants.{AddNet, AddLeaf, Turn, Out, Get, Move, Drop, Finish}
+use Rattle.dsde_events.specs.declared.event.Finish as finish
+use Rattle.dsde_events.specs.declared.event.Finish.TheVariants as how
+use Rattle.dsde_events.specs.declared.event.InputKind.{InputKind}
+use Rattle.dsde_events.specs.declared.event.InputKind.TheVariants.{BadLine, Backwards, LineTooLong}
+use Rattle.dsde_events.specs.declared.fault.Fault.{Fault}
+
+-- what the model with this number declares, where there is one
+abbrev pub info_at : Model → ModelId → Option Info
+info_at model number = slice_get (infos_of model) number.0
+
+-- its name
+abbrev pub model_text : Model → ModelId → List ℕ
+model_text model number = option_map_or (λ (info : Info). info.name) (info_at model number) []
+
+-- its state variables, of a network those of its executive
+abbrev pub states_at : Model → ModelId → List Field
+states_at model number = option_map_or (λ (info : Info). info.states) (info_at model number) []
+
+-- the in ports of an atomic model, or of a network's executive
+abbrev pub leaf_ins : Info → List Field
+leaf_ins info = if info.network then info.boss_ins else info.ins
+
+-- those of the model with this number
+abbrev pub ins_at : Model → ModelId → List Field
+ins_at model number = option_map_or leaf_ins (info_at model number) []
+
+-- the out ports of the model that runs
+abbrev pub top_outs : Model → List Field
+top_outs model = option_map_or (λ (info : Info). info.outs) (info_at model (resolved model).own.top_model) []
 
 abbrev pub when_text : When → List ℕ
 when_text (At time) = decimal time
@@ -32,12 +59,16 @@ abbrev pub state_text : List Field → Types → List Value → List ℕ
 state_text states types state = codes "{" ++ joined (field_texts states (map (spelling types) state)) ++ codes "}"
 
 -- the end of a line: a state, and when it is left
-abbrev pub settled_text : List Field → Types → List Value → When → List ℕ
+unfoldable pub settled_text : List Field → Types → List Value → When → List ℕ
 settled_text states types state next = codes " " ++ state_text states types state ++ codes " next " ++ when_text next ++ codes "\n"
 
 -- the name of the port with a number
 abbrev pub port_text : List Field → ℕ → List ℕ
 port_text ports port = option_map_or (λ (field : Field). field.name) (slice_get ports port) []
+
+-- the end of a line: a port and a value at it
+unfoldable pub passed_text : List Field → Types → ℕ → Value → List ℕ
+passed_text ports types port value = port_text ports port ++ codes " " ++ spelling types value ++ codes "\n"
 
 abbrev pub move_text : MoveKind → List ℕ
 move_text move.Internal = codes "internal"
@@ -92,14 +123,19 @@ abbrev pub end_text : finish.Finish → ℕ → ℕ → List ℕ
 end_text end turns time =
     codes "end " ++ finish_text end ++ codes " turns " ++ decimal turns ++ codes " at " ++ decimal time ++ codes "\n"
 
-abbrev pub event_text : Info → Types → Event → List ℕ
-event_text info types (AddLeaf state next) = codes "add root " ++ info.name ++ settled_text info.states types state next
-event_text info types (Turn number time) = codes "turn " ++ decimal number ++ codes " at " ++ decimal time ++ codes "\n"
-event_text info types (Out port value) = codes "out root " ++ port_text info.outs port ++ codes " " ++ spelling types value ++ codes "\n"
-event_text info types (Get port value) = codes "get root " ++ port_text info.ins port ++ codes " " ++ spelling types value ++ codes "\n"
-event_text info types (Move kind state next) = codes "move root " ++ move_text kind ++ settled_text info.states types state next
-event_text info types (Finish end turns time) = end_text end turns time
+-- the line of an event; a model that there is not has no name, no ports and no state variables
+abbrev pub event_text : Model → Event → List ℕ
+event_text model (AddNet path number) = codes "add " ++ path_text path ++ codes " " ++ model_text model number ++ codes "\n"
+event_text model (AddLeaf path number state next) =
+    codes "add " ++ path_text path ++ codes " " ++ model_text model number ++ settled_text (states_at model number) (types_of model) state next
+event_text model (Turn number time) = codes "turn " ++ decimal number ++ codes " at " ++ decimal time ++ codes "\n"
+event_text model (Out port value) = codes "out root " ++ passed_text (top_outs model) (types_of model) port value
+event_text model (Get path number port value) = codes "get " ++ path_text path ++ codes " " ++ passed_text (ins_at model number) (types_of model) port value
+event_text model (Move path number kind state next) =
+    codes "move " ++ path_text path ++ codes " " ++ move_text kind ++ settled_text (states_at model number) (types_of model) state next
+event_text model (Drop path count) = codes "drop " ++ path_text path ++ codes " " ++ decimal count ++ codes "\n"
+event_text model (Finish end turns time) = end_text end turns time
 
 -- the text of a trace
-abbrev pub trace_text : Info → Types → List Event → List ℕ
-trace_text info types events = flat_map (event_text info types) events
+abbrev pub trace_text : Model → List Event → List ℕ
+trace_text model events = flat_map (event_text model) events

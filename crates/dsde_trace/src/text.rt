@@ -1,24 +1,27 @@
 //! The lines of a trace.
 
-ghost use Rattle.std.specs.Prelude.{◌≡◌, ◌++◌, [], ◌∷◌, length, map, take, codes, decimal, OnOk, OnErr};
+ghost use Rattle.std.specs.Prelude.{◌≡◌, ◌++◌, [], ◌∷◌, length, map, take, codes, decimal, option_copied, OnOk, OnErr};
+ghost use Rattle.dsde_values.specs.Path.{path_text};
 ghost use Rattle.dsde_values.specs.Value.{spelling, joined, field_texts};
-ghost use Rattle.dsde_trace.specs.Text.{event_text, end_text, finish_text, fault_text, state_text, settled_text, port_text, when_text, move_text, input_text, site_text, kind_text};
+ghost use Rattle.dsde_events.specs.declared.event.Event.TheVariants as event;
+ghost use Rattle.dsde_trace.specs.Text.{event_text, end_text, finish_text, fault_text, settled_text, passed_text, port_text, move_text, input_text, site_text, kind_text, info_at, model_text, states_at, ins_at, top_outs};
 
+use dsde_events::{Event, Fault, Finish, InputKind};
 use dsde_faults::{FaultKind, Site};
 use dsde_formalism::MoveKind;
 use dsde_lists::append_decimal;
-use dsde_nodes::Info;
-use dsde_turns::{Event, Fault, Finish, InputKind};
-use dsde_values::{Field, Memory, Text, Types, Value, When, write_path, write_value};
+use dsde_nodes::{Info, ModelId};
+use dsde_program::Program;
+use dsde_values::{Field, Memory, Path, Text, Types, Value, When, write_path, write_value};
 
-/// Appends the event's line and a line feed, for a model that declares this, over its table of types.
-/// Without memory the text stays as it was.
-pub fn write_event(event: &Event, info: &Info, types: &Types, text: &mut Text) -> Result<(), Memory>
-    ensures ok { OnOk result (text.new ≡ text.old ++ event_text info.now types.now event.now) }
+/// Appends the line of an event of a run of the program, and a line feed. Without memory the text
+/// stays as it was.
+pub fn write_event(event: &Event, program: &Program, text: &mut Text) -> Result<(), Memory>
+    ensures ok { OnOk result (text.new ≡ text.old ++ event_text program.now event.now) }
     ensures err { OnErr result (text.new ≡ text.old) }
 {
     let start = text.len();
-    let written = append_event(event, info, types, text);
+    let written = append_event(event, program, text);
     text.whole_or_none(start, written)
 }
 
@@ -45,31 +48,182 @@ pub fn write_fault(fault: &Fault, text: &mut Text) -> Result<(), Memory>
 
 // The functions below leave some part of what they append, from its front, where memory runs out.
 
-fn append_event(event: &Event, info: &Info, types: &Types, text: &mut Text) -> Result<(), Memory>
-    ensures ok { OnOk result (text.new ≡ text.old ++ event_text info.now types.now event.now) }
+fn append_event(event: &Event, program: &Program, text: &mut Text) -> Result<(), Memory>
+    ensures ok { OnOk result (text.new ≡ text.old ++ event_text program.now event.now) }
     ensures grows { take (length text.old) text.new ≡ text.old }
 {
     match event {
-        Event::AddLeaf { state, next } => {
-            text.extend_from_slice(b"add root ")?;
-            text.extend_from_slice(info.name.as_slice())?;
-            append_settled(info.states.as_slice(), state.as_slice(), types, *next, text)
-        }
+        Event::AddNet { path, model } => append_net(path, *model, program, text),
+        Event::AddLeaf {
+            path,
+            model,
+            state,
+            next,
+        } => append_leaf(path, *model, state.as_slice(), *next, program, text),
         Event::Turn { number, time } => append_turn(*number, *time, text),
-        Event::Out { port, value } => {
-            text.extend_from_slice(b"out root ")?;
-            append_at(info.outs.as_slice(), *port, value, types, text)
-        }
-        Event::Get { port, value } => {
-            text.extend_from_slice(b"get root ")?;
-            append_at(info.ins.as_slice(), *port, value, types, text)
-        }
-        Event::Move { kind, state, next } => {
-            text.extend_from_slice(b"move root ")?;
-            text.extend_from_slice(move_text(*kind).as_bytes())?;
-            append_settled(info.states.as_slice(), state.as_slice(), types, *next, text)
-        }
+        Event::Out { port, value } => append_out(*port, value, program, text),
+        Event::Get {
+            path,
+            model,
+            port,
+            value,
+        } => append_get(path, *model, *port, value, program, text),
+        Event::Move {
+            path,
+            model,
+            kind,
+            state,
+            next,
+        } => append_move(path, *model, *kind, state.as_slice(), *next, program, text),
+        Event::Drop { path, count } => append_drop(path, *count, text),
         Event::Finish { how, turns, time } => append_end(how, *turns, *time, text),
+    }
+}
+
+fn append_net(path: &Path, model: ModelId, program: &Program, text: &mut Text) -> Result<(), Memory>
+    ensures ok { OnOk result (text.new ≡ text.old ++ event_text program.now (event.AddNet path.now model)) }
+    ensures grows { take (length text.old) text.new ≡ text.old }
+{
+    append_head(b"add ", path, text)?;
+    text.extend_from_slice(name_of(program, model))?;
+    text.push(b'\n')
+}
+
+fn append_leaf(
+    path: &Path,
+    model: ModelId,
+    state: &[Value],
+    next: When,
+    program: &Program,
+    text: &mut Text,
+) -> Result<(), Memory>
+    ensures ok { OnOk result (text.new ≡ text.old ++ event_text program.now (event.AddLeaf path.now model state.now next)) }
+    ensures grows { take (length text.old) text.new ≡ text.old }
+{
+    append_head(b"add ", path, text)?;
+    text.extend_from_slice(name_of(program, model))?;
+    append_settled(
+        states_of(program, model),
+        state,
+        program.types(),
+        next,
+        text,
+    )
+}
+
+fn append_out(port: u32, value: &Value, program: &Program, text: &mut Text) -> Result<(), Memory>
+    ensures ok { OnOk result (text.new ≡ text.old ++ event_text program.now (event.Out port value.now)) }
+    ensures grows { take (length text.old) text.new ≡ text.old }
+{
+    text.extend_from_slice(b"out root ")?;
+    append_passed(top_outs(program), port, value, program.types(), text)
+}
+
+fn append_get(
+    path: &Path,
+    model: ModelId,
+    port: u32,
+    value: &Value,
+    program: &Program,
+    text: &mut Text,
+) -> Result<(), Memory>
+    ensures ok { OnOk result (text.new ≡ text.old ++ event_text program.now (event.Get path.now model port value.now)) }
+    ensures grows { take (length text.old) text.new ≡ text.old }
+{
+    append_head(b"get ", path, text)?;
+    append_passed(ins_of(program, model), port, value, program.types(), text)
+}
+
+fn append_move(
+    path: &Path,
+    model: ModelId,
+    kind: MoveKind,
+    state: &[Value],
+    next: When,
+    program: &Program,
+    text: &mut Text,
+) -> Result<(), Memory>
+    ensures ok { OnOk result (text.new ≡ text.old ++ event_text program.now (event.Move path.now model kind state.now next)) }
+    ensures grows { take (length text.old) text.new ≡ text.old }
+{
+    append_head(b"move ", path, text)?;
+    text.extend_from_slice(move_text(kind).as_bytes())?;
+    append_settled(
+        states_of(program, model),
+        state,
+        program.types(),
+        next,
+        text,
+    )
+}
+
+fn append_drop(path: &Path, count: u64, text: &mut Text) -> Result<(), Memory>
+    ensures ok { OnOk result (text.new ≡ text.old ++ codes "drop " ++ path_text path.now ++ codes " " ++ decimal count ++ codes "\n") }
+    ensures grows { take (length text.old) text.new ≡ text.old }
+{
+    append_head(b"drop ", path, text)?;
+    append_decimal(count, text)?;
+    text.push(b'\n')
+}
+
+/// The front of a line: a word and a path.
+fn append_head(word: &[u8], path: &Path, text: &mut Text) -> Result<(), Memory>
+    ensures ok { OnOk result (text.new ≡ text.old ++ word.now ++ path_text path.now ++ codes " ") }
+    ensures grows { take (length text.old) text.new ≡ text.old }
+{
+    text.extend_from_slice(word)?;
+    write_path(path, text)?;
+    text.push(b' ')
+}
+
+/// What the model with a number declares, if the program has it.
+fn info_of<'p>(program: &'p Program, model: ModelId) -> Option<&'p Info>
+    ensures { option_copied result ≡ info_at program.now model }
+{
+    if model.0 < program.models() {
+        return Some(program.info(model));
+    }
+    None
+}
+
+/// The name of the model with a number.
+fn name_of<'p>(program: &'p Program, model: ModelId) -> &'p [u8]
+    ensures { result.now ≡ model_text program.now model }
+{
+    match info_of(program, model) {
+        Some(info) => info.name.as_slice(),
+        None => b"",
+    }
+}
+
+/// The state variables of the atomic model with a number, or of the network's executive.
+fn states_of<'p>(program: &'p Program, model: ModelId) -> &'p [Field]
+    ensures { result.now ≡ states_at program.now model }
+{
+    match info_of(program, model) {
+        Some(info) => info.states.as_slice(),
+        None => &[],
+    }
+}
+
+/// The in ports of the atomic model with a number, or of the network's executive.
+fn ins_of<'p>(program: &'p Program, model: ModelId) -> &'p [Field]
+    ensures { result.now ≡ ins_at program.now model }
+{
+    match info_of(program, model) {
+        Some(info) if info.network => info.boss_ins.as_slice(),
+        Some(info) => info.ins.as_slice(),
+        None => &[],
+    }
+}
+
+/// The out ports of the model that runs.
+fn top_outs<'p>(program: &'p Program) -> &'p [Field]
+    ensures { result.now ≡ top_outs program.now }
+{
+    match info_of(program, program.top_model()) {
+        Some(info) => info.outs.as_slice(),
+        None => &[],
     }
 }
 
@@ -95,14 +249,15 @@ fn port_text(ports: &[Field], port: u32) -> &[u8]
 }
 
 /// The end of a line: a port and a value at it.
-fn append_at(
+#[tactic(auto, unfolding(crate::specs::Text::passed_text))]
+fn append_passed(
     ports: &[Field],
     port: u32,
     value: &Value,
     types: &Types,
     text: &mut Text,
 ) -> Result<(), Memory>
-    ensures ok { OnOk result (text.new ≡ text.old ++ port_text ports.now port ++ codes " " ++ spelling types.now value.now ++ codes "\n") }
+    ensures ok { OnOk result (text.new ≡ text.old ++ passed_text ports.now types.now port value.now) }
     ensures grows { take (length text.old) text.new ≡ text.old }
 {
     text.extend_from_slice(port_text(ports, port))?;
@@ -120,6 +275,7 @@ fn append_value(value: &Value, types: &Types, text: &mut Text) -> Result<(), Mem
 }
 
 /// The end of a line: a state, and when it is left.
+#[tactic(auto, unfolding(crate::specs::Text::settled_text))]
 fn append_settled(
     states: &[Field],
     state: &[Value],

@@ -1,29 +1,31 @@
 -- A start and a turn: the events that they tell, and what they come to (F. J. Barros, "Abstract
 -- Simulators for the DSDE Formalism", WSC 1998).
-use Rattle.std.specs.Prelude.{ℕ, ◌+◌, ◌≡◌, ◌==◌, min, Bool, false, if◌then◌else◌, List, [], ◌∷◌, ◌++◌, length, filter, map, Option, Some, None, Result, Ok, Err}
+use Rattle.std.specs.Prelude.{ℕ, ◌+◌, ◌==◌, min, Bool, false, if◌then◌else◌, List, [], ◌∷◌, ◌++◌, filter, map, Option, Some, None}
 use Rattle.std.specs.List.{flat_map, range_with_len}
 use Rattle.dsde_values.specs.declared.arrival.Arrival.{Arrival}
 use Rattle.dsde_values.specs.declared.arrival.Item.{Item}
 use Rattle.dsde_values.specs.declared.value.Value.{Value}
 use Rattle.dsde_values.specs.declared.when.When.{When}
 use Rattle.dsde_values.specs.declared.when.When.TheVariants.{At, Never}
+use Rattle.dsde_values.specs.Path.{root}
+use Rattle.dsde_nodes.specs.declared.ids.ModelId.{ModelId}
 use Rattle.dsde_formalism.specs.declared.leaf.Leaf.{Leaf}
 use Rattle.dsde_formalism.specs.declared.leaf.MoveKind.{MoveKind}
 use Rattle.dsde_formalism.specs.System.{Ports, System}
 use Rattle.dsde_formalism.specs.Leaf.{component_of, start_leaf, sent_at, kind_of, move_leaf}
-use Rattle.dsde_turns.specs.declared.event.Event.{Event}
-use Rattle.dsde_turns.specs.declared.event.Event.TheVariants.{AddLeaf, Turn, Out, Get, Move}
+use Rattle.dsde_events.specs.declared.event.Event.{Event}
+use Rattle.dsde_events.specs.declared.event.Event.TheVariants.{AddLeaf, Turn, Out, Get, Move}
 use Rattle.dsde_turns.specs.declared.tree.Step.{Step}
 use Rattle.dsde_turns.specs.declared.tree.Step.TheVariants.{Turned, Quiet}
 use Rattle.dsde_turns.specs.Engine.{Engine, leaf_of, next_of, begun, turned}
-use Rattle.dsde_turns.specs.Told.{Told, at_root, told, quietly, telling, ◌then◌}
+use Rattle.dsde_events.specs.Told.{Told, at, told, quietly, telling, ◌then◌}
 
 -- what the start of the model that runs tells, and the engine after it
 abbrev pub start : System → Told Engine
 start system =
-    quietly (at_root system.top) then (λ chosen.
-    quietly (at_root (start_leaf system chosen.model false chosen.args 0)) then (λ leaf.
-    told (AddLeaf leaf.state leaf.next ∷ []) (begun leaf)))
+    quietly (at root system.top) then (λ chosen.
+    quietly (at root (start_leaf system chosen.model false chosen.args 0)) then (λ leaf.
+    told (AddLeaf root leaf.model leaf.state leaf.next ∷ []) (begun leaf)))
 
 -- what the root sends by one port, in the order in which it was sent
 abbrev pub outs_at : List Item → ℕ → List Event
@@ -41,30 +43,30 @@ values_at items port = map (λ item. item.value) (filter (λ item. item.port == 
 abbrev pub received : ℕ → List Item → Ports
 received ports items = map (values_at items) (range_with_len 0 ports)
 
--- what the root receives at one port
-abbrev pub gets_at : ℕ → List Value → List Event
-gets_at port values = map (λ value. Get port value) values
+-- what the root, of this model, receives at one port
+abbrev pub gets_at : ModelId → ℕ → List Value → List Event
+gets_at model port values = map (λ value. Get root model port value) values
 
 -- what it receives at the ports from this number on
-abbrev pub gets_from : ℕ → Ports → List Event
-gets_from port [] = []
-gets_from port (values ∷ later) = gets_at port values ++ gets_from (port + 1) later
+abbrev pub gets_from : ModelId → ℕ → Ports → List Event
+gets_from model port [] = []
+gets_from model port (values ∷ later) = gets_at model port values ++ gets_from model (port + 1) later
 
--- what the root receives, port by port in declaration order
-abbrev pub gets : Ports → List Event
-gets got = gets_from 0 got
+-- what it receives, port by port in declaration order
+abbrev pub gets : ModelId → Ports → List Event
+gets model got = gets_from model 0 got
 
 -- the output phase: what the root sends
 abbrev pub output_phase : System → Leaf → ℕ → Told (Unit {0})
 output_phase system leaf time =
-    quietly (at_root (sent_at system leaf time)) then (λ sent. told (outs (component_of system leaf).outs sent) tt)
+    quietly (at root (sent_at system leaf time)) then (λ sent. told (outs (component_of system leaf).outs sent) tt)
 
 -- the component receives its input, and takes this transition
 abbrev pub take_move : System → Leaf → MoveKind → ℕ → Ports → Told Leaf
 take_move system leaf kind time got =
-    telling (gets got) (
-    quietly (at_root (move_leaf system leaf kind time got)) then (λ moved.
-    told (Move kind moved.state moved.next ∷ []) moved))
+    telling (gets leaf.model got) (
+    quietly (at root (move_leaf system leaf kind time got)) then (λ moved.
+    told (Move root moved.model kind moved.state moved.next ∷ []) moved))
 
 -- the move phase: a component that is not due and received nothing stays as it is
 abbrev pub move_phase : System → Leaf → ℕ → Ports → Told Leaf

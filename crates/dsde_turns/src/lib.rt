@@ -2,10 +2,6 @@
 //! formalism; no code.
 #![tactic(auto)]
 
-mod event;
-mod fault;
 mod tree;
 
-pub use event::{Event, Finish, InputKind};
-pub use fault::{Fault, TurnEnd};
 pub use tree::{Sim, Step};

@@ -1,6 +1,6 @@
 use Rattle.std.proofs.Common.{◌≡◌, ◌++◌, length}
 use Rattle.std.specs.Vec.Iter.{into_iter_items, into_iter_len}
-use Rattle.dsde_atomic.specs.Body.{lists_of}
+use Rattle.dsde_system.specs.Body.{lists_of}
 use Rattle.dsde_atomic.proofs.moves.put_lists.Given as goal
 
 abbrev pub invariant-loop-values : goal.invariant-loop-values

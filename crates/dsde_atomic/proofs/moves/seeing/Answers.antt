@@ -2,7 +2,7 @@ use Rattle.std.proofs.Common.{◌≡◌, ◌++◌, ◌∷◌, [], List, pos, len
 use Rattle.dsde_values.specs.declared.value.Value.{Value}
 use Rattle.dsde_values.specs.declared.value.Value.TheVariants as value
 use Rattle.dsde_formalism.specs.System.{Ports}
-use Rattle.dsde_atomic.specs.Body.{is_flooded, lists_of}
+use Rattle.dsde_system.specs.Body.{is_flooded, lists_of}
 use Rattle.dsde_atomic.proofs.Outer.{sees-can, sees-ok, sees-end, sees-fits}
 use Rattle.dsde_atomic.proofs.Phases.{resized}
 use Rattle.dsde_atomic.proofs.moves.seeing.Goals as goal

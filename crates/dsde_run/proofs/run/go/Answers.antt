@@ -1,7 +1,7 @@
 use Rattle.std.proofs.Common.{◌≡◌, ◌+◌, ◌-◌, [], ◌++◌, true, false, None, zero, suc, refl, ap, sym, subst, ◌∙◌, arith}
 use Rattle.std.specs.Prelude.{IfSome, IfOk}
 use Rattle.std.proofs.lemmas.Result.{IfOk-weaker}
-use Rattle.dsde_turns.specs.declared.event.Finish.TheVariants as how
+use Rattle.dsde_events.specs.declared.event.Finish.TheVariants as how
 use Rattle.dsde_trace.specs.Text.{end_text}
 use Rattle.dsde_run.specs.Run.{trace_text}
 use Rattle.dsde_run.specs.Heads.{Comes, IsReady, Refused, behind_head, passed}

@@ -1,12 +1,12 @@
 use Rattle.std.proofs.Common.{Ok, Err}
 use Rattle.dsde_syntax.specs.declared.decl.Model.{Model}
-use Rattle.dsde_atomic.specs.Program.{system}
-use Rattle.dsde_turns.specs.Told as step
+use Rattle.dsde_system.specs.Program.{system}
+use Rattle.dsde_events.specs.Told as step
 use Rattle.dsde_turns.specs.Turn as turning
 use Rattle.std.proofs.Common.{◌≡◌, ◌++◌, ap, subst, sym, ◌∙◌}
 use Rattle.std.specs.Prelude.{IfSome}
 use Rattle.std.proofs.lemmas.Result.{IfOk-weaker}
-use Rattle.dsde_turns.specs.declared.event.Finish.TheVariants as how
+use Rattle.dsde_events.specs.declared.event.Finish.TheVariants as how
 use Rattle.dsde_trace.specs.Text.{end_text}
 use Rattle.dsde_run.specs.Run.{trace_text}
 use Rattle.dsde_run.specs.Run.{start}

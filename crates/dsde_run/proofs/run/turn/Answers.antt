@@ -1,8 +1,8 @@
 use Rattle.std.proofs.Common.{Ok, Err}
 use Rattle.std.specs.Prelude.{IfOk, IfErr}
 use Rattle.dsde_syntax.specs.declared.decl.Model.{Model}
-use Rattle.dsde_atomic.specs.Program.{system}
-use Rattle.dsde_turns.specs.Told as step
+use Rattle.dsde_system.specs.Program.{system}
+use Rattle.dsde_events.specs.Told as step
 use Rattle.dsde_turns.specs.Turn as turning
 use Rattle.dsde_turns.specs.Engine.{next_of}
 use Rattle.std.proofs.Common.{◌≡◌, Bool, ◌+◌, ◌++◌, unwrap_or, ◌∙◌, ap, sym, subst}

@@ -1,8 +1,8 @@
 use Rattle.std.proofs.Common.{[], ◌∷◌}
 use Rattle.std.proofs.lemmas.Result.{err_from_is_err_and}
 use Rattle.dsde_formalism.specs.Leaf.{component_of}
-use Rattle.dsde_atomic.specs.Program.{system}
-use Rattle.dsde_turns.specs.declared.event.Event.TheVariants.{Turn}
+use Rattle.dsde_system.specs.Program.{system}
+use Rattle.dsde_events.specs.declared.event.Event.TheVariants.{Turn}
 use Rattle.dsde_turns.specs.Turn.{output_phase, move_phase, received}
 use Rattle.dsde_sim.proofs.Telling.{Tells-telling_then}
 use Rattle.dsde_sim.proofs.phases.turn.Goals as goal

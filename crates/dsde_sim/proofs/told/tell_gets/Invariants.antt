@@ -4,5 +4,5 @@ use Rattle.dsde_sim.proofs.told.tell_gets.Given as goal
 
 abbrev pub invariant-loop-port : goal.invariant-loop-port
 invariant-loop-port l =
-    (l.events ++ gets_from l.port (drop l.port l.got) ≡ l.initial.events ++ gets l.got)
+    (l.events ++ gets_from l.model l.port (drop l.port l.got) ≡ l.initial.events ++ gets l.model l.got)
     × (take (length l.initial.events) l.events ≡ l.initial.events)

@@ -1,6 +1,6 @@
 use Rattle.std.proofs.Common.{ap, sym, subst, IfSome, rules}
 use Rattle.std.specs.Option.{option_copied}
-use Rattle.dsde_atomic.specs.Fitting.{FitsLeaf}
+use Rattle.dsde_system.specs.Fitting.{FitsLeaf}
 use Rattle.dsde_turns.specs.Engine.{leaf_of}
 use Rattle.dsde_sim.specs.Working.{Comes, HeadComes}
 use Rattle.dsde_sim.proofs.Coming.{fits_taken, fits_kept}

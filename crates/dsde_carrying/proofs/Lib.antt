@@ -1,0 +1,4 @@
+mod Naming
+mod Sources
+mod Translating
+mod Gathering

@@ -1,0 +1,97 @@
+//! Structures.
+
+ghost use Rattle.std.specs.Prelude.{◌≡◌, ◌++◌, true, IfOk, OnOk};
+ghost use Rattle.dsde_functions.specs.Coded.{coded_of};
+ghost use Rattle.dsde_evaluator.specs.Evaluating as evaluating;
+ghost use Rattle.dsde_planner.specs.declared.planner.Planner.{Planner};
+ghost use Rattle.dsde_standing.specs.Structures.{StructuresStand};
+ghost use Rattle.dsde_layouts.specs.Agreement.{StructuresAgree};
+ghost use Rattle.dsde_formalism.specs.Leaf.{Gives};
+ghost use Rattle.dsde_system.specs.Program.{system};
+ghost use Rattle.dsde_system.specs.Fitting.{FitsArgs, FitsState};
+ghost use Rattle.dsde_executive.specs.Structure.{in_structure, IsPlan};
+
+use dsde_evaluator::Evaluator;
+use dsde_faults::EvalEnd;
+use dsde_layouts::structures_agree;
+use dsde_lists::Memory;
+use dsde_nodes::ModelId;
+use dsde_planner::Planner;
+use dsde_program::Program;
+use dsde_standing::structures_stand;
+use dsde_structure::Plan;
+use dsde_values::{Seq, Value, Values, copy_value};
+use std::alloc::Global;
+
+/// The height that no expression of a structure exceeds in which nothing is wrong.
+const GREATEST_HEIGHT: u32 = 512;
+
+/// Laws: the structures of a model in which nothing is wrong stand at their numbers, and give in
+/// tables the plans that they give over names, which fit their networks.
+fn laws()
+    ensures stand { StructuresStand }
+    ensures agree { StructuresAgree }
+{
+    structures_stand();
+    structures_agree();
+}
+
+/// What plans the structures of a program.
+fn planner<'p>(alloc: Global, program: &'p Program) -> Planner<'p>
+    ensures coded { evaluating.coded_of result.evaluator ≡ coded_of program.now }
+    ensures depth { result.depth ≡ 512 }
+{
+    let evaluator = Evaluator {
+        alloc,
+        tables: program.tables(),
+        functions: program.functions(),
+    };
+    Planner {
+        evaluator,
+        depth: GREATEST_HEIGHT,
+    }
+}
+
+/// Appends copies of values.
+fn append(alloc: Global, values: &[Value], slots: &mut Values) -> Result<(), Memory>
+    ensures { OnOk result (slots.new ≡ slots.old ++ values.now) }
+{
+    for value in values {
+        slots.push(copy_value(alloc, value)?)?;
+    }
+    Ok(())
+}
+
+/// What a structure sees: the arguments, and the state behind them.
+fn slots_of(alloc: Global, args: &Values, state: &Values) -> Result<Values, Memory>
+    ensures { IfOk result (λ slots. slots ≡ args.now ++ state.now) }
+{
+    let mut slots = Seq::new(alloc);
+    append(alloc, args.as_slice(), &mut slots)?;
+    append(alloc, state.as_slice(), &mut slots)?;
+    Ok(slots)
+}
+
+/// The structure of a network with these arguments in this state of its executive: its components in
+/// the order of their names, which are distinct, with arguments of their parameters' types, and its
+/// links in the order in which the structure gives them, between ports that there are, none from the
+/// network to itself. Or the first fault with its place.
+pub fn structure(
+    alloc: Global,
+    program: &Program,
+    model: ModelId,
+    args: &Values,
+    state: &Values,
+) -> Result<Plan, EvalEnd>
+    requires network { (system program.now).is_network model ≡ true }
+    requires args { FitsArgs program.now model.0 args.now }
+    requires state { FitsState program.now model.0 state.now }
+    ensures gives { Gives (((system program.now).network model args.now).structure state.now) (in_structure result) }
+    ensures fits { IfOk result (λ plan. IsPlan program.now model.0 plan) }
+{
+    laws();
+    program.right();
+    let mut slots = slots_of(alloc, args, state)?;
+    let makes = program.makes(model);
+    planner(alloc, program).plan(makes.as_slice(), &mut slots)
+}

@@ -1,0 +1,4 @@
+pub mod Asks
+pub mod Fits
+pub mod Going
+pub mod Sending

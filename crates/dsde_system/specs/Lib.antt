@@ -1,0 +1,4 @@
+pub mod Body
+pub mod Program
+pub mod Fitting
+pub mod Plans

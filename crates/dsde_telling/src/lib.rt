@@ -1,0 +1,8 @@
+//! What a step of the tree tells, event by event, and the paths at which it does.
+#![tactic(auto)]
+
+mod paths;
+mod tell;
+
+pub use paths::{at, below, boss_of, copy_values};
+pub use tell::{tell_drop, tell_gets, tell_leaf, tell_move, tell_net, tell_outs};

@@ -1,0 +1,6 @@
+pub mod Tree
+pub mod Output
+pub mod Start
+pub mod Move
+pub mod Spots
+pub mod Opened
