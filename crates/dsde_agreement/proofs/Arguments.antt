@@ -11,8 +11,8 @@ use Rattle.dsde_meaning.specs.Outcome.{Outcome, ◌>>=◌}
 use Rattle.dsde_meaning.specs.Meaning.{Mean}
 use Rattle.dsde_meaning.specs.Tables.{Means, means_in, node_mean}
 use Rattle.dsde_meaning.specs.Typed.{Typed, Sound, values_in}
-use Rattle.dsde_agreement.proofs.Standing.{stands-left, stands-right}
-use Rattle.dsde_agreement.proofs.Steps.{sound-then, same-then}
+use Rattle.dsde_typing.specs.Standing.{stands-left, stands-right}
+use Rattle.dsde_typing.specs.Outcomes.{sound-then, same-then}
 use Rattle.dsde_agreement.proofs.At.{Ground, At, node-reads}
 
 module _ (g : Ground) (slots : List Field) (own : List ExprId → Node) (kind : List Field → Ty) (u : Ty) (is : kind slots ≡ u) (n : ℕ) where

@@ -24,10 +24,11 @@ use Rattle.dsde_meaning.specs.Meaning.{Vars, Mean, ArmMean, Function, mean_step}
 use Rattle.dsde_meaning.specs.Tables.{Coded, means_in, arms_from}
 use Rattle.dsde_meaning.specs.Typed.{Typed, Sound, Fits, values_in}
 use Rattle.dsde_meaning.specs.Scopes.{Stands, Sees}
-use Rattle.dsde_agreement.proofs.Standing.{stands-left, stands-right}
-use Rattle.dsde_agreement.proofs.Steps.{went, ok-is, Any, sound-then, sound-if, same-then}
-use Rattle.dsde_agreement.proofs.Types.{wanted-is}
-use Rattle.dsde_agreement.proofs.Values.{truth-sound}
+use Rattle.dsde_typing.specs.Standing.{stands-left, stands-right}
+use Rattle.dsde_typing.specs.Steps.{went, ok-is}
+use Rattle.dsde_typing.specs.Outcomes.{Any, sound-then, sound-if, same-then}
+use Rattle.dsde_typing.specs.Types.{wanted-is}
+use Rattle.dsde_typing.specs.Values.{truth-sound}
 use Rattle.dsde_agreement.proofs.At.{Ground, ground, At, at-typed, at-higher, at-seen, node-reads}
 use Rattle.dsde_agreement.proofs.Parts.{Agreed}
 

@@ -18,8 +18,9 @@ use Rattle.dsde_meaning.specs.Meaning.{Vars, Mean}
 use Rattle.dsde_meaning.specs.Tables.{Coded, Means, means_in, node_mean, node_at}
 use Rattle.dsde_meaning.specs.Typed.{Typed, Sound, Fits, values_in}
 use Rattle.dsde_meaning.specs.Scopes.{Stands}
-use Rattle.dsde_agreement.proofs.Standing.{stands-head, stands-tail, stands-left, stands-right}
-use Rattle.dsde_agreement.proofs.Steps.{went, ok-is, unless-is, no-fault, sound-then, same-then}
+use Rattle.dsde_typing.specs.Standing.{stands-head, stands-tail, stands-left, stands-right}
+use Rattle.dsde_typing.specs.Steps.{went, ok-is, unless-is}
+use Rattle.dsde_typing.specs.Outcomes.{sound-then, same-then}
 
 -- the types of values, the tables of nodes, and whether there is always a value
 pub record Ground : Type 0 where
@@ -54,6 +55,11 @@ pub made-is : (around : Around) (t : Ty) (height at : ℕ) (seen : Seen) → mad
 made-is around t height at seen h = (went (unless (nat_lt 64 (depth_of around.known.depths t)) Limit at) _ seen h).next
 
 -- where a fault is refused, there is none
+-- where a fault is refused, there is none
+no-fault : (total : Bool) → (total && true) ≡ false → total ≡ false
+no-fault true h = h
+no-fault false h = refl
+
 pub never-total : (around : Around) (at : ℕ) (u : Unit {0}) → total around true at ≡ Ok u → around.is_total ≡ false
 never-total around at u h = no-fault around.is_total (unless-is (around.is_total && true) NotTotal at u h)
 

@@ -1,5 +1,6 @@
 -- Builtins, by the rows of their table.
 use Rattle.std.proofs.Common.{◌≡◌, ℕ, ◌==◌, ◌≤◌, max, Bool, true, false, not, List, [], ◌∷◌, map, length, Ok, refl, sym, ◌∙◌, ap, subst, arith}
+use Rattle.std.proofs.lemmas.Bool.{not-false, eqb-true}
 use Rattle.dsde_words.specs.declared.key.Key.{Key}
 use Rattle.dsde_words.specs.declared.key.Key.TheVariants as key
 use Rattle.dsde_syntax.specs.declared.expr.Expr.TheOpen.{Expr-F}
@@ -34,13 +35,12 @@ use Rattle.dsde_meaning.specs.Meaning.{Function, Mean, mean_step}
 use Rattle.dsde_meaning.specs.Tables.{Coded, Means, node_mean}
 use Rattle.dsde_meaning.specs.Typed.{Typed}
 use Rattle.dsde_meaning.specs.Scopes.{Sees}
-use Rattle.dsde_agreement.proofs.Steps.{went, well, ok-is, unless-is, not-true}
-use Rattle.dsde_agreement.proofs.Types.{same-number, wanted-is, item-is, held-is}
-use Rattle.dsde_agreement.proofs.Values.{typed-some}
+use Rattle.dsde_typing.specs.Steps.{went, well, ok-is, unless-is}
+use Rattle.dsde_typing.specs.Types.{wanted-is, item-is, held-is, item-in-list, held-in-opt}
+use Rattle.dsde_typing.specs.Values.{typed-some}
 use Rattle.dsde_agreement.proofs.At.{Ground, ground, At, at-typed, at-higher, at-seen, made-is, never-total}
 use Rattle.dsde_agreement.proofs.Operators.{Fine}
 use Rattle.dsde_agreement.proofs.BuiltinValues.{len-sound, is-some-sound, min-sound, max-sound, range-sound, push-sound, take-sound, skip-sound, put-sound}
-use Rattle.dsde_agreement.proofs.Fields.{item-in-list, held-in-opt}
 use Rattle.dsde_agreement.proofs.Arguments.{argument, two_arguments, three_arguments}
 use Rattle.dsde_agreement.proofs.Parts.{Agreed}
 
@@ -99,7 +99,7 @@ judged around own at args scope found h =
     let w2 = went (fit_parts args own.parts ty.Int 0 scope) _ found w1.next in
     let w3 = went (total around own.may_fault at) _ found w2.next in
     record {
-      long = same-number (length args) (length own.parts) (not-true (length args == length own.parts) (unless-is (not (length args == length own.parts)) WrongType at w1.value w1.first));
+      long = eqb-true (length args) (length own.parts) (not-false (length args == length own.parts) (unless-is (not (length args == length own.parts)) WrongType at w1.value w1.first));
       fits = w2.value;
       first = w2.first;
       one = w3.value;

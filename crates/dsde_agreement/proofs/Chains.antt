@@ -27,12 +27,12 @@ use Rattle.dsde_meaning.specs.Meaning.{Mean, field_named}
 use Rattle.dsde_meaning.specs.Tables.{Coded, field_at}
 use Rattle.dsde_meaning.specs.Typed.{Typed, Sound}
 use Rattle.dsde_meaning.specs.Scopes.{Sees, Within}
-use Rattle.dsde_agreement.proofs.Steps.{went, ok-is}
-use Rattle.dsde_agreement.proofs.Types.{wanted-is, item-is, held-is}
+use Rattle.dsde_typing.specs.Steps.{went, ok-is}
+use Rattle.dsde_typing.specs.Types.{wanted-is, item-is, held-is, item-in-list, held-in-opt}
 use Rattle.dsde_agreement.proofs.At.{Ground, ground, At, at-typed, at-seen, made-is, never-total, one-at, two-at}
 use Rattle.dsde_agreement.proofs.Operators.{Fine, or-sound, and-sound, unwrapped-sound, indexed-sound}
 use Rattle.dsde_agreement.proofs.Signs.{Takes, makes, is_operator}
-use Rattle.dsde_agreement.proofs.Fields.{item-in-list, held-in-opt, FieldIs, field-is, FieldValue, field-value, field-type, whole-fields}
+use Rattle.dsde_agreement.proofs.Fields.{FieldIs, field-is, FieldValue, field-value, field-type, whole-fields}
 use Rattle.dsde_agreement.proofs.Parts.{Agreed}
 
 -- a link of a chain, over whatever stands before it

@@ -1,7 +1,5 @@
 -- A comprehension.
-use Rattle.std.proofs.Common.{◌≡◌, ◌≢◌, ℕ, ◌+◌, ◌≤◌, max, Bool, true, false, if◌then◌else◌, List, [], ◌∷◌, ◌++◌, length, Option, Some, None, Ok, refl, sym, ◌∙◌, ap, subst, arith, append_assoc}
-use Rattle.std.specs.Str.{bytes_eq}
-use Rattle.std.specs.Cmp.Lexicographic.{bytes_decides}
+use Rattle.std.proofs.Common.{◌≡◌, ℕ, ◌+◌, ◌≤◌, max, Bool, true, false, if◌then◌else◌, List, [], ◌∷◌, ◌++◌, length, Option, Some, None, Ok, refl, sym, ◌∙◌, ap, subst, arith, append_assoc}
 use Rattle.std.proofs.lemmas.List.{length-append, map-append}
 use Rattle.dsde_names.specs.Table.{is_among}
 use Rattle.dsde_syntax.specs.declared.expr.Expr.TheOpen.{Expr-F}
@@ -15,14 +13,13 @@ use Rattle.dsde_values.specs.declared.value.Value.TheVariants as value
 use Rattle.dsde_rules.specs.declared.known.Around.{Around}
 use Rattle.dsde_rules.specs.declared.known.Known.{Known}
 use Rattle.dsde_rules.specs.declared.seen.Seen.{Seen}
-use Rattle.dsde_rules.specs.declared.wrong.WrongKind.TheVariants.{Duplicate}
-use Rattle.dsde_rules.specs.Steps.{above, apart}
+use Rattle.dsde_rules.specs.Steps.{above}
 use Rattle.dsde_rules.specs.Types.{wanted, item_type}
-use Rattle.dsde_rules.specs.Tables.{binding_name}
+use Rattle.dsde_rules.specs.Tables.{field_name}
 use Rattle.dsde_rules.specs.Judge.{Scope, Judge, guarded, test_of, judge_step, fresh, fixed, made}
 use Rattle.dsde_nodes.specs.declared.node.Node.{Node}
 use Rattle.dsde_nodes.specs.declared.node.Node.TheVariants as node
-use Rattle.dsde_nodes.specs.Typing.{elapsed_name, with_slot, item_in}
+use Rattle.dsde_nodes.specs.Typing.{with_slot, item_in}
 use Rattle.dsde_nodes.specs.Expressions.{Resolved, resolve_step, expr_id, cond_nodes, cond_number}
 use Rattle.dsde_meaning.specs.Outcome.{Outcome, ◌>>=◌, truth_of, items_of}
 use Rattle.dsde_meaning.specs.Meaning.{Var, Vars, Mean, Function, mean_step, with_var, holds, kept_of, each_of}
@@ -30,12 +27,13 @@ use Rattle.dsde_meaning.specs.Tables.{Coded, means_in, holds_at, kept_from, each
 use Rattle.dsde_meaning.specs.Proper.{is_plain}
 use Rattle.dsde_meaning.specs.Typed.{Typed, Sound, Fits, values_in}
 use Rattle.dsde_meaning.specs.Scopes.{Stands, Sees}
-use Rattle.dsde_agreement.proofs.Standing.{stands-left, stands-right}
-use Rattle.dsde_agreement.proofs.Steps.{went, ok-is, unless-is, not-false, Any, sound-then, sound-if, same-then}
-use Rattle.dsde_agreement.proofs.Types.{wanted-is, item-is}
-use Rattle.dsde_agreement.proofs.Values.{AllHave, IsList, all-cons, all-snoc, typed-list, truth-sound, items-sound}
-use Rattle.dsde_agreement.proofs.Fields.{item-in-list}
-use Rattle.dsde_agreement.proofs.Seeing.{fits-snoc, slot, slot-added, sees-more}
+use Rattle.dsde_typing.specs.Standing.{stands-left, stands-right}
+use Rattle.dsde_typing.specs.Steps.{went, ok-is}
+use Rattle.dsde_typing.specs.Outcomes.{Any, sound-then, sound-if, same-then}
+use Rattle.dsde_typing.specs.Types.{wanted-is, item-is, item-in-list}
+use Rattle.dsde_typing.specs.Values.{AllHave, IsList, all-cons, all-snoc, typed-list, truth-sound, items-sound}
+use Rattle.dsde_typing.specs.Fitting.{fits-snoc, field_of}
+use Rattle.dsde_typing.specs.Seeing.{sees-snoc, fresh-new, slot-behind}
 use Rattle.dsde_agreement.proofs.At.{Ground, ground, At, at-typed, at-higher, at-seen, made-is, node-reads}
 use Rattle.dsde_agreement.proofs.Parts.{Agreed}
 
@@ -192,13 +190,6 @@ module _ (g : Ground) (name : List ℕ) (slots inside : List Field) (t u : Ty) (
         (each-read items [] vars second third depth fits h.have (stands-left g.coded.nodes second two three there) (stands-right g.coded.nodes second two three there) (omega (arith, least)) low))));
   }
 
-plain-is : (id : Id) → is_plain id ≡ true → id.name ≢ elapsed_name
-plain-is id h e = absurd (false-true (bytes_eq id.name elapsed_name) (not-false (bytes_eq id.name elapsed_name) h) ((bytes_decides id.name elapsed_name).1 e))
-  where
-    false-true : (b : Bool) → b ≡ false → b ≡ true → ⊥
-    false-true true h k = cc
-    false-true false h k = cc
-
 pub each-agreed : (types : Types) (coded : Coded) (around : Around) (whole : Known) (functions : List Function) (at : ℕ) (name : Id) (j1 : Judge) (jc : Option Judge) (j2 : Judge) (r1 : Resolved) (rc : Option Resolved) (r2 : Resolved) (m1 : Mean) (mc : Option Mean) (m2 : Mean)
     → is_plain name ≡ true → Agreed (ground types coded around) around.has_elapsed j1 r1 m1 → CondAgreed (ground types coded around) around.has_elapsed jc rc mc → Agreed (ground types coded around) around.has_elapsed j2 r2 m2
     → Agreed (ground types coded around) around.has_elapsed (judge_step around (Expr-F.Each at name j1 jc j2)) (resolve_step whole (Expr-F.Each at name r1 rc r2)) (mean_step whole functions (Expr-F.Each at name m1 mc m2))
@@ -206,13 +197,12 @@ each-agreed types coded around whole functions at name j1 jc j2 r1 rc r2 m1 mc m
   holds = λ scope slots found h sees.
       let g : Ground = ground types coded around in
       let w1 = went (fresh around name scope) _ found h in
-      let w2 = went (apart around.reserved name) _ w1.value w1.first in
-      let none : is_among binding_name scope name.name ≡ false = unless-is (is_among binding_name scope name.name) Duplicate name.at w1.value w2.next in
+      let new : is_among field_name slots name.name ≡ false = fresh-new around.has_elapsed scope slots sees around name w1.value w1.first plain in
       let w3 = went (j1 scope) _ found w1.next in
       let w4 = went (item_type w3.value) _ found w3.next in
       let t : Ty = w4.value in
       let more : Scope = scope ++ fixed name t ∷ [] in
-      let inside : List Field = slots ++ slot name.name t ∷ [] in
+      let inside : List Field = slots ++ field_of name.name t ∷ [] in
       let w5 = went (guarded jc j2 w3.value.height more) _ found w4.next in
       let w6 = went (test_of jc w3.value.height more) _ w5.value w5.first in
       let w7 = went (j2 more) _ w5.value w6.next in
@@ -221,17 +211,17 @@ each-agreed types coded around whole functions at name j1 jc j2 r1 rc r2 m1 mc m
       let e : all ≡ w5.value = ok-is all w5.value w7.next in
       let u : Ty = w7.value.ty in
       let last : made around (ty.List u) n at ≡ Ok found = subst (λ (s : Seen). made around (ty.List s.ty) s.height at ≡ Ok found) (sym e) w5.next in
-      let own : Sees around.has_elapsed more inside = sees-more around.has_elapsed scope slots (fixed name t) none (plain-is name plain) sees in
+      let own : Sees around.has_elapsed more inside = sees-snoc around.has_elapsed scope slots sees (fixed name t) new in
       let one = at-typed g r1 m1 slots w3.value.ty (ty.List t) w3.value.height (item-is w3.value t w4.first) (p1.holds scope slots w3.value w3.first sees) in
       let cond = pc.tests w3.value.height w6.value more inside w6.first own in
       let high : w3.value.height ≤ w6.value = cond.high in
       let two = p2.holds more inside w7.value w7.first own in
       let bound : with_slot slots name.name (item_in (r1.ty slots)) ≡ inside =
-      ap (λ (x : Ty). with_slot slots name.name x) (ap item_in one.ty ∙ item-in-list t) ∙ slot-added slots name.name t (sees.unseen name.name none (plain-is name plain)) in
+      ap (λ (x : Ty). with_slot slots name.name x) (ap item_in one.ty ∙ item-in-list t) ∙ slot-behind slots name.name t new in
       at-seen g (resolve_step whole (Expr-F.Each at name r1 rc r2)) (mean_step whole functions (Expr-F.Each at name m1 mc m2)) slots (ty.List u) n at found (made-is around (ty.List u) n at found last)
-      (each-at g name.name slots inside t u n rc mc r2 m2 (λ vars item fits typed. fits-snoc types vars slots name.name item t fits typed)
+      (each-at g name.name slots inside t u n rc mc r2 m2 (λ vars item fits typed. fits-snoc types vars slots name.name t item fits typed)
       (cond-higher g rc mc inside w6.value n (omega arith) cond.cond) (at-higher g r2 m2 inside u w7.value.height n (omega arith) two)
       (resolve_step whole (Expr-F.Each at name r1 rc r2)) r1 m1 (ap (λ (l : List Field). ty.List (r2.ty l)) bound ∙ ap ty.List two.ty)
-      (λ start. ap (λ (l : List Field). nodes_in g name.name slots inside t u n rc mc r2 m2 (λ vars item fits typed. fits-snoc types vars slots name.name item t fits typed) (cond-higher g rc mc inside w6.value n (omega arith) cond.cond) (at-higher g r2 m2 inside u w7.value.height n (omega arith) two) r1 l start) bound)
+      (λ start. ap (λ (l : List Field). nodes_in g name.name slots inside t u n rc mc r2 m2 (λ vars item fits typed. fits-snoc types vars slots name.name t item fits typed) (cond-higher g rc mc inside w6.value n (omega arith) cond.cond) (at-higher g r2 m2 inside u w7.value.height n (omega arith) two) r1 l start) bound)
       (at-higher g r1 m1 slots (ty.List t) w3.value.height n (omega (arith, high)) one));
 }

@@ -2,6 +2,7 @@
 use Rattle.std.proofs.Common.{◌≡◌, ℕ, zero, suc, ◌==◌, Bool, true, false, ◌&&◌, List, [], ◌∷◌, map, Option, Some, None, Result, Ok, Err, refl, sym, ◌∙◌, ap, subst, slice_get}
 use Rattle.std.specs.Prelude.{unwrap_or, option_and_then}
 use Rattle.std.specs.Option.{option_map_or}
+use Rattle.std.proofs.lemmas.Bool.{eqb-true}
 use Rattle.dsde_names.specs.Table.{place_of, named}
 use Rattle.dsde_syntax.specs.declared.id.Id.{Id}
 use Rattle.dsde_values.specs.declared.types.Field.{Field}
@@ -9,7 +10,7 @@ use Rattle.dsde_values.specs.declared.types.Shape.{Shape}
 use Rattle.dsde_values.specs.declared.types.Ty.{Ty, Ty-F, out-Ty, roll-Ty}
 use Rattle.dsde_values.specs.declared.types.Ty.TheOpen as open_ty
 use Rattle.dsde_values.specs.declared.types.Ty.TheVariants as ty
-use Rattle.dsde_values.specs.declared.types.Ty.TheViews.{roll-out-Ty, rolls-Rec, outs-Rec as ty_Rec, outs-List as ty_List, outs-Opt as ty_Opt}
+use Rattle.dsde_values.specs.declared.types.Ty.TheViews.{roll-out-Ty, rolls-Rec, outs-Rec as ty_Rec}
 use Rattle.dsde_values.specs.declared.types.Types.{Types}
 use Rattle.dsde_values.specs.declared.value.Value.{Value, Value-F, out-Value, map-Value}
 use Rattle.dsde_values.specs.declared.value.Value.TheOpen as layer
@@ -22,22 +23,16 @@ use Rattle.dsde_rules.specs.declared.wrong.WrongKind.TheVariants.{Unknown, Wrong
 use Rattle.dsde_rules.specs.Steps.{wrong}
 use Rattle.dsde_rules.specs.Tables.{field_name}
 use Rattle.dsde_rules.specs.Judge.{fields_at, fields_of, field_in, field_of}
-use Rattle.dsde_nodes.specs.Typing.{slot_of, slot_type, fields_in, field_number, field_type, item_in, held_in}
+use Rattle.dsde_nodes.specs.Typing.{slot_of, slot_type, fields_in, field_number, field_type}
 use Rattle.dsde_meaning.specs.Outcome.{Stuck, Outcome, ◌>>=◌, present}
 use Rattle.dsde_meaning.specs.Meaning.{part_named, field_named}
 use Rattle.dsde_meaning.specs.Tables.{field_at}
 use Rattle.dsde_meaning.specs.Typed.{Typed}
 use Rattle.dsde_meaning.specs.Scopes.{Within}
-use Rattle.dsde_agreement.proofs.Steps.{ok-is, and-left, and-right}
-use Rattle.dsde_agreement.proofs.Types.{same-number}
-use Rattle.dsde_agreement.proofs.Values.{by_layer}
-use Rattle.dsde_agreement.proofs.Named.{Placed, placed}
-
-pub item-in-list : (t : Ty) → item_in (ty.List t) ≡ t
-item-in-list t = ap (λ (u : Ty-F Ty). elim u [ open_ty.List inner ↦ inner | _ ↦ ty.Int ]) (ty_List t)
-
-pub held-in-opt : (t : Ty) → held_in (ty.Opt t) ≡ t
-held-in-opt t = ap (λ (u : Ty-F Ty). elim u [ open_ty.Opt inner ↦ inner | _ ↦ ty.Int ]) (ty_Opt t)
+use Rattle.dsde_typing.specs.Steps.{ok-is}
+use Rattle.dsde_typing.specs.Truths.{and-left, and-right}
+use Rattle.dsde_typing.specs.Values.{by_layer}
+use Rattle.dsde_typing.specs.Places.{Placed, placed}
 
 -- the fields of a record type
 pub fields-of-rec : (known : Known) (number : ℕ) → fields_of known (ty.Rec number) ≡ fields_at known number
@@ -91,7 +86,7 @@ pub record IsRec (types : Types) (number : ℕ) (fields : List Field) (w : Value
 rec-parts : (types : Types) (number : ℕ) (fields : List Field) → values.fields_at types number ≡ Some fields → (own : ℕ) (parts : List Value)
     → ((own == number) && option_map_or (values.fill (map (has_type types) parts)) (values.fields_at types number) false) ≡ true → IsRec types number fields (layer.Rec own parts)
 rec-parts types number fields at own parts h =
-    let e : own ≡ number = same-number own number (and-left (own == number) (option_map_or (values.fill (map (has_type types) parts)) (values.fields_at types number) false) h) in
+    let e : own ≡ number = eqb-true own number (and-left (own == number) (option_map_or (values.fill (map (has_type types) parts)) (values.fields_at types number) false) h) in
     record {
       parts = parts;
       is = ap (λ (n : ℕ). layer.Rec n parts) e;
@@ -152,14 +147,14 @@ module _ (types : Types) (whole : Known) (number : ℕ) (fields : List Field) (n
   pub field-value : values.fields_at types number ≡ Some fields → (v : Value) → Typed types (ty.Rec number) v → FieldValue types whole number name field.ty v
   field-value of v typed =
       let rec : IsRec types number fields (out-Value v) = rec-is types number fields of v typed in
-      let p : Placed (place_of field_name fields name) fields field = placed (place_of field_name fields name) fields field found in
-      let part : PartIs types rec.parts p.place field.ty = fill-part types rec.parts fields rec.fill p.place field p.is in
-      let k : field_number whole (ty.Rec number) name ≡ p.place = ap (λ (l : List Field). slot_of l name) fields-in ∙ ap (λ (o : Option ℕ). unwrap_or o 0) p.at in
+      let p : Placed field_name fields name field = placed field_name fields name field found in
+      let part : PartIs types rec.parts p.place field.ty = fill-part types rec.parts fields rec.fill p.place field p.at in
+      let k : field_number whole (ty.Rec number) name ≡ p.place = ap (λ (l : List Field). slot_of l name) fields-in ∙ ap (λ (o : Option ℕ). unwrap_or o 0) p.found in
       record {
         own = part.own;
         named = ap (λ (w : Value-F Value). layer_named whole name w) rec.is
             ∙ ap (λ (o : Option (List Field)). present (place_of field_name (unwrap_or o []) name) >>= (λ place. present (slice_get rec.parts place))) at
-            ∙ ap (λ (o : Option ℕ). present o >>= (λ place. present (slice_get rec.parts place))) p.at
+            ∙ ap (λ (o : Option ℕ). present o >>= (λ place. present (slice_get rec.parts place))) p.found
             ∙ ap (λ (o : Option Value). present o) part.is;
         numbered = ap (λ (n : ℕ). field_at n v) k
             ∙ ap (λ (w : Value-F Value). layer_parts w >>= (λ parts. present (slice_get parts p.place))) rec.is

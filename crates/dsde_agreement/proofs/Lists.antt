@@ -3,6 +3,7 @@ use Rattle.std.proofs.Common.{◌≡◌, ℕ, ◌+◌, ◌==◌, min, Bool, true
 use Rattle.std.specs.Prelude.{unwrap_or}
 use Rattle.std.specs.List.{list_any}
 use Rattle.std.specs.Str.{bytes_eq}
+use Rattle.std.proofs.lemmas.Bool.{not-false, eqb-true}
 use Rattle.dsde_names.specs.Table.{named}
 use Rattle.dsde_syntax.specs.declared.expr.Expr.TheOpen.{Expr-F}
 use Rattle.dsde_syntax.specs.declared.id.Id.{Id}
@@ -29,13 +30,12 @@ use Rattle.dsde_meaning.specs.Meaning.{Function, Mean, mean_step, called}
 use Rattle.dsde_meaning.specs.Tables.{Coded, called_at}
 use Rattle.dsde_meaning.specs.Typed.{Typed, Sound}
 use Rattle.dsde_meaning.specs.Scopes.{Sees, Within, IsDeclared, Serve, Calls}
-use Rattle.dsde_agreement.proofs.Steps.{went, unless-is, not-true}
-use Rattle.dsde_agreement.proofs.Types.{same-number}
-use Rattle.dsde_agreement.proofs.Values.{typed-enum, typed-rec, typed-list, typed-nothing}
+use Rattle.dsde_typing.specs.Steps.{went, unless-is}
+use Rattle.dsde_typing.specs.Values.{typed-enum, typed-rec, typed-list, typed-nothing}
 use Rattle.dsde_agreement.proofs.At.{Ground, ground, At, at-higher, at-seen, made-is, never-total, leaf-at}
 use Rattle.dsde_agreement.proofs.Operators.{listed-sound}
 use Rattle.dsde_agreement.proofs.Fields.{whole-fields}
-use Rattle.dsde_agreement.proofs.Written.{written}
+use Rattle.dsde_typing.specs.Written.{written}
 use Rattle.dsde_agreement.proofs.Variants.{VariantIs, variant-is}
 use Rattle.dsde_agreement.proofs.Parts.{Agreed, AllAt, fit-at, all-at, fill-at, alike, alike-have, field_types, types-fill, parts-at}
 
@@ -78,7 +78,7 @@ module _ (types : Types) (coded : Coded) (around : Around) (whole : Known) (func
         let args : List Judge = map J (map f ys) in
         let w1 = went (fit_all name args func.params scope) _ found h in
         let w2 = went (unless (not (length args == length func.params)) WrongType name.at) _ w1.value w1.first in
-        let long : length args ≡ length func.params = same-number (length args) (length func.params) (not-true (length args == length func.params) (unless-is (not (length args == length func.params)) WrongType name.at w2.value w2.first)) in
+        let long : length args ≡ length func.params = eqb-true (length args) (length func.params) (not-false (length args == length func.params) (unless-is (not (length args == length func.params)) WrongType name.at w2.value w2.first)) in
         let w3 = went (total around true name.at) _ found w1.next in
         let free = never-total around name.at w3.value w3.first in
         let fitted = fit-at g has f R M J agreed ys func.params 0 w1.value scope slots w2.next long sees in
@@ -110,7 +110,7 @@ module _ (types : Types) (coded : Coded) (around : Around) (whole : Known) (func
         let w1 = went (all_fields fields (map J (map f ys))) _ found h in
         let w2 = went (unless (not (in_order fields (map J (map f ys)))) WrongType owner.at) _ found w1.next in
         let w3 = went (fill (map J (map f ys)) fields 0 scope) _ found w2.next in
-        let order : in_order fields (map J (map f ys)) ≡ true = not-true (in_order fields (map J (map f ys))) (unless-is (not (in_order fields (map J (map f ys)))) WrongType owner.at w2.value w2.first) in
+        let order : in_order fields (map J (map f ys)) ≡ true = not-false (in_order fields (map J (map f ys))) (unless-is (not (in_order fields (map J (map f ys)))) WrongType owner.at w2.value w2.first) in
         let d : IsDeclared around.known whole owner.name number = within.words owner.name number is in
         let n : type_number whole owner.name ≡ number = ap (λ (o : Option ℕ). unwrap_or o 0) d.place in
         let fitted = fill-at g has f R M J agreed ys fields 0 w3.value scope slots w3.first order sees in
@@ -137,7 +137,7 @@ module _ (types : Types) (coded : Coded) (around : Around) (whole : Known) (func
           let t : Ty = w.value.ty in
           at-seen g (resolve_step whole (Expr-F.NoneOf at own)) (mean_step whole functions (Expr-F.NoneOf at own)) slots (ty.Opt t) 0 at found (made-is around (ty.Opt t) 0 at found w.next)
           (leaf-at g (resolve_step whole (Expr-F.NoneOf at own)) (mean_step whole functions (Expr-F.NoneOf at own)) slots (ty.Opt t) node.Nothing (λ start. refl)
-          (ap ty.Opt (written types around.known whole within own w.value w.first)) (λ vars fits. typed-nothing types t) (λ vars all fits. refl));
+          (ap ty.Opt (written around.known whole within.words own w.value w.first)) (λ vars fits. typed-nothing types t) (λ vars all fits. refl));
     }
 
     pub empty-agreed : (at : ℕ) (own : TypeName) → Agreed g has (judge_step around (Expr-F.EmptyOf at own)) (resolve_step whole (Expr-F.EmptyOf at own)) (mean_step whole functions (Expr-F.EmptyOf at own))
@@ -147,7 +147,7 @@ module _ (types : Types) (coded : Coded) (around : Around) (whole : Known) (func
           let t : Ty = w.value.ty in
           at-seen g (resolve_step whole (Expr-F.EmptyOf at own)) (mean_step whole functions (Expr-F.EmptyOf at own)) slots (ty.List t) 0 at found (made-is around (ty.List t) 0 at found w.next)
           (leaf-at g (resolve_step whole (Expr-F.EmptyOf at own)) (mean_step whole functions (Expr-F.EmptyOf at own)) slots (ty.List t) node.Empty (λ start. refl)
-          (ap ty.List (written types around.known whole within own w.value w.first)) (λ vars fits. typed-list types t [] (record { have = refl; short = omega arith })) (λ vars all fits. refl));
+          (ap ty.List (written around.known whole within.words own w.value w.first)) (λ vars fits. typed-list types t [] (record { have = refl; short = omega arith })) (λ vars all fits. refl));
     }
 
     abbrev VariantAt : Id → Id → List Field → Seen → Type 0
@@ -164,7 +164,7 @@ module _ (types : Types) (coded : Coded) (around : Around) (whole : Known) (func
     variant-names owner variant slots found number is None names-are h = cc
     variant-names owner variant slots found number is (Some names) names-are h =
         let w = went (unless (not (list_any (λ name. bytes_eq name variant.name) names)) Unknown variant.at) _ found h in
-        let among : list_any (λ name. bytes_eq name variant.name) names ≡ true = not-true (list_any (λ name. bytes_eq name variant.name) names) (unless-is (not (list_any (λ name. bytes_eq name variant.name) names)) Unknown variant.at w.value w.first) in
+        let among : list_any (λ name. bytes_eq name variant.name) names ≡ true = not-false (list_any (λ name. bytes_eq name variant.name) names) (unless-is (not (list_any (λ name. bytes_eq name variant.name) names)) Unknown variant.at w.value w.first) in
         let own : VariantIs types whole owner.name variant.name number = variant-is types around.known whole within owner.name variant.name number names is names-are among in
         at-seen g (resolve_step whole (Expr-F.Variant owner variant)) (mean_step whole functions (Expr-F.Variant owner variant)) slots (ty.Enum number) 0 owner.at found w.next
         (leaf-at g (resolve_step whole (Expr-F.Variant owner variant)) (mean_step whole functions (Expr-F.Variant owner variant)) slots (ty.Enum number) (node.Variant (type_number whole owner.name) (variant_number whole owner.name variant.name)) (λ start. refl)

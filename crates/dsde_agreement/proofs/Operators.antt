@@ -14,8 +14,8 @@ use Rattle.dsde_nodes.specs.declared.node.Binary.TheVariants as binary
 use Rattle.dsde_meaning.specs.Outcome.{Fault, Outcome, ◌>>=◌, int_of, truth_of, items_of, option_of}
 use Rattle.dsde_meaning.specs.Operators.{same_value, whole, nearest, listed, is_zero, divided, remaining, of_ints, truth, joined, operated, combined, denied, negated, or_else, unwrapped, item_at, indexed}
 use Rattle.dsde_meaning.specs.Typed.{Typed, Sound}
-use Rattle.dsde_agreement.proofs.Steps.{Any, sound-then, sound-if}
-use Rattle.dsde_agreement.proofs.Values.{AllHave, IsList, Held, typed-int, typed-bool, typed-list, int-sound, truth-sound, items-sound, option-sound, all-cons, all-append}
+use Rattle.dsde_typing.specs.Outcomes.{Any, sound-then, sound-if}
+use Rattle.dsde_typing.specs.Values.{AllHave, IsList, Held, typed-int, typed-bool, typed-list, int-sound, truth-sound, items-sound, option-sound, all-cons, all-append}
 use Rattle.dsde_agreement.proofs.Numbers.{nearest-fits, rem-fits}
 
 module _ (types : Types) (total : Bool) where

@@ -1,6 +1,7 @@
 -- Lists of parts, and nodes over them.
 use Rattle.std.proofs.Common.{◌≡◌, ℕ, ◌+◌, ◌≤◌, max, Bool, true, List, [], ◌∷◌, ◌++◌, map, length, Ok, refl, sym, ◌∙◌, subst, append_assoc, append-nil, arith}
 use Rattle.std.specs.Str.{bytes_eq}
+use Rattle.std.proofs.lemmas.Bool.{and_from}
 use Rattle.dsde_values.specs.declared.types.Field.{Field}
 use Rattle.dsde_values.specs.declared.types.Ty.{Ty}
 use Rattle.dsde_values.specs.declared.types.Types.{Types}
@@ -19,10 +20,13 @@ use Rattle.dsde_meaning.specs.Meaning.{Vars, Mean, values_of}
 use Rattle.dsde_meaning.specs.Tables.{Means, means_in, node_mean, values_from}
 use Rattle.dsde_meaning.specs.Typed.{Typed, Sound, AllTyped, Fits, values_in}
 use Rattle.dsde_meaning.specs.Scopes.{Stands, Sees}
-use Rattle.dsde_agreement.proofs.Standing.{stands-left, stands-right}
-use Rattle.dsde_agreement.proofs.Steps.{went, ok-is, sound-then, same-then, and-right, and-both}
-use Rattle.dsde_agreement.proofs.Types.{wanted-is}
-use Rattle.dsde_agreement.proofs.Values.{AllHave, cons-all}
+use Rattle.dsde_typing.specs.Standing.{stands-left, stands-right}
+use Rattle.dsde_typing.specs.Steps.{went, ok-is}
+use Rattle.dsde_typing.specs.Outcomes.{sound-then, same-then}
+use Rattle.dsde_typing.specs.Truths.{and-right}
+use Rattle.dsde_typing.specs.Types.{wanted-is}
+use Rattle.dsde_typing.specs.Values.{AllHave, cons-all}
+use Rattle.dsde_typing.specs.Fitting.{typed-snoc}
 use Rattle.dsde_agreement.proofs.At.{Ground, At, at-typed, at-higher, node-reads}
 
 -- An expression that is judged stands over the slots of what it sees.
@@ -37,12 +41,6 @@ AllAt g [] (m ∷ ms) slots ts n = ⊥
 AllAt g (r ∷ rs) [] slots ts n = ⊥
 AllAt g (r ∷ rs) (m ∷ ms) slots [] n = ⊥
 AllAt g (r ∷ rs) (m ∷ ms) slots (t ∷ ts) n = At g r m slots t n × AllAt g rs ms slots ts n
-
-pub typed-snoc : (types : Types) (tys : List Ty) (values : List Value) (t : Ty) (v : Value) → AllTyped types tys values → Typed types t v → AllTyped types (tys ++ t ∷ []) (values ++ v ∷ [])
-typed-snoc types [] [] t v all own = (own, tt)
-typed-snoc types [] (w ∷ values) t v all own = absurd all
-typed-snoc types (u ∷ tys) [] t v all own = absurd all
-typed-snoc types (u ∷ tys) (w ∷ values) t v all own = (all.0, typed-snoc types tys values t v all.1 own)
 
 module _ (g : Ground) (slots : List Field) (n : ℕ) where
   pub values-sound : (rs : List Resolved) (ms : List Mean) (ts : List Ty) → AllAt g rs ms slots ts n → (vars : Vars) → Fits g.types vars slots
@@ -115,7 +113,7 @@ pub types-fill : (types : Types) (fields : List Field) (own : List Value) → Al
 types-fill types [] [] all = refl
 types-fill types [] (v ∷ own) all = absurd all
 types-fill types (field ∷ fields) [] all = absurd all
-types-fill types (field ∷ fields) (v ∷ own) all = and-both (has_type types v field.ty) (values.fill (map (has_type types) own) fields) all.0.has (types-fill types fields own all.1)
+types-fill types (field ∷ fields) (v ∷ own) all = and_from (has_type types v field.ty) (values.fill (map (has_type types) own) fields) all.0.has (types-fill types fields own all.1)
 
 -- Parts stand over slots, and are no lower than what came before them.
 pub record Fitted {Y X : Type 0} (g : Ground) (f : Y → X) (R : X → Resolved) (M : X → Mean) (ys : List Y) (slots : List Field) (ts : List Ty) (height found : ℕ) : Type 0 where

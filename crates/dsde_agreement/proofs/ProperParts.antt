@@ -4,7 +4,7 @@ use Rattle.std.specs.List.{list_all}
 use Rattle.dsde_syntax.specs.declared.token.Sign.{Sign}
 use Rattle.dsde_syntax.specs.Levels.{is_sum_sign, is_mul_sign, has_first}
 use Rattle.dsde_nodes.specs.declared.node.Binary.{Binary}
-use Rattle.dsde_agreement.proofs.Steps.{and-left, and-right}
+use Rattle.dsde_typing.specs.Truths.{and-left, and-right}
 use Rattle.dsde_agreement.proofs.Signs.{is_operator}
 
 -- parts that are proper, with what is said of each

@@ -1,5 +1,6 @@
 -- Expressions of one part and of two, and those without parts.
 use Rattle.std.proofs.Common.{◌≡◌, ℕ, ◌^◌, max, pos, Bool, true, not, List, Option, Some, None, Result, Ok, refl, sym, nat_lt}
+use Rattle.std.proofs.lemmas.Bool.{not-false}
 use Rattle.dsde_syntax.specs.declared.expr.Expr.TheOpen.{Expr-F}
 use Rattle.dsde_syntax.specs.declared.id.Id.{Id}
 use Rattle.dsde_syntax.specs.declared.token.Sign.{Sign}
@@ -24,9 +25,9 @@ use Rattle.dsde_meaning.specs.Operators.{combined, denied, negated, or_else}
 use Rattle.dsde_meaning.specs.Meaning.{Function, Mean, mean_step}
 use Rattle.dsde_meaning.specs.Tables.{Coded}
 use Rattle.dsde_meaning.specs.Scopes.{Sees, Slotted}
-use Rattle.dsde_agreement.proofs.Steps.{went, unless-is, not-true}
-use Rattle.dsde_agreement.proofs.Types.{wanted-is, held-is}
-use Rattle.dsde_agreement.proofs.Values.{typed-int, typed-bool}
+use Rattle.dsde_typing.specs.Steps.{went, unless-is}
+use Rattle.dsde_typing.specs.Types.{wanted-is, held-is}
+use Rattle.dsde_typing.specs.Values.{typed-int, typed-bool}
 use Rattle.dsde_agreement.proofs.At.{Ground, ground, At, at-typed, at-seen, made-is, never-total, leaf-at, one-at, two-at}
 use Rattle.dsde_agreement.proofs.Operators.{denied-sound, negated-sound, or-else-sound}
 use Rattle.dsde_agreement.proofs.Signs.{Takes, compares}
@@ -118,7 +119,7 @@ module _ (types : Types) (coded : Coded) (around : Around) (whole : Known) (func
   elapsed-agreed at = record {
     holds = λ scope slots found h sees.
         let w1 = went (unless (not around.has_elapsed) Unknown at) _ found h in
-        let is : around.has_elapsed ≡ true = not-true around.has_elapsed (unless-is (not around.has_elapsed) Unknown at w1.value w1.first) in
+        let is : around.has_elapsed ≡ true = not-false around.has_elapsed (unless-is (not around.has_elapsed) Unknown at w1.value w1.first) in
         at-seen g (resolve_step whole (Expr-F.Elapsed at)) (mean_step whole functions (Expr-F.Elapsed at)) slots ty.Int 0 at found w1.next
         (slot-at g (λ scope. ty.Int) elapsed_name slots ty.Int refl (sees.elapsed is));
   }

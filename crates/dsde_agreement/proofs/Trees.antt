@@ -27,7 +27,7 @@ use Rattle.dsde_meaning.specs.Tables.{Coded}
 use Rattle.dsde_meaning.specs.Proper as proper
 use Rattle.dsde_meaning.specs.Proper.{Signed, is_proper, all_so, is_plain}
 use Rattle.dsde_meaning.specs.Scopes.{Within, Serve, Calls}
-use Rattle.dsde_agreement.proofs.Steps.{and-left, and-right}
+use Rattle.dsde_typing.specs.Truths.{and-left, and-right}
 use Rattle.dsde_agreement.proofs.At.{Ground, ground}
 use Rattle.dsde_agreement.proofs.Parts.{Agreed}
 use Rattle.dsde_agreement.proofs.ProperParts.{AreOperators, Passed, passed, word-map, three, first-kept, sum-operator, mul-operator}

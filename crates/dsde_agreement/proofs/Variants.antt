@@ -3,6 +3,7 @@ use Rattle.std.proofs.Common.{◌≡◌, ℕ, ◌+◌, ◌^◌, ◌≤◌, ◌<�
 use Rattle.std.specs.Prelude.{unwrap_or, option_and_then}
 use Rattle.std.specs.List.{list_any, position, prefix_len}
 use Rattle.std.specs.Str.{bytes_eq}
+use Rattle.std.proofs.lemmas.Bool.{and_from}
 use borrow.Author.Tests.{lt-ltb}
 use Rattle.dsde_values.specs.declared.types.Shape.{Shape}
 use Rattle.dsde_values.specs.declared.types.Types.{Types}
@@ -12,7 +13,6 @@ use Rattle.dsde_rules.specs.declared.known.Known.{Known}
 use Rattle.dsde_rules.specs.Judge.{declared_type, variants_in, variants_at}
 use Rattle.dsde_nodes.specs.Typing.{type_number, variant_number}
 use Rattle.dsde_meaning.specs.Scopes.{Within, IsDeclared, AreVariants}
-use Rattle.dsde_agreement.proofs.Steps.{and-both}
 
 -- a place below the length
 below-case : {T : Type 0} (p : T → Bool) (x : T) (xs : List T) → (list_any p xs ≡ true → prefix_len (λ x. not (p x)) xs < length xs) → (b : Bool) → p x ≡ b → list_any p (x ∷ xs) ≡ true → prefix_len (λ x. not (p x)) (x ∷ xs) < length (x ∷ xs)
@@ -57,7 +57,7 @@ variant-is types known whole within owner variant number names is are among =
     let low : unwrap_or (position (λ name. bytes_eq name variant) names) 0 < length names = found-below (λ name. bytes_eq name variant) names among in
     record {
       owned = n;
-      is = and-both (nat_lt place (2 ^ 32)) (nat_lt place (length (values.variants_at types number)))
+      is = and_from (nat_lt place (2 ^ 32)) (nat_lt place (length (values.variants_at types number)))
           (lt-ltb place (2 ^ 32) (omega (arith, e, low, few)))
           (ap (λ (l : List (List ℕ)). nat_lt place (length l)) v.are ∙ lt-ltb place (length names) (omega (arith, e, low)));
     }

@@ -15,7 +15,7 @@ use Rattle.dsde_meaning.specs.Typed.{Typed, Fits, values_in}
 use Rattle.dsde_standing.specs.Bodies.{Own, BodyStands, body_slots, param_slots, state_slots}
 use Rattle.dsde_formalism.specs.Leaf as formalism
 use Rattle.dsde_formalism.specs.System.{Component}
-use Rattle.dsde_eval.specs.Conditions.{mean_of, CanEval, Came}
+use Rattle.dsde_standing.specs.Conditions.{mean_of, CanEval, Came}
 use Rattle.dsde_system.specs.Body.{vars_of, body_vars, at_site, due}
 use Rattle.dsde_system.specs.Program.{system, component}
 use Rattle.dsde_system.specs.Fitting.{Fill, FitsArgs, FitsState}

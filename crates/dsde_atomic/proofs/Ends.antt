@@ -10,7 +10,7 @@ use Rattle.dsde_faults.specs.declared.end.LeafEnd.TheVariants as leaf_end
 use Rattle.dsde_nodes.specs.declared.code.Code.{Code}
 use Rattle.dsde_nodes.specs.declared.ids.ModelId.{ModelId}
 use Rattle.dsde_nodes.specs.Models.{infos_of, resolved}
-use Rattle.dsde_program.specs.Right.{IsRight}
+use Rattle.dsde_rules.specs.Right.{IsRight}
 use Rattle.dsde_meaning.specs.Outcome.{Fault, Stuck, Outcome, Gives}
 use Rattle.dsde_meaning.specs.Outcome as outcome
 use Rattle.dsde_meaning.specs.Typed.{Sound}

@@ -17,7 +17,7 @@ use Rattle.dsde_meaning.specs.Typed.{Typed, Fits, values_in}
 use Rattle.dsde_standing.specs.Places.{IsExpr}
 use Rattle.dsde_standing.specs.Bodies.{Own, BodyStands, InitsStand, body_slots, param_slots, state_slots}
 use Rattle.dsde_formalism.specs.System.{State}
-use Rattle.dsde_eval.specs.Conditions.{mean_of, CanEval, Came}
+use Rattle.dsde_standing.specs.Conditions.{mean_of, CanEval, Came}
 use Rattle.dsde_faults.specs.declared.kind.Site.TheVariants as site
 use Rattle.dsde_faults.specs.declared.end.LeafEnd.{LeafEnd}
 use Rattle.dsde_nodes.specs.declared.ids.ModelId.{ModelId}

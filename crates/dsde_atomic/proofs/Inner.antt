@@ -19,7 +19,7 @@ use Rattle.dsde_standing.specs.Places.{piece_of}
 use Rattle.dsde_standing.specs.Bodies.{Own, BodyStands, body_slots, body_outs, state_slots}
 use Rattle.dsde_formalism.specs.System.{Component, State}
 use Rattle.dsde_formalism.specs.Leaf as formalism
-use Rattle.dsde_eval.specs.Conditions.{block_of, CanRun, Ran}
+use Rattle.dsde_standing.specs.Conditions.{block_of, CanRun, Ran}
 use Rattle.dsde_system.specs.Body.{at_site, body_vars, moved_by, internal, sends}
 use Rattle.dsde_system.specs.Program.{system, component}
 use Rattle.dsde_system.specs.Fitting.{Fill, FitsArgs, FitsState, FitsSends}

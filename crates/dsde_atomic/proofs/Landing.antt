@@ -14,7 +14,7 @@ use Rattle.dsde_meaning.specs.Flow.{Flow, Stopped, lifted}
 use Rattle.dsde_meaning.specs.Tables.{State, state_of, Flows}
 use Rattle.dsde_meaning.specs.Typed.{Fits, AllSent, Lands, values_in, shown, seen}
 use Rattle.dsde_standing.specs.Places.{piece_of}
-use Rattle.dsde_eval.specs.Conditions.{block_of, CanRun, Ran, Grown}
+use Rattle.dsde_standing.specs.Conditions.{block_of, CanRun, Ran, Grown}
 use Rattle.dsde_system.specs.Fitting.{Fill}
 use Rattle.dsde_atomic.specs.Steps.{part, CanMove, Moved}
 use Rattle.dsde_atomic.proofs.Filling.{fits-fill, fill-length, fill-take, fill-drop}

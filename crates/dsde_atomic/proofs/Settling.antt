@@ -12,7 +12,7 @@ use Rattle.dsde_system.specs.Fitting.{Fill, FitsArgs, FitsState, FitsLeaf, IsInT
 use Rattle.dsde_atomic.proofs.Bodies.{state-fill}
 use Rattle.dsde_values.specs.declared.arrival.Item.{Item}
 use Rattle.dsde_faults.specs.declared.end.EvalEnd.{EvalEnd}
-use Rattle.dsde_eval.specs.Conditions.{Ran}
+use Rattle.dsde_standing.specs.Conditions.{Ran}
 use Rattle.dsde_atomic.proofs.Filling.{drop-past}
 
 -- The state stands behind the arguments.

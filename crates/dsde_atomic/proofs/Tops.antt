@@ -17,7 +17,7 @@ use Rattle.dsde_meaning.specs.Typed.{Typed}
 use Rattle.dsde_standing.specs.Places.{IsExpr}
 use Rattle.dsde_standing.specs.Bodies.{Own, TopOf, TopStands, ArgsStand, owns_of, param_slots, top_in}
 use Rattle.dsde_formalism.specs.System.{Chosen}
-use Rattle.dsde_eval.specs.Conditions.{mean_of, CanEval, Came}
+use Rattle.dsde_standing.specs.Conditions.{mean_of, CanEval, Came}
 use Rattle.dsde_system.specs.Program.{system, args_from, top_of}
 use Rattle.dsde_system.specs.Fitting.{Fill, FitsArgs, Topped}
 use Rattle.dsde_atomic.specs.Steps.{sited}

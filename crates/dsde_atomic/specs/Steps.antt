@@ -18,7 +18,7 @@ use Rattle.dsde_meaning.specs.Flow.{lifted}
 use Rattle.dsde_meaning.specs.Typed.{Fits, values_in}
 use Rattle.dsde_standing.specs.Places.{IsBlock}
 use Rattle.dsde_standing.specs.Bodies.{Own, owns_of, body_slots, moved_slots, param_slots, state_slots}
-use Rattle.dsde_eval.specs.Conditions.{block_of}
+use Rattle.dsde_standing.specs.Conditions.{block_of}
 use Rattle.dsde_formalism.specs.System.{State, Ports}
 use Rattle.dsde_formalism.specs.Leaf as formalism
 use Rattle.dsde_system.specs.Body.{due_after, inits_from, vars_of, seeing, at_site}

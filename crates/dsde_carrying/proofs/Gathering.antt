@@ -20,7 +20,7 @@ use Rattle.dsde_structure.specs.declared.plan.Via.{Via}
 use Rattle.dsde_structure.specs.declared.sources.Sources.{Sources}
 use Rattle.dsde_structure.specs.Gather.{Translation, is_part, is_end, from_part, through, carried, gather, gathered}
 use Rattle.dsde_structure.specs.Survival.{IsInOrder}
-use Rattle.dsde_program.specs.Right.{IsRight}
+use Rattle.dsde_rules.specs.Right.{IsRight}
 use Rattle.dsde_meaning.specs.Typed.{Typed, AllSent, IsSent}
 use Rattle.dsde_meaning.specs.Agreement.{ExpressionsAgree}
 use Rattle.dsde_standing.specs.Bodies.{Own}

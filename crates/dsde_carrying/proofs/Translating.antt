@@ -17,7 +17,7 @@ use Rattle.dsde_rules.specs.Judge.{judge}
 use Rattle.dsde_nodes.specs.Expressions.{resolve}
 use Rattle.dsde_nodes.specs.Models.{whole_of, types_of}
 use Rattle.dsde_structure.specs.declared.plan.Via.{Via}
-use Rattle.dsde_program.specs.Right.{IsRight}
+use Rattle.dsde_rules.specs.Right.{IsRight}
 use Rattle.dsde_meaning.specs.Outcome.{Outcome, Stuck}
 use Rattle.dsde_meaning.specs.Meaning.{Vars}
 use Rattle.dsde_meaning.specs.Functions.{functions_of}
@@ -26,7 +26,7 @@ use Rattle.dsde_meaning.specs.Agreement.{Agrees, ExpressionsAgree}
 use Rattle.dsde_standing.specs.Places.{IsExpr}
 use Rattle.dsde_standing.specs.Laws.{KnownIsWithin}
 use Rattle.dsde_functions.specs.Coded.{coded_of, FuncsAgree, FunctionsAgree}
-use Rattle.dsde_eval.specs.Conditions.{mean_of, CanTranslate, Translated, via_values, option_value}
+use Rattle.dsde_standing.specs.Conditions.{mean_of, CanTranslate, Translated, via_values, option_value}
 use Rattle.dsde_system.specs.Plans.{IsKey, Takes, via_slots}
 use Rattle.dsde_system.specs.Program.{system, translated, held_in, key_vars, via_vars}
 

@@ -15,10 +15,10 @@ use Rattle.dsde_structure.specs.declared.plan.Via.{Via}
 use Rattle.dsde_structure.specs.declared.sources.Sources.{Sources}
 use Rattle.dsde_structure.specs.Gather.{Ports, from_part, gathered}
 use Rattle.dsde_structure.specs.Survival.{IsInOrder}
-use Rattle.dsde_program.specs.Right.{IsRight}
+use Rattle.dsde_rules.specs.Right.{IsRight}
 use Rattle.dsde_meaning.specs.Typed.{Typed, AllSent}
 use Rattle.dsde_standing.specs.Bodies.{Own}
-use Rattle.dsde_eval.specs.Conditions.{CanTranslate, Translated}
+use Rattle.dsde_standing.specs.Conditions.{CanTranslate, Translated}
 use Rattle.dsde_system.specs.Fitting.{AreOf, Reach}
 use Rattle.dsde_system.specs.Plans.{ArePortsOf, Cover, FitsLink, FitsSources, Joins, Takes}
 use Rattle.dsde_system.specs.Program.{system}

@@ -6,9 +6,8 @@ use Rattle.dsde_syntax.specs.declared.decl.Model.{Model}
 use Rattle.dsde_records.specs.Records.{Records}
 use Rattle.dsde_runs.specs.Run.{Run}
 use Rattle.dsde_io.specs.Held.{Bytes}
-use Rattle.dsde_run.specs.Run.{Running, declares_network, records_in}
+use Rattle.dsde_run.specs.Run.{Running, records_in}
 use Rattle.dsde_verdict.specs.declared.refusal.Refusal.{Refusal}
-use Rattle.dsde_verdict.specs.declared.refusal.Refusal.TheVariants as refusal
 use Rattle.dsde_verdict.specs.declared.refusal.ReadModel.{ReadModel}
 use Rattle.dsde_verdict.specs.declared.refusal.ReadModel.TheVariants as read_model
 use Rattle.dsde_verdict.specs.Verdict.{Accepts, Refuses, IsVerdict}
@@ -19,7 +18,7 @@ use Rattle.dsde_status.specs.declared.status.Why.TheVariants as why
 use Rattle.dsde_cli.specs.Answer.{Answers}
 use Rattle.dsde_cli.specs.declared.load.Runnable.{Runnable}
 use Rattle.dsde_cli.specs.Loaded.{own_of}
-use Rattle.dsde_cli.specs.Causes.{AcceptsNetwork, AcceptsSome, Runs, RunsSome, RefusesRun, Under, Has, Holds, HoldsModel, NoModel, Tells}
+use Rattle.dsde_cli.specs.Causes.{AcceptsSome, Runs, RunsSome, Under, Has, Holds, HoldsModel, NoModel, Tells}
 use Rattle.dsde_cli.specs.Outcome.{Comes}
 use Rattle.dsde_cli.proofs.Outcomes.{front-none}
 
@@ -43,28 +42,6 @@ no_length one bytes some long = apart some.model read_model.TooLong (one bytes (
 -- what runs is accepted
 accepts_some : (bytes : List ℕ) → RunsSome bytes → AcceptsSome bytes
 accepts_some bytes some = record { model = some.own.model; accepts = some.runs.accepts }
-
-accepts_network : (bytes : List ℕ) → AcceptsNetwork bytes → AcceptsSome bytes
-accepts_network bytes some = record { model = some.model; accepts = some.accepts }
-
--- a text has one model
-same_ok : (this that : Model) → ◌≡◌ {A = Result Model ReadModel} (Ok this) (Ok that) → this ≡ that
-same_ok this that same = cc same
-
--- what runs declares no network
-no_network : OneVerdict → (bytes : List ℕ) → RunsSome bytes → AcceptsNetwork bytes → ⊥
-no_network one bytes some network =
-    let same = same_ok some.own.model network.model (one bytes (Ok some.own.model) (Ok network.model) some.runs.accepts network.accepts) in
-    let both = sym some.runs.single ∙ ap declares_network same ∙ network.network in cc both
-
--- what runs is not refused where it is to be run
-no_run_refusal : OneVerdict → (bytes : List ℕ) (kind : Refusal) (line column : ℕ) → RunsSome bytes → RefusesRun bytes kind line column → ⊥
-no_run_refusal one bytes refusal.NotBuilt line column some is = no_network one bytes some is.2
-no_run_refusal one bytes refusal.BadByte line column some is = no_refusal one bytes refusal.BadByte line column (accepts_some bytes some) is
-no_run_refusal one bytes refusal.BadNumber line column some is = no_refusal one bytes refusal.BadNumber line column (accepts_some bytes some) is
-no_run_refusal one bytes refusal.Syntax line column some is = no_refusal one bytes refusal.Syntax line column (accepts_some bytes some) is
-no_run_refusal one bytes refusal.Nested line column some is = no_refusal one bytes refusal.Nested line column (accepts_some bytes some) is
-no_run_refusal one bytes (refusal.Check kind) line column some is = no_refusal one bytes (refusal.Check kind) line column (accepts_some bytes some) is
 
 -- what holds of the bytes under a name, and what else does
 meet : (found : Option (List ℕ)) (P Q : List ℕ → Type 0) → IsSomeAnd found P → IsSomeAnd found Q → (bytes : List ℕ) × P bytes × Q bytes
@@ -169,10 +146,9 @@ check_cut one name held ShelfFails status model none holds =
 
 -- the same of a model that runs
 pub run_cut : OneVerdict → (name : List ℕ) (held : Option Bytes) (ShelfFails : Type 0) (status : Status) (own : Running) →
-    NoModel RefusesRun name held ShelfFails status → Holds name held own → IsCut status
+    NoModel Refuses name held ShelfFails status → Holds name held own → IsCut status
 run_cut one name held ShelfFails status own none holds =
-    cut_short RefusesRun RunsSome name held ShelfFails status (no_run_refusal one) (λ bytes some. no_length one bytes (accepts_some bytes some)) none
-    (has-then name held (λ bytes. Runs bytes own) RunsSome (λ bytes runs. record { own = own; runs = runs }) holds)
+    check_cut one name held ShelfFails status own.model none (has-then name held (λ bytes. Runs bytes own) (λ bytes. Accepts bytes own.model) (λ bytes runs. runs.accepts) holds)
 
 -- what runs of the bytes that were loaded is what runs of those under the name
 pub runs-only : (name : List ℕ) (held : Option Bytes) (bytes : List ℕ) (result : Result Runnable Status) → IfSome held (λ map. map name ≡ Some bytes) →
@@ -197,37 +173,12 @@ one_refusal one bytes this that line other_line column other_column first other 
     same_refusal this that line other_line column other_column
     (one bytes (Err (read_model.Refused this line column)) (Err (read_model.Refused that other_line other_column)) first other)
 
--- why a text is refused that is to be run
-data RunRefusal (bytes : List ℕ) (kind : Refusal) (line column : ℕ) : Type 0 where
-  unbuilt : kind ≡ refusal.NotBuilt → line ≡ 0 → column ≡ 0 → AcceptsSome bytes → RunRefusal bytes kind line column
-  verdict : Refuses bytes kind line column → RunRefusal bytes kind line column
-
-run_refusal : (bytes : List ℕ) (kind : Refusal) (line column : ℕ) → RefusesRun bytes kind line column → RunRefusal bytes kind line column
-run_refusal bytes refusal.NotBuilt line column is = unbuilt refl is.0 is.1 (accepts_network bytes is.2)
-run_refusal bytes refusal.BadByte line column is = verdict is
-run_refusal bytes refusal.BadNumber line column is = verdict is
-run_refusal bytes refusal.Syntax line column is = verdict is
-run_refusal bytes refusal.Nested line column is = verdict is
-run_refusal bytes (refusal.Check kind) line column is = verdict is
-
-one_run_refusal : OneVerdict → (bytes : List ℕ) (this that : Refusal) (line other_line column other_column : ℕ) → RunRefusal bytes this line column → RunRefusal bytes that other_line other_column →
-    (this ≡ that) × (line ≡ other_line) × (column ≡ other_column)
-one_run_refusal one bytes this that line other_line column other_column (unbuilt kind at_line at_column some) (unbuilt other_kind at_other at_other_column some_other) =
-    (kind ∙ sym other_kind, at_line ∙ sym at_other, at_column ∙ sym at_other_column)
-one_run_refusal one bytes this that line other_line column other_column (unbuilt kind at_line at_column some) (verdict other) = absurd (no_refusal one bytes that other_line other_column some other)
-one_run_refusal one bytes this that line other_line column other_column (verdict first) (unbuilt kind at_line at_column some) = absurd (no_refusal one bytes this line column some first)
-one_run_refusal one bytes this that line other_line column other_column (verdict first) (verdict other) = one_refusal one bytes this that line other_line column other_column first other
-
 -- a text that is refused is not too long
 not_long : OneVerdict → (bytes : List ℕ) (kind : Refusal) (line column : ℕ) → Refuses bytes kind line column → 1_048_576 < length bytes → ⊥
 not_long one bytes kind line column is long = length_apart (read_model.Refused kind line column) (λ same. cc same) (one bytes (Err (read_model.Refused kind line column)) (Err read_model.TooLong) is long)
   where
     length_apart : (error : ReadModel) → (error ≡ read_model.TooLong → ⊥) → ◌≡◌ {A = Result Model ReadModel} (Err error) (Err read_model.TooLong) → ⊥
     length_apart error other same = other (cc same)
-
-run_not_long : OneVerdict → (bytes : List ℕ) (kind : Refusal) (line column : ℕ) → RunRefusal bytes kind line column → 1_048_576 < length bytes → ⊥
-run_not_long one bytes kind line column (unbuilt is at_line at_column some) long = no_length one bytes some long
-run_not_long one bytes kind line column (verdict is) long = not_long one bytes kind line column is long
 
 -- where bytes under the name are refused, that is told
 tells_refusal : (Reason : List ℕ → Refusal → ℕ → ℕ → Type 0) (name : List ℕ) (held : Option Bytes) (ShelfFails : Type 0) (status : Status) (kind : Refusal) (line column : ℕ) →
@@ -252,31 +203,22 @@ tells_refusal Reason name held ShelfFails (Unread what.Output because) kind line
 tells_refusal Reason name held ShelfFails (Unwritten writing) kind line column one short none has = none
 tells_refusal Reason name held ShelfFails (BadSave fault) kind line column one short none has = none
 
--- what is told of bytes under the name that a check refuses
-pub check_tells : OneVerdict → (name : List ℕ) (held : Option Bytes) (ShelfFails : Type 0) (status : Status) (kind : Refusal) (line column : ℕ) →
+-- what is told of bytes under the name that are refused
+pub refusal_tells : OneVerdict → (name : List ℕ) (held : Option Bytes) (ShelfFails : Type 0) (status : Status) (kind : Refusal) (line column : ℕ) →
     NoModel Refuses name held ShelfFails status → Has name held (λ bytes. Refuses bytes kind line column) → Tells kind line column status
-check_tells one name held ShelfFails status kind line column none has =
+refusal_tells one name held ShelfFails status kind line column none has =
     tells_refusal Refuses name held ShelfFails status kind line column
     (λ bytes told told_line told_column first other. one_refusal one bytes told kind told_line line told_column column first other)
     (λ bytes is. not_long one bytes kind line column is) none has
-
--- and of those that a run refuses
-pub run_tells : OneVerdict → (name : List ℕ) (held : Option Bytes) (ShelfFails : Type 0) (status : Status) (kind : Refusal) (line column : ℕ) →
-    NoModel RefusesRun name held ShelfFails status → Has name held (λ bytes. RefusesRun bytes kind line column) → Tells kind line column status
-run_tells one name held ShelfFails status kind line column none has =
-    tells_refusal RefusesRun name held ShelfFails status kind line column
-    (λ bytes told told_line told_column first other.
-    one_run_refusal one bytes told kind told_line line told_column column (run_refusal bytes told told_line told_column first) (run_refusal bytes kind line column other))
-    (λ bytes is. run_not_long one bytes kind line column (run_refusal bytes kind line column is)) none has
 
 -- a model that was loaded is not refused
 pub check_unrefused : OneVerdict → (name : List ℕ) (held : Option Bytes) (kind : Refusal) (line column : ℕ) → Under name held AcceptsSome → Has name held (λ bytes. Refuses bytes kind line column) → ⊥
 check_unrefused one name held kind line column some has =
     never_both name held (λ bytes. Refuses bytes kind line column) AcceptsSome (λ bytes is some. no_refusal one bytes kind line column some is) has some
 
-pub run_unrefused : OneVerdict → (name : List ℕ) (held : Option Bytes) (kind : Refusal) (line column : ℕ) → Under name held RunsSome → Has name held (λ bytes. RefusesRun bytes kind line column) → ⊥
+pub run_unrefused : OneVerdict → (name : List ℕ) (held : Option Bytes) (kind : Refusal) (line column : ℕ) → Under name held RunsSome → Has name held (λ bytes. Refuses bytes kind line column) → ⊥
 run_unrefused one name held kind line column some has =
-    never_both name held (λ bytes. RefusesRun bytes kind line column) RunsSome (λ bytes is some. no_run_refusal one bytes kind line column some is) has some
+    never_both name held (λ bytes. Refuses bytes kind line column) RunsSome (λ bytes is some. no_refusal one bytes kind line column (accepts_some bytes some) is) has some
 
 -- a refusal is told in the report too, unless memory ran out
 pub tells_reported : (kind : Refusal) (line column : ℕ) (status result : Status) → Tells kind line column status → (result ≡ status) ⊎ (result ≡ Memory) → Tells kind line column result

@@ -4,21 +4,22 @@ use Rattle.std.specs.Prelude.{Option, Some, None, IfSome, IsSomeAnd}
 use Rattle.std.proofs.Math.Seq.{take-length}
 use Rattle.std.proofs.lemmas.List.{append-nil}
 use Rattle.dsde_records.specs.Records.{Records}
-use Rattle.dsde_io.specs.Bytes.{GainsFront}
+use Rattle.dsde_io.specs.Bytes.{Gains, GainsFront}
 use Rattle.dsde_io.specs.Held.{Bytes}
 use Rattle.dsde_cli.specs.Causes.{Under}
 use Rattle.dsde_command.specs.Commands.{CheckCommand, RunCommand, Task, checks, runs}
 use Rattle.dsde_cli.specs.Answer.{Answers, AnswersFront}
 use Rattle.dsde_events.specs.declared.event.Finish.{Finish}
+use Rattle.dsde_events.specs.declared.event.Finish.TheVariants as how
 use Rattle.dsde_runs.specs.Run.{Run}
-use Rattle.dsde_run.specs.Reading.{IsFront}
+use Rattle.dsde_run.specs.Reading.{Told, IsCutShort, IsFront, cut_after, feeds}
 use Rattle.dsde_run.specs.Run.{Running, records_in, trace_text}
 use Rattle.dsde_run.specs.Steps.{Tells}
 use Rattle.dsde_status.specs.declared.status.Status.{Status}
 use Rattle.dsde_status.specs.declared.status.Status.TheVariants.{Done, Refused, Usage, BadInput, ModelFault, Unread, Unwritten, Memory, BadSave}
 use Rattle.dsde_status.specs.declared.status.What.TheVariants as what
 use Rattle.dsde_status.specs.declared.status.Why.TheVariants as why
-use Rattle.dsde_cli.specs.Outcome.{Writes, WritesFront, SaysEnd, Comes}
+use Rattle.dsde_cli.specs.Outcome.{Writes, WritesFront, SaysEnd, Comes, status_of}
 
 -- the whole trace is a front of it
 front-whole : (own : Running) (run : Run) (written : List ℕ) (out : Option (List ℕ)) → Writes own run written out → WritesFront own run written out
@@ -108,6 +109,62 @@ front-tells own tells begun text None how empty run = tt
 front-tells own tells begun text (Some input) how empty run =
     is_front-whole text (trace_text own (tells (records_in own input)).events)
     (run.text ∙ ap (λ begun. begun ++ trace_text own (tells (records_in own input)).events) empty)
+
+-- the whole trace is written
+whole_of : (own : Running) (whole : Run) (written : List ℕ) (out : Option (List ℕ)) (begun text : List ℕ) → begun ≡ [] →
+    text ≡ begun ++ trace_text own whole.events → out ≡ Some (written ++ text) → Writes own whole written out
+whole_of own whole written out begun text empty told writes =
+    writes ∙ ap (λ text. Some (written ++ text)) (told ∙ ap (λ begun. begun ++ trace_text own whole.events) empty)
+
+-- A run that ended is told by its status, and its whole trace is written.
+comes-ended : (own : Running) (tells : Records → Run) (input : List ℕ) (left : Option (List ℕ)) (written : List ℕ) (out : Option (List ℕ)) (begun text : List ℕ) (answer : Finish) →
+    begun ≡ [] → Tells own (tells (records_in own input)) begun text answer → out ≡ Some (written ++ text) → (answer ≡ how.Quiet → left ≡ Some []) →
+    Comes own tells input left written out (status_of answer)
+comes-ended own tells input left written out begun text how.Bound empty run writes quiet =
+    (whole_of own (tells (records_in own input)) written out begun text empty run.text writes, inl run.end)
+comes-ended own tells input left written out begun text how.Quiet empty run writes quiet =
+    (whole_of own (tells (records_in own input)) written out begun text empty run.text writes, inr (run.end, quiet refl))
+comes-ended own tells input left written out begun text (how.Input kind line) empty run writes quiet =
+    (whole_of own (tells (records_in own input)) written out begun text empty run.text writes, run.end)
+comes-ended own tells input left written out begun text (how.Fault fault) empty run writes quiet =
+    (whole_of own (tells (records_in own input)) written out begun text empty run.text writes, run.end)
+
+-- nothing is left
+none_left : (left : Option (List ℕ)) → IsSomeAnd left (λ rest. rest ≡ []) → left ≡ Some []
+none_left None none = absurd none
+none_left (Some rest) none = ap Some none
+
+pub comes-told : (own : Running) (tells : Records → Run) (left left_after before after : Option (List ℕ)) (begun text : List ℕ) (answer : Finish) → begun ≡ [] →
+    IfSome left (λ input. Tells own (tells (records_in own input)) begun text answer) → Gains before after text → (answer ≡ how.Quiet → Told left left_after (λ _ rest. rest ≡ [])) →
+    IfSome left (λ input. IfSome before (λ written. Comes own tells input left_after written after (status_of answer)))
+comes-told own tells None left_after before after begun text answer empty run gains quiet = tt
+comes-told own tells (Some input) left_after None after begun text answer empty run gains quiet = tt
+comes-told own tells (Some input) left_after (Some written) after begun text answer empty run gains quiet =
+    comes-ended own tells input left_after written after begun text answer empty run gains (λ is. none_left left_after (quiet is))
+
+-- A run whose input could not be read was cut short, and what it told was written.
+pub comes-unread : (own : Running) (tells : Records → Run) (left left_after before after : Option (List ℕ)) (begun text : List ℕ) → begun ≡ [] →
+    Told left left_after (λ input. IsCutShort own tells (records_in own input) begun text input) →
+    IfSome left (λ input. IsFront begun text (trace_text own (tells (records_in own input)).events)) → Gains before after text →
+    IfSome left (λ input. IfSome before (λ written. Comes own tells input left_after written after (Unread what.Input why.Failed)))
+comes-unread own tells None left_after before after begun text empty short front gains = tt
+comes-unread own tells (Some input) None before after begun text empty short front gains = absurd short
+comes-unread own tells (Some input) (Some rest) None after begun text empty short front gains = tt
+comes-unread own tells (Some input) (Some rest) (Some written) after begun text empty short front gains =
+    let trace = trace_text own (tells (records_in own input)).events in
+    let cut = trace_text own (tells (cut_after (feeds short.taken) (records_in own input))).events in
+    let whole : IsCutShort own tells (records_in own input) written (written ++ text) input rest = record {
+      taken = short.taken;
+      split = short.split;
+      text = ap (λ text. written ++ text) (short.text ∙ ap (λ begun. begun ++ cut) empty);
+      cut = short.cut;
+    } in (
+      subst (λ out. IsSomeAnd out (λ new. IsCutShort own tells (records_in own input) written new input rest)) (sym gains) whole,
+      record {
+        count = front.count;
+        is = gains ∙ ap (λ text. Some (written ++ text)) (front.is ∙ ap (λ begun. begun ++ take front.count trace) empty);
+      },
+    )
 
 -- a task is for one command
 pub same_run : (one other : RunCommand) → Some (runs one) ≡ Some (runs other) → one ≡ other

@@ -1,5 +1,5 @@
 -- Why a status comes.
-use Rattle.std.specs.Prelude.{ℕ, ◌≡◌, ◌<◌, ◌+◌, ⊤, true, false, List, [], length, map, Option, None, IfSome, IsSomeAnd, Result, Ok, Err}
+use Rattle.std.specs.Prelude.{ℕ, ◌≡◌, ◌<◌, ◌+◌, ⊤, List, [], length, map, Option, None, IfSome, IsSomeAnd, Result, Ok, Err}
 use Rattle.std.specs.List.{range_with_len}
 use Rattle.dsde_syntax.specs.declared.decl.Model.{Model}
 use Rattle.dsde_syntax.specs.declared.token.Token.{Token}
@@ -7,12 +7,11 @@ use Rattle.dsde_lexer.specs.declared.lexer.LexError.{LexError}
 use Rattle.dsde_lexer.specs.Lines.{place_of}
 use Rattle.dsde_lexer.specs.Tokens.{tokens}
 use Rattle.dsde_runs.specs.Run.{Spots}
-use Rattle.dsde_run.specs.Run.{Running, declares_network}
+use Rattle.dsde_run.specs.Run.{Running}
 use Rattle.dsde_io.specs.declared.shelf.ShelfEnd.{ShelfEnd}
 use Rattle.dsde_io.specs.declared.shelf.ShelfEnd.TheVariants as shelf_end
 use Rattle.dsde_io.specs.Held.{Bytes}
 use Rattle.dsde_verdict.specs.declared.refusal.Refusal.{Refusal}
-use Rattle.dsde_verdict.specs.declared.refusal.Refusal.TheVariants.{NotBuilt}
 use Rattle.dsde_verdict.specs.Verdict.{Accepts, Refuses}
 use Rattle.dsde_status.specs.declared.status.Status.{Status}
 use Rattle.dsde_status.specs.declared.status.Status.TheVariants.{Done, Refused, Usage, BadInput, ModelFault, Unread, Unwritten, Memory}
@@ -25,12 +24,6 @@ pub record AcceptsSome (bytes : List ℕ) : Type 0 where
   pub model : Model
   pub accepts : Accepts bytes model
 
--- The bytes are accepted, with a model that declares a network.
-pub record AcceptsNetwork (bytes : List ℕ) : Type 0 where
-  pub model : Model
-  pub accepts : Accepts bytes model
-  pub network : declares_network model ≡ true
-
 -- The line and the column of each place of a text that is cut so: of each token, and of the end.
 abbrev pub spots_in : List ℕ → Result (List Token) LexError → Spots
 spots_in bytes (Ok cut) = map (place_of bytes cut) (range_with_len 0 (length cut + 1))
@@ -40,22 +33,15 @@ spots_in bytes (Err error) = []
 abbrev pub spots_of : List ℕ → Spots
 spots_of bytes = spots_in bytes (tokens bytes)
 
--- The bytes are accepted, with this model, which declares no network and has its places there.
+-- The bytes are accepted, with this model, which has its places there.
 pub record Runs (bytes : List ℕ) (own : Running) : Type 0 where
   pub accepts : Accepts bytes own.model
-  pub single : declares_network own.model ≡ false
   pub spots : own.spots ≡ spots_of bytes
 
--- The bytes are accepted, with some model that declares no network.
+-- The bytes are accepted, with some model.
 pub record RunsSome (bytes : List ℕ) : Type 0 where
   pub own : Running
   pub runs : Runs bytes own
-
--- Why bytes that are to be run are refused, and where: that is their verdict, or they are accepted
--- and their model declares a network.
-abbrev pub RefusesRun : List ℕ → Refusal → ℕ → ℕ → Type 0
-RefusesRun bytes NotBuilt line column = (line ≡ 0) × (column ≡ 0) × AcceptsNetwork bytes
-RefusesRun bytes kind line column = Refuses bytes kind line column
 
 -- The shelf, where it tells what it holds, has bytes under the name, and this holds of them.
 abbrev pub Under : List ℕ → Option Bytes → (List ℕ → Type 0) → Type 0
@@ -73,7 +59,7 @@ abbrev pub Cause : List ℕ → Option Bytes → (ShelfFails SourceFails SinkFai
 Cause name held ShelfFails SourceFails SinkFails Done = Under name held RunsSome
 Cause name held ShelfFails SourceFails SinkFails (BadInput kind line) = Under name held RunsSome
 Cause name held ShelfFails SourceFails SinkFails (ModelFault fault) = Under name held RunsSome
-Cause name held ShelfFails SourceFails SinkFails (Refused kind line column) = Under name held (λ bytes. RefusesRun bytes kind line column)
+Cause name held ShelfFails SourceFails SinkFails (Refused kind line column) = Under name held (λ bytes. Refuses bytes kind line column)
 Cause name held ShelfFails SourceFails SinkFails (Unread what.Model because) = CauseUnread name held ShelfFails because
 Cause name held ShelfFails SourceFails SinkFails (Unread what.Input why.Failed) = Under name held RunsSome × SourceFails
 Cause name held ShelfFails SourceFails SinkFails (Unwritten what.Output) = Under name held RunsSome × SinkFails
@@ -93,8 +79,7 @@ CauseCheck name held ShelfFails SinkFails other = ⊥
 abbrev pub Has : List ℕ → Option Bytes → (List ℕ → Type 0) → Type 0
 Has name held Holds = IsSomeAnd held (λ map. IsSomeAnd (map name) Holds)
 
--- The shelf tells that bytes are under the name which are accepted, with this model, that declares no
--- network.
+-- The shelf tells that bytes are under the name which are accepted, with this model and its places.
 abbrev pub Holds : List ℕ → Option Bytes → Running → Type 0
 Holds name held own = Has name held (λ bytes. Runs bytes own)
 

@@ -13,7 +13,7 @@ abbrev pub own_of : Runnable → Running
 own_of loaded = running loaded.model loaded.places
 
 -- The words ask for a run, and the shelf tells that bytes are under its model's name which are
--- accepted, with this model, that declares no network.
+-- accepted, with this model and its places.
 pub record Loaded (words : List (List ℕ)) (held : Option Bytes) : Type 0 where
   pub asked : Asked words
   pub own : Running

@@ -7,7 +7,7 @@ ghost use Rattle.dsde_run.specs.Run.{records_in};
 ghost use Rattle.dsde_command.specs.Commands.{Asked, AsksCheck, command_of};
 ghost use Rattle.dsde_status.specs.Note.{Noted, WritesNoteFront};
 ghost use Rattle.dsde_cli.specs.Answer.{Checked, Answers, answer_of};
-ghost use Rattle.dsde_cli.specs.Causes.{Cause, CauseCheck, Has, HoldsNone, HoldsNoModel, IsBeforeRun, RefusesRun, Tells};
+ghost use Rattle.dsde_cli.specs.Causes.{Cause, CauseCheck, Has, HoldsNone, HoldsNoModel, IsBeforeRun, Tells};
 ghost use Rattle.dsde_verdict.specs.declared.refusal.Refusal.{Refusal};
 ghost use Rattle.dsde_verdict.specs.Verdict.{Refuses};
 ghost use Rattle.dsde_cli.specs.Loaded.{Loaded, tells_of};
@@ -63,10 +63,9 @@ pub fn dsde<F: Shelf, R: Source, W: Sink, E: Sink>(
     ensures cause_check { (asked : AsksCheck (map string_bytes words.now))
         → CauseCheck asked.check.model (F.held shelf.old) (Rose (F.faults shelf.old) (F.faults shelf.new))
         (Rose (W.faults out.old) (W.faults out.new)) result }
-    // A model that is refused is so exactly for what its bytes are refused for, and there; a run
-    // refuses too what is accepted and declares a network.
+    // A model that is refused is so exactly for what its bytes are refused for, and there.
     ensures refused { (asked : Asked (map string_bytes words.now)) → (kind : Refusal) → (line column : ℕ)
-        → Has asked.run.model (F.held shelf.old) (λ bytes. RefusesRun bytes kind line column) → Tells kind line column result }
+        → Has asked.run.model (F.held shelf.old) (λ bytes. Refuses bytes kind line column) → Tells kind line column result }
     ensures refused_check { (asked : AsksCheck (map string_bytes words.now)) → (kind : Refusal) → (line column : ℕ)
         → Has asked.check.model (F.held shelf.old) (λ bytes. Refuses bytes kind line column) → Tells kind line column result }
     ensures usage { command_of (map string_bytes words.now) ≡ None

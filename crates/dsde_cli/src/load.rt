@@ -1,24 +1,23 @@
 //! Models loaded from a shelf.
 
-ghost use Rattle.std.specs.Prelude.{◌≡◌, ◌≤◌, true, false, Some, IfOk, IfErr, IfSome};
+ghost use Rattle.std.specs.Prelude.{◌≡◌, ◌≤◌, Some, IfOk, IfErr, IfSome};
 ghost use Rattle.dsde_io.specs.Fault.{Rose};
-ghost use Rattle.dsde_program.specs.Right.{IsRight};
-ghost use Rattle.dsde_run.specs.Run.{Running, declares_network, is_network};
+ghost use Rattle.dsde_rules.specs.Right.{IsRight};
+ghost use Rattle.dsde_run.specs.Run.{Running};
 ghost use Rattle.dsde_syntax.specs.declared.decl.Model.{Model};
 ghost use Rattle.dsde_verdict.specs.Verdict.{Accepts, Refuses};
-ghost use Rattle.dsde_cli.specs.Causes.{AcceptsSome, Holds, HoldsModel, NoModel, NoneIn, RefusesRun, Runs, RunsSome, Under, spots_of, unread_model};
+ghost use Rattle.dsde_cli.specs.Causes.{AcceptsSome, Holds, HoldsModel, NoModel, NoneIn, Runs, RunsSome, Under, spots_of, unread_model};
 ghost use Rattle.dsde_cli.specs.Loaded.{own_of};
 
 use dsde_io::{Shelf, ShelfEnd};
 use dsde_lexer::{Places, lex};
-use dsde_status::{Refusal, Status, What, Why};
-use dsde_syntax::{Decl, Model};
+use dsde_status::{Status, What, Why};
+use dsde_syntax::Model;
 use dsde_values::{Memory, Text};
 use dsde_verdict::{ReadModel, read_model};
 use std::alloc::Global;
 
-/// A model that is accepted and declares no network, with the line and the column of each place of
-/// its text.
+/// A model that is accepted, with the line and the column of each place of its text.
 #[derive(Drop)]
 pub(crate) struct Runnable {
     pub model: Model,
@@ -46,17 +45,16 @@ pub(crate) fn load_accepted<F: Shelf>(
     }
 }
 
-/// The model under a name that declares no network, or the status of a call that finds none.
+/// The accepted model under a name with its places, or the status of a call that finds none.
 pub(crate) fn load_runnable<F: Shelf>(
     alloc: Global,
     name: &str,
     shelf: &mut F,
 ) -> Result<Runnable, Status>
     ensures right { IfOk result (λ loaded. IsRight loaded.model) }
-    ensures single { IfOk result (λ loaded. declares_network loaded.model ≡ false) }
     ensures runs { IfOk result (λ loaded. Under name.now (F.held shelf.old) RunsSome) }
     ensures only { IfOk result (λ loaded. (other : Running) → Holds name.now (F.held shelf.old) other → other ≡ own_of loaded) }
-    ensures none { IfErr result (NoModel RefusesRun name.now (F.held shelf.old) (Rose (F.faults shelf.old) (F.faults shelf.new))) }
+    ensures none { IfErr result (NoModel Refuses name.now (F.held shelf.old) (Rose (F.faults shelf.old) (F.faults shelf.new))) }
     ensures kept { F.held shelf.new ≡ F.held shelf.old }
     ensures counted { F.faults shelf.old ≤ F.faults shelf.new }
 {
@@ -69,8 +67,7 @@ pub(crate) fn load_runnable<F: Shelf>(
 /// The bytes under a name, or the status of a call that loads none.
 fn load_text<F: Shelf>(alloc: Global, name: &str, shelf: &mut F) -> Result<Text, Status>
     ensures told { IfOk result (λ bytes. IfSome (F.held shelf.old) (λ map. map name.now ≡ Some bytes)) }
-    ensures unrun { IfErr result (NoModel RefusesRun name.now (F.held shelf.old) (Rose (F.faults shelf.old) (F.faults shelf.new))) }
-    ensures unchecked { IfErr result (NoModel Refuses name.now (F.held shelf.old) (Rose (F.faults shelf.old) (F.faults shelf.new))) }
+    ensures none { IfErr result (NoModel Refuses name.now (F.held shelf.old) (Rose (F.faults shelf.old) (F.faults shelf.new))) }
     ensures kept { F.held shelf.new ≡ F.held shelf.old }
     ensures counted { F.faults shelf.old ≤ F.faults shelf.new }
 {
@@ -114,11 +111,11 @@ fn accepted(alloc: Global, bytes: &[u8]) -> Result<Model, Status>
     }
 }
 
-/// The model of a text that is accepted and declares no network.
+/// The model of a text that is accepted, with its places.
 fn read_runnable(alloc: Global, bytes: &[u8]) -> Result<Runnable, Status>
     ensures runs { IfOk result (λ loaded. Runs bytes.now (own_of loaded)) }
     ensures only { IfOk result (λ loaded. (other : Running) → Runs bytes.now other → other ≡ own_of loaded) }
-    ensures none { IfErr result (NoneIn RefusesRun bytes.now) }
+    ensures none { IfErr result (NoneIn Refuses bytes.now) }
 {
     match accepted(alloc, bytes) {
         Ok(model) => placed(alloc, bytes, model),
@@ -126,38 +123,18 @@ fn read_runnable(alloc: Global, bytes: &[u8]) -> Result<Runnable, Status>
     }
 }
 
-/// The model of an accepted text, where it declares no network, with its places.
+/// The model of an accepted text, with its places.
 fn placed(alloc: Global, bytes: &[u8], model: Model) -> Result<Runnable, Status>
     requires accepted { Accepts bytes.now model }
     requires only { (other : Model) → Accepts bytes.now other → other ≡ model }
     ensures runs { IfOk result (λ loaded. Runs bytes.now (own_of loaded)) }
     ensures only { IfOk result (λ loaded. (other : Running) → Runs bytes.now other → other ≡ own_of loaded) }
-    ensures none { IfErr result (NoneIn RefusesRun bytes.now) }
+    ensures none { IfErr result (NoneIn Refuses bytes.now) }
 {
-    if declares_network(&model) {
-        return Err(Status::Refused {
-            kind: Refusal::NotBuilt,
-            line: 0,
-            column: 0,
-        });
-    }
     match places_of(alloc, bytes) {
         Ok(places) => Ok(Runnable { model, places }),
         Err(_) => Err(Status::Memory),
     }
-}
-
-/// Whether a model declares a network.
-fn declares_network(model: &Model) -> bool
-    ensures { result ≡ declares_network model.now }
-{
-    model.decls.iter().any(is_network)
-}
-
-fn is_network(decl: &Decl) -> bool
-    ensures { result ≡ is_network decl.now }
-{
-    matches!(decl, Decl::Network { .. })
 }
 
 /// The line and the column of each place of a text that is accepted. Such a text is cut into tokens,

@@ -1,12 +1,13 @@
 //! The command `run`: it loads a model, runs it, and writes its trace.
 
-ghost use Rattle.std.specs.Prelude.{◌≡◌, ◌≤◌, ℕ, false, IfSome};
+ghost use Rattle.std.specs.Prelude.{◌≡◌, ◌≤◌, ℕ, IfSome};
 ghost use Rattle.dsde_io.specs.Fault.{Rose};
-ghost use Rattle.dsde_program.specs.Right.{IsRight};
+ghost use Rattle.dsde_rules.specs.Right.{IsRight};
 ghost use Rattle.dsde_run.specs.Reading.{Told, TakesWanted};
-ghost use Rattle.dsde_run.specs.Run.{Running, declares_network, run, records_in};
-ghost use Rattle.dsde_cli.specs.Causes.{Cause, Has, Holds, HoldsNone, IsBeforeRun, IsOfRun, RefusesRun, Tells};
+ghost use Rattle.dsde_run.specs.Run.{Running, run, records_in};
+ghost use Rattle.dsde_cli.specs.Causes.{Cause, Has, Holds, HoldsNone, IsBeforeRun, IsOfRun, Tells};
 ghost use Rattle.dsde_verdict.specs.declared.refusal.Refusal.{Refusal};
+ghost use Rattle.dsde_verdict.specs.Verdict.{Refuses};
 ghost use Rattle.dsde_cli.specs.Loaded.{own_of};
 ghost use Rattle.dsde_cli.specs.Outcome.{Comes, SaysEnd, status_of};
 
@@ -41,7 +42,7 @@ pub(crate) fn load_and_run<F: Shelf, R: Source, W: Sink>(
     ensures cause { Cause name.now (F.held shelf.old) (Rose (F.faults shelf.old) (F.faults shelf.new))
         (Rose (R.faults input.old) (R.faults input.new)) (Rose (W.faults out.old) (W.faults out.new)) result }
     ensures refused { (kind : Refusal) → (line column : ℕ)
-        → Has name.now (F.held shelf.old) (λ bytes. RefusesRun bytes kind line column) → Tells kind line column result }
+        → Has name.now (F.held shelf.old) (λ bytes. Refuses bytes kind line column) → Tells kind line column result }
     ensures unrun { HoldsNone name.now (F.held shelf.old) → (input.new ≡ input.old) × (out.new ≡ out.old) }
     ensures untouched { IsBeforeRun result → (input.new ≡ input.old) × (out.new ≡ out.old) }
     ensures kept { F.held shelf.new ≡ F.held shelf.old }
@@ -66,7 +67,6 @@ fn run_loaded<R: Source, W: Sink>(
     out: &mut W,
 ) -> Status
     requires right { IsRight loaded.now.model }
-    requires single { declares_network loaded.now.model ≡ false }
     requires turns { turns ≤ 1_000_000_000 }
     ensures comes { IfSome (R.left input.old) (λ bytes. IfSome (W.written out.old) (λ written.
         Comes (own_of loaded.now) (λ records. run (own_of loaded.now) records turns) bytes (R.left input.new) written (W.written out.new) result)) }

@@ -10,7 +10,7 @@ use Rattle.dsde_faults.specs.declared.end.EvalEnd.{EvalEnd}
 use Rattle.dsde_nodes.specs.declared.ids.BlockId.{BlockId}
 use Rattle.dsde_nodes.specs.Models.{whole_of, types_of}
 use Rattle.dsde_nodes.specs.Pieces.{Block}
-use Rattle.dsde_program.specs.Right.{IsRight}
+use Rattle.dsde_rules.specs.Right.{IsRight}
 use Rattle.dsde_meaning.specs.Outcome.{Halt, Fault, Stuck}
 use Rattle.dsde_meaning.specs.Meaning.{Vars, Scene, scene}
 use Rattle.dsde_meaning.specs.Flow.{Flow, why}
@@ -22,7 +22,7 @@ use Rattle.dsde_meaning.specs.Agreement.{BlockAgrees, BlocksAgree}
 use Rattle.dsde_standing.specs.Places.{IsBlock, piece_of}
 use Rattle.dsde_standing.specs.Laws.{KnownIsWithin}
 use Rattle.dsde_functions.specs.Coded.{coded_of, FuncsAgree, FunctionsAgree}
-use Rattle.dsde_eval.specs.Conditions.{block_of, CanRun, Ran, Grown}
+use Rattle.dsde_standing.specs.Conditions.{block_of, CanRun, Ran, Grown}
 
 -- the block with a number
 abbrev block_id : ℕ → BlockId

@@ -9,7 +9,7 @@ use Rattle.dsde_faults.specs.declared.end.EvalEnd.{EvalEnd}
 use Rattle.dsde_rules.specs.Judge.{judge}
 use Rattle.dsde_nodes.specs.Expressions.{resolve, expr_id}
 use Rattle.dsde_nodes.specs.Models.{whole_of, types_of}
-use Rattle.dsde_program.specs.Right.{IsRight}
+use Rattle.dsde_rules.specs.Right.{IsRight}
 use Rattle.dsde_meaning.specs.Outcome.{Stuck, Outcome, Gives}
 use Rattle.dsde_meaning.specs.Meaning.{Vars}
 use Rattle.dsde_meaning.specs.Functions.{functions_of}
@@ -19,7 +19,7 @@ use Rattle.dsde_meaning.specs.Agreement.{Agrees, ExpressionsAgree}
 use Rattle.dsde_standing.specs.Places.{IsExpr}
 use Rattle.dsde_standing.specs.Laws.{KnownIsWithin}
 use Rattle.dsde_functions.specs.Coded.{coded_of, FuncsAgree, FunctionsAgree}
-use Rattle.dsde_eval.specs.Conditions.{mean_of, CanEval, Came}
+use Rattle.dsde_standing.specs.Conditions.{mean_of, CanEval, Came}
 use Rattle.dsde_eval.proofs.Typing.{sound-stuck}
 
 module _ (model : Model) (right : IsRight model) (agree : ExpressionsAgree) (within : KnownIsWithin) (functions : FunctionsAgree) where

@@ -15,7 +15,7 @@ use Rattle.dsde_nodes.specs.Models.{types_of, resolved}
 use Rattle.dsde_meaning.specs.Outcome.{Stuck, Outcome, Gives, option_of}
 use Rattle.dsde_meaning.specs.Typed.{Typed, Sound}
 use Rattle.dsde_standing.specs.Places.{IsExpr}
-use Rattle.dsde_eval.specs.Conditions.{mean_of, CanEval, Came, IsVia, CanTranslate, Translated, via_values, option_value}
+use Rattle.dsde_standing.specs.Conditions.{mean_of, CanEval, Came, IsVia, CanTranslate, Translated, via_values, option_value}
 use Rattle.dsde_eval.proofs.Typing.{is-option, sound-given, total-ok}
 
 some-is : (a b : ViaCode) → (let r : Option ViaCode = Some a in r) ≡ Some b → a ≡ b

@@ -4,7 +4,7 @@ ghost use Rattle.std.specs.Prelude.{◌≡◌};
 ghost use Rattle.dsde_functions.specs.Coded.{coded_of};
 ghost use Rattle.dsde_evaluator.specs.declared.eval.Evaluator.{Evaluator};
 ghost use Rattle.dsde_evaluator.specs.Evaluating as evaluating;
-ghost use Rattle.dsde_eval.specs.Conditions.{CanEval, Came, CanRun, Ran};
+ghost use Rattle.dsde_standing.specs.Conditions.{CanEval, Came, CanRun, Ran};
 
 use crate::laws::laws;
 use dsde_evaluator::Evaluator;

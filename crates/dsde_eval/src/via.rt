@@ -2,7 +2,7 @@
 
 ghost use Rattle.std.specs.Prelude.{◌≡◌, ◌<◌, Some, length, slice_get, option_copied, IfOk, OnOk};
 ghost use Rattle.dsde_nodes.specs.Models.{resolved};
-ghost use Rattle.dsde_eval.specs.Conditions.{CanTranslate, Translated, via_values, option_value, IsOption};
+ghost use Rattle.dsde_standing.specs.Conditions.{CanTranslate, Translated, via_values, option_value, IsOption};
 
 use crate::env::{Env, eval};
 use dsde_faults::EvalEnd;

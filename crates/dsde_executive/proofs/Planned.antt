@@ -9,7 +9,7 @@ use Rattle.dsde_faults.specs.declared.end.EvalEnd.TheVariants as eval_end
 use Rattle.dsde_nodes.specs.declared.ids.ModelId.{ModelId}
 use Rattle.dsde_nodes.specs.declared.make.Make.{Make}
 use Rattle.dsde_nodes.specs.Models.{types_of, resolved}
-use Rattle.dsde_program.specs.Right.{IsRight}
+use Rattle.dsde_rules.specs.Right.{IsRight}
 use Rattle.dsde_structure.specs.declared.plan.Plan.{Plan}
 use Rattle.dsde_meaning.specs.Outcome.{Stuck, Outcome, Gives}
 use Rattle.dsde_meaning.specs.Meaning.{Vars}

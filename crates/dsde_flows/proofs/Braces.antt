@@ -16,10 +16,11 @@ use Rattle.dsde_meaning.specs.Tables.{Coded, State, state_of, means_in, act_flow
 use Rattle.dsde_meaning.specs.Proper.{all_so}
 use Rattle.dsde_meaning.specs.Typed.{Typed, Fits, AllSent, shown}
 use Rattle.dsde_meaning.specs.Scopes.{Sees}
-use Rattle.dsde_flows.proofs.OfType.{AllHave, FirstHas, all-cons}
-use Rattle.dsde_flows.proofs.Steps.{went, ok-is, and-left, and-right}
-use Rattle.dsde_flows.proofs.Standing.{stands-head, stands-tail, stands-left, stands-right}
-use Rattle.dsde_flows.proofs.Fitting.{field_of, fits-snoc, values-snoc}
+use Rattle.dsde_typing.specs.Values.{AllHave, all-cons}
+use Rattle.dsde_typing.specs.Steps.{went, ok-is}
+use Rattle.dsde_typing.specs.Truths.{and-left, and-right}
+use Rattle.dsde_typing.specs.Standing.{stands-head, stands-tail, stands-left, stands-right}
+use Rattle.dsde_typing.specs.Fitting.{field_of, fits-snoc, values-snoc}
 use Rattle.dsde_flows.proofs.Shows.{Shows, shows-ok, shows-then, shows-where, shows-braces}
 use Rattle.dsde_flows.proofs.Does.{Ready, Done, Does, AllDo, within_braces, block_id}
 
@@ -143,7 +144,7 @@ module _ (types : Types) (coded : Coded) (E : Bool) (outs : List Field) where
         → Shows types outs (Held passed inner next own walk done depth) slots (for_walk name walk items before) (for_each (means_in coded depth).run (block_id next.block) items (shown before))
     for-shows [] have before depth fits sent = shows-ok types outs _ slots before fits sent
     for-shows (value ∷ items) have before depth fits sent =
-        let both : FirstHas types item value items = all-cons types item value items have in
+        let both = all-cons types item value items have in
         shows-then types outs (Held passed inner next own walk done depth) slots slots (for_one name walk value before) (once (means_in coded depth).run (block_id next.block) value (shown before)) _ _
-        (once-shows value both.first before depth fits sent)
-        (λ after fit out. for-shows items both.rest after depth fit out)
+        (once-shows value both.0 before depth fits sent)
+        (λ after fit out. for-shows items both.1 after depth fit out)

@@ -31,10 +31,12 @@ use Rattle.dsde_meaning.specs.Proper as proper
 use Rattle.dsde_meaning.specs.Proper.{is_proper, all_so}
 use Rattle.dsde_meaning.specs.Typed.{Typed, Sound, Fits, AllSent, values_in, shown}
 use Rattle.dsde_meaning.specs.Scopes.{Sees}
-use Rattle.dsde_flows.proofs.OfType.{truth-sound, sound-then}
-use Rattle.dsde_flows.proofs.Types.{wanted-is}
-use Rattle.dsde_flows.proofs.Steps.{went, ok-is, and-left, and-right}
-use Rattle.dsde_flows.proofs.Standing.{stands-left, stands-right}
+use Rattle.dsde_typing.specs.Values.{truth-sound}
+use Rattle.dsde_typing.specs.Outcomes.{sound-then}
+use Rattle.dsde_typing.specs.Types.{wanted-is}
+use Rattle.dsde_typing.specs.Steps.{went, ok-is}
+use Rattle.dsde_typing.specs.Truths.{and-left, and-right}
+use Rattle.dsde_typing.specs.Standing.{stands-left, stands-right}
 use Rattle.dsde_flows.proofs.Shows.{Shows, shows-ok, shows-over, shows-if, shows-where}
 use Rattle.dsde_flows.proofs.Does.{Ready, Done, Does, AllDo, Exprs, within_braces, behind_nodes, block_id, not-cut}
 use Rattle.dsde_flows.proofs.Braces.{walk-rises, braces-show}

@@ -1,10 +1,3 @@
-mod Standing
-mod Places
-mod OfType
-mod Types
-mod Steps
-mod Fitting
-mod Seeing
 mod Shows
 mod Does
 mod Statements

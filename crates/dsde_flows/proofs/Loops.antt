@@ -31,12 +31,14 @@ use Rattle.dsde_meaning.specs.Proper as proper
 use Rattle.dsde_meaning.specs.Proper.{is_plain, is_proper, all_so}
 use Rattle.dsde_meaning.specs.Typed.{Typed, Sound, values_in, shown}
 use Rattle.dsde_meaning.specs.Scopes.{Sees}
-use Rattle.dsde_flows.proofs.OfType.{AllHave, items-sound, sound-then}
-use Rattle.dsde_flows.proofs.Types.{item-is, inner-is}
-use Rattle.dsde_flows.proofs.Steps.{went, ok-is, and-left, and-right}
-use Rattle.dsde_flows.proofs.Standing.{stands-left, stands-right}
-use Rattle.dsde_flows.proofs.Fitting.{field_of}
-use Rattle.dsde_flows.proofs.Seeing.{sees-snoc, fresh-new, slot-behind}
+use Rattle.dsde_typing.specs.Values.{IsList, items-sound}
+use Rattle.dsde_typing.specs.Outcomes.{sound-then}
+use Rattle.dsde_typing.specs.Types.{item-is, item-in-list}
+use Rattle.dsde_typing.specs.Steps.{went, ok-is}
+use Rattle.dsde_typing.specs.Truths.{and-left, and-right}
+use Rattle.dsde_typing.specs.Standing.{stands-left, stands-right}
+use Rattle.dsde_typing.specs.Fitting.{field_of}
+use Rattle.dsde_typing.specs.Seeing.{sees-snoc, fresh-new, slot-behind}
 use Rattle.dsde_flows.proofs.Shows.{shows-over, shows-where}
 use Rattle.dsde_flows.proofs.Does.{Ready, Done, Does, AllDo, Exprs, within_braces, behind_nodes, block_id, not-cut}
 use Rattle.dsde_flows.proofs.Braces.{walk-rises, Held, for-shows}
@@ -68,7 +70,7 @@ module _ (types : Types) (coded : Coded) (whole : Known) (functions : List Funct
         let inside : List Field = with_slot slots name.name (item_in ((resolve whole e).ty slots)) in
         let new = fresh-new E scope slots sees around name w1.value w1.first (and-left (is_plain name) _ plain) in
         let same : inside ≡ last =
-        ap (λ (own : Ty). with_slot slots name.name own) (inner-is ((resolve whole e).ty slots) t (agrees.ty scope slots w2.value w2.first sees ∙ own)) ∙ slot-behind slots name.name t new in
+        ap (λ (own : Ty). with_slot slots name.name own) (ap item_in (agrees.ty scope slots w2.value w2.first sees ∙ own) ∙ item-in-list t) ∙ slot-behind slots name.name t new in
         let sees2 : Sees E more inside = subst (λ (s : List Field). Sees E more s) (sym same) (sees-snoc E scope slots sees (fixed name t) new) in
         let held : Piece Block = all R inside (within_braces next1) in
         let done = body.does (and-right (is_proper e) (all_so P) (and-right (is_plain name) _ plain)) w2.value.height more w5.value inside (within_braces next1) w5.first sees2 in
@@ -80,9 +82,9 @@ module _ (types : Types) (coded : Coded) (whole : Known) (functions : List Funct
           sees = sees;
           shows = λ before depth fits sent.
               let If : Type 0 = Ready types coded E outs next (nodes ++ (held.nodes ++ [])) ((held.own ∷ held.blocks) ++ []) (above w4.value) depth in
-              shows-over types outs If around.is_total (AllHave types t) slots before
+              shows-over types outs If around.is_total (IsList types t) slots before
               (mean whole functions e before.vars >>= (λ v. items_of v)) ((means_in coded depth).part (expr_id next.node) (values_in before.vars) >>= (λ v. items_of v)) _ _
-              (sound-then around.is_total (Typed types (ty.List t)) (AllHave types t) (mean whole functions e before.vars) _
+              (sound-then around.is_total (Typed types (ty.List t)) (IsList types t) (mean whole functions e before.vars) _
               (subst (λ (u : Ty). Sound around.is_total (Typed types u) (mean whole functions e before.vars)) own (agrees.sound scope slots w2.value before.vars w2.first sees fits))
               (λ v typed. items-sound types around.is_total v t typed))
               (λ ready.
@@ -92,9 +94,9 @@ module _ (types : Types) (coded : Coded) (whole : Known) (functions : List Funct
               (agrees.reads scope slots w2.value before.vars next.node depth w2.first sees fits (stands-left coded.nodes next.node nodes (held.nodes ++ []) ready.code)
               (omega (arith, rises, high, low)) (omega (arith, rises, high, deep))))
               sent
-              (λ items have.
+              (λ items list.
               shows-where types outs (Held types coded E outs w5.value inside next1 held (walk_all W) done depth) If slots (for_walk name.name (walk_all W) items before) (for_each (means_in coded depth).run (block_id next.block) items (shown before))
-              (for-shows types coded E outs w5.value slots inside name.name t same next1 held (walk_all W) done items have before depth fits sent)
+              (for-shows types coded E outs w5.value slots inside name.name t same next1 held (walk_all W) done items list.have before depth fits sent)
               (λ ready.
               let low : w4.value + 1 ≤ 512 = not-cut w4.value 512 ready.low ready.low in
               let deep : w4.value + 1 ≤ depth = not-cut w4.value depth ready.low ready.deep in

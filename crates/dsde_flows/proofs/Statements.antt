@@ -1,5 +1,6 @@
 -- Bindings, assignments and sends do in tables what they do over names.
 use Rattle.std.proofs.Common.{◌≡◌, ℕ, ◌+◌, ◌≤◌, arith, Bool, true, not, if◌then◌else◌, List, [], ◌∷◌, ◌++◌, Option, Some, None, Result, Ok, refl, sym, ◌∙◌, ap, subst, slice_get, slice_set, unwrap_or, append-nil}
+use Rattle.std.proofs.lemmas.Bool.{not-false}
 use Rattle.dsde_names.specs.Table.{place_of, named}
 use Rattle.dsde_syntax.specs.declared.id.Id.{Id}
 use Rattle.dsde_syntax.specs.declared.expr.Expr.{Expr}
@@ -37,12 +38,13 @@ use Rattle.dsde_meaning.specs.Proper as proper
 use Rattle.dsde_meaning.specs.Proper.{is_plain, is_proper}
 use Rattle.dsde_meaning.specs.Typed.{Typed, Fits, AllSent, IsSent, values_in, shown}
 use Rattle.dsde_meaning.specs.Scopes.{Sees, Slotted, AreOuts}
-use Rattle.dsde_flows.proofs.Places.{Placed, placed, named-is}
-use Rattle.dsde_flows.proofs.Types.{wanted-is}
-use Rattle.dsde_flows.proofs.Steps.{went, ok-is, unless-is, not-true, and-left, and-right}
-use Rattle.dsde_flows.proofs.Standing.{stands-left}
-use Rattle.dsde_flows.proofs.Fitting.{var_of, field_of, fits-snoc, fits-place, fits-set, fits-within, sent-snoc, set-values, values-snoc}
-use Rattle.dsde_flows.proofs.Seeing.{sees-snoc, fresh-new, slot-behind}
+use Rattle.dsde_typing.specs.Places.{Placed, placed, named-is}
+use Rattle.dsde_typing.specs.Types.{wanted-is}
+use Rattle.dsde_typing.specs.Steps.{went, ok-is, unless-is}
+use Rattle.dsde_typing.specs.Truths.{and-left, and-right}
+use Rattle.dsde_typing.specs.Standing.{stands-left}
+use Rattle.dsde_typing.specs.Fitting.{var_of, field_of, fits-snoc, fits-place, fits-set, fits-within, sent-snoc, set-values, values-snoc}
+use Rattle.dsde_typing.specs.Seeing.{sees-snoc, fresh-new, slot-behind}
 use Rattle.dsde_flows.proofs.Shows.{Shows, shows-at}
 use Rattle.dsde_flows.proofs.Does.{Ready, Done, Does, Exprs, Reads, value-shows, not-cut}
 
@@ -99,8 +101,8 @@ module _ (types : Types) (coded : Coded) (whole : Known) (functions : List Funct
   set-shows If slots name own before v slotted fits sent typed =
       let p : Placed field_name slots name slotted.field = placed field_name slots name slotted.field slotted.found in
       let place : ℕ = p.place in
-      let there : place_of var_name before.vars name ≡ Some place = fits-place types before.vars slots name fits ∙ p.is in
-      let slot : slot_of slots name ≡ place = ap (λ (o : Option ℕ). unwrap_or o 0) p.is in
+      let there : place_of var_name before.vars name ≡ Some place = fits-place types before.vars slots name fits ∙ p.found in
+      let slot : slot_of slots name ≡ place = ap (λ (o : Option ℕ). unwrap_or o 0) p.found in
       let called : slotted.field.name ≡ name = named-is field_name slots slotted.field name slotted.found in
       let of : Typed types slotted.field.ty v = subst (λ (t : Ty). Typed types t v) (sym slotted.of) typed in
       subst (λ (o : Option ℕ). Shows types outs If slots (set_at o name v before) (set_slot (slot_of slots name) v (shown before))) (sym there)
@@ -151,7 +153,7 @@ module _ (types : Types) (coded : Coded) (whole : Known) (functions : List Funct
   sent-is : (name : List ℕ) (own : Ty) (v : Value) → Slotted outs name own → Typed types own v → IsSent types outs (record { port = slot_of outs name; value = v })
   sent-is name own v slotted typed =
       let p : Placed field_name outs name slotted.field = placed field_name outs name slotted.field slotted.found in
-      let slot : slot_of outs name ≡ p.place = ap (λ (o : Option ℕ). unwrap_or o 0) p.is in
+      let slot : slot_of outs name ≡ p.place = ap (λ (o : Option ℕ). unwrap_or o 0) p.found in
       record {
         port = slotted.field;
         found = ap (λ (n : ℕ). slice_get outs n) slot ∙ p.at;
@@ -171,7 +173,7 @@ module _ (types : Types) (coded : Coded) (whole : Known) (functions : List Funct
         let w1 = went (unless (not own.out) Unknown name.at) _ passed h in
         let w2 = went (judge around e scope) _ passed w1.next in
         let w3 = went (wanted own.ty w2.value) _ passed w2.next in
-        let out : own.out ≡ true = not-true own.out (unless-is (not own.out) Unknown name.at w1.value w1.first) in
+        let out : own.out ≡ true = not-false own.out (unless-is (not own.out) Unknown name.at w1.value w1.first) in
         let t : own.ty ≡ w2.value.ty = wanted-is own.ty w2.value w3.value w3.first in
         let behind : Passed = record { scope = scope; height = above w2.value.height } in
         let nodes : List Node = (resolve whole e).nodes slots next.node in

@@ -1,7 +1,8 @@
 -- The functions before a declaration: what is known of them, and one more.
-use Rattle.std.proofs.Common.{◌≡◌, ℕ, ◌≤◌, Bool, true, false, ◌||◌, if◌then◌else◌, List, [], ◌∷◌, ◌++◌, map, length, Option, Some, None, is_some, refl, sym, ◌∙◌, ap, subst, slice_get, unwrap_or, ◌⊎◌, inl, inr}
+use Rattle.std.proofs.Common.{◌≡◌, ℕ, ◌≤◌, Bool, true, false, ◌||◌, List, [], ◌∷◌, ◌++◌, map, length, Option, Some, None, is_some, refl, sym, ◌∙◌, ap, subst, slice_get, unwrap_or, ◌⊎◌, inl, inr}
 use Rattle.std.specs.Str.{bytes_eq}
-use Rattle.std.proofs.lemmas.List.{map-append}
+use Rattle.std.proofs.lemmas.List.{length-map, map-append}
+use Rattle.std.proofs.lemmas.Bool.{or_from}
 use Rattle.dsde_names.specs.Table.{place_of, named, is_among}
 use Rattle.dsde_syntax.specs.declared.id.Id.{Id}
 use Rattle.dsde_syntax.specs.declared.expr.Expr.{Expr}
@@ -20,28 +21,13 @@ use Rattle.dsde_meaning.specs.Functions.{run_func}
 use Rattle.dsde_meaning.specs.Tables.{Coded, means_in, run_code, called_at}
 use Rattle.dsde_meaning.specs.Typed.{Typed, Sound, AllTyped}
 use Rattle.dsde_meaning.specs.Scopes.{Serve, Served, Calls}
-use Rattle.dsde_functions.proofs.Places.{same-name, pick, or_last, named-snoc, among-snoc}
-use Rattle.dsde_functions.proofs.Names.{eq-same, Grows, named-front, place-front, place-new, among-names, length-names, some-alike}
+use Rattle.dsde_typing.specs.Places.{same-name, pick, or_last, named-snoc, among-snoc, eq-same, named-front, position-longer, any-map, added-new}
+use Rattle.dsde_typing.specs.Truths.{or-left, or-right}
+use Rattle.dsde_functions.proofs.Names.{Grows, place-new, some-alike}
 use Rattle.dsde_functions.proofs.FuncAgrees.{FuncAgrees}
-
-or-left : (a b : Bool) → (a || (b || false)) ≡ false → a ≡ false
-or-left true b h = cc
-or-left false b h = refl
-
-or-right : (a b : Bool) → (a || (b || false)) ≡ false → b ≡ false
-or-right true b h = cc
-or-right false true h = cc
-or-right false false h = refl
-
-or-none : (a b : Bool) → a ≡ false → b ≡ false → (a || (b || false)) ≡ false
-or-none a b h k = rw (h, k) refl
 
 abbrev own_name : List ℕ → List ℕ
 own_name name = name
-
--- What is new in a table stands behind the rest.
-added-behind : {T : Type 0} (name_of : T → List ℕ) (items : List T) (item : T) → is_among name_of items (name_of item) ≡ false → added name_of items item ≡ items ++ item ∷ []
-added-behind name_of items item new = ap (λ (b : Bool). if b then items else (items ++ item ∷ [])) new
 
 -- what is found where there is one more item: it was there before, or it is the new one
 found-either : {T : Type 0} (b : Bool) (item own : T) (found : Option T) → or_last found (pick b item None) ≡ Some own → (found ≡ Some own) ⊎ ((found ≡ None) × (b ≡ true) × (item ≡ own))
@@ -80,16 +66,16 @@ new-called funcs before own name values same h is =
 -- tables of the same names: what is among one is among the other, and they are equally long
 alike-among : (funcs : List Func) (before : List Function) (name : List ℕ) → map func_name funcs ≡ map function_name before → is_among function_name before name ≡ false → is_among func_name funcs name ≡ false
 alike-among funcs before name same h =
-    among-names func_name funcs name ∙ ap (λ (names : List (List ℕ)). is_among own_name names name) same ∙ sym (among-names function_name before name) ∙ h
+    sym (any-map (λ own. bytes_eq own name) func_name funcs) ∙ ap (λ (names : List (List ℕ)). is_among own_name names name) same ∙ any-map (λ own. bytes_eq own name) function_name before ∙ h
 
 alike-length : (funcs : List Func) (before : List Function) → map func_name funcs ≡ map function_name before → length funcs ≡ length before
 alike-length funcs before same =
-    sym (length-names func_name funcs) ∙ ap (λ (names : List (List ℕ)). length names) same ∙ length-names function_name before
+    sym (length-map funcs func_name) ∙ ap (λ (names : List (List ℕ)). length names) same ∙ length-map before function_name
 
 alike-added : (funcs : List Func) (before : List Function) (func : Func) (own : Function) → map func_name funcs ≡ map function_name before → func.name ≡ own.name → is_among func_name funcs func.name ≡ false
     → map func_name (added func_name funcs func) ≡ map function_name (before ++ own ∷ [])
 alike-added funcs before func own same name new =
-    ap (map func_name) (added-behind func_name funcs func new)
+    ap (map func_name) (added-new func_name funcs func new)
     ∙ map-append func_name funcs (func ∷ [])
     ∙ ap (λ (names : List (List ℕ)). names ++ func.name ∷ []) same
     ∙ ap (λ (n : List ℕ). map function_name before ++ n ∷ []) name
@@ -134,7 +120,7 @@ module _ (types : Types) (coded : Coded) (whole : Known) where
         → (named func_name known.funcs name ≡ Some found) ⊎ ((named func_name known.funcs name ≡ None) × (bytes_eq func.name name ≡ true) × (func ≡ found))
     either name found h =
         found-either (bytes_eq func.name name) func found (named func_name known.funcs name)
-        (sym (named-snoc func_name known.funcs func name) ∙ ap (λ (l : List Func). named func_name l name) (sym (added-behind func_name known.funcs func new-known)) ∙ h)
+        (sym (named-snoc func_name known.funcs func name) ∙ ap (λ (l : List Func). named func_name l name) (sym (added-new func_name known.funcs func new-known)) ∙ h)
 
     name-is : (name : List ℕ) → bytes_eq func.name name ≡ true → id.name ≡ name
     name-is name h = agrees.name ∙ same-name func.name name h
@@ -143,12 +129,12 @@ module _ (types : Types) (coded : Coded) (whole : Known) where
     number-is : (name : List ℕ) → id.name ≡ name → func_number whole name ≡ length before
     number-is name is =
         let here : place_of func_name (added func_name word.funcs text) name ≡ Some (length word.funcs) =
-        ap (λ (l : List Func). place_of func_name l name) (added-behind func_name word.funcs text new-word)
+        ap (λ (l : List Func). place_of func_name l name) (added-new func_name word.funcs text new-word)
         ∙ ap (place_of func_name (word.funcs ++ text ∷ [])) (sym is ∙ sym spelled)
         ∙ place-new func_name word.funcs text new-word in
         let there : place_of func_name whole.funcs name ≡ Some (length word.funcs) =
         ap (λ (l : List Func). place_of func_name l name) grows.is
-        ∙ place-front func_name (added func_name word.funcs text) grows.more name (length word.funcs) here in
+        ∙ position-longer (λ own. bytes_eq (func_name own) name) (added func_name word.funcs text) grows.more (length word.funcs) here in
         ap (λ (o : Option ℕ). unwrap_or o 0) there ∙ alike-length word.funcs before f.told
 
     more-serve : (name : List ℕ) (found : Func) → named func_name known_more name ≡ Some found → Served types (before ++ own ∷ []) name found
@@ -193,7 +179,7 @@ module _ (types : Types) (coded : Coded) (whole : Known) where
       among = λ n h.
           let both : (is_among own_name names n || (bytes_eq id.name n || false)) ≡ false = sym (among-snoc own_name names id.name n) ∙ h in
           among-snoc function_name before own n
-          ∙ or-none (is_among function_name before n) (bytes_eq id.name n) (f.among n (or-left _ _ both)) (or-right _ _ both);
+          ∙ or_from (is_among function_name before n) (bytes_eq id.name n || false) (f.among n (or-left _ _ both)) (or-right (is_among own_name names n) _ both);
       serve = more-serve;
       calls = more-calls;
     }

@@ -36,10 +36,11 @@ use Rattle.dsde_meaning.specs.Typed.{Typed, Sound, AllTyped, Fits, Faults, Lands
 use Rattle.dsde_meaning.specs.Scopes.{Stands, Sees, Within, Serve, Calls}
 use Rattle.dsde_meaning.specs.Proper.{is_proper, is_proper_stmt}
 use Rattle.dsde_meaning.specs.Agreement.{Agrees, ExpressionsAgree, BlockAgrees, BlocksAgree}
-use Rattle.dsde_functions.proofs.Standing.{stands-head, stands-tail, stands-left, stands-right}
-use Rattle.dsde_functions.proofs.Steps.{went, ok-is, unless-is}
-use Rattle.dsde_functions.proofs.Types.{wanted-is}
-use Rattle.dsde_functions.proofs.Params.{slots_of, slots-see, ty_of, params-slots, Given, params-given}
+use Rattle.dsde_typing.specs.Standing.{stands-head, stands-tail, stands-left, stands-right}
+use Rattle.dsde_typing.specs.Steps.{went, ok-is, unless-is}
+use Rattle.dsde_typing.specs.Types.{wanted-is}
+use Rattle.dsde_typing.specs.Seeing.{slots_of, slots-see}
+use Rattle.dsde_functions.proofs.Params.{ty_of, params-slots, Given, params-given}
 
 abbrev height_of : Passed → Seen → ℕ
 height_of passed found = max passed.height (above found.height)

@@ -1,9 +1,4 @@
-mod Standing
-mod Steps
-mod Types
-mod Places
 mod Names
-mod TypeText
 mod Params
 mod FuncAgrees
 mod Frame

@@ -2,12 +2,8 @@
 use Rattle.std.proofs.Common.{◌≡◌, ℕ, suc, Bool, true, false, ◌||◌, List, [], ◌∷◌, ◌++◌, map, length, Option, Some, None, is_some, refl, sym, ◌∙◌, ap, append_assoc, append-nil}
 use Rattle.std.specs.Option.{option_map}
 use Rattle.std.specs.Str.{bytes_eq}
-use Rattle.std.proofs.lemmas.Slice.Eq.{bytes_eq-Decides}
 use Rattle.dsde_names.specs.Table.{place_of, named, is_among}
-use Rattle.dsde_functions.proofs.Places.{next_place, place-cons, pick, named-cons}
-
-pub eq-same : (name : List ℕ) → bytes_eq name name ≡ true
-eq-same name = (bytes_eq-Decides name name).1 refl
+use Rattle.dsde_typing.specs.Places.{next_place, place-cons, pick, named-cons, eq-same}
 
 -- a list with more behind it
 pub record Grows {A : Type 0} (items all : List A) : Type 0 where
@@ -22,30 +18,6 @@ module _ {A : Type 0} where
   grows-more items more all g = record { more = more ++ g.more; is = g.is ∙ append_assoc items more g.more }
 
 module _ {T : Type 0} (name_of : T → List ℕ) where
-  named-front-step : (b : Bool) (item own : T) (found all : Option T) → (found ≡ Some own → all ≡ Some own) → pick b item found ≡ Some own → pick b item all ≡ Some own
-  named-front-step true item own found all next h = h
-  named-front-step false item own found all next h = next h
-
-  -- What is found is found where there is more behind it.
-  pub named-front : (items more : List T) (name : List ℕ) (own : T) → named name_of items name ≡ Some own → named name_of (items ++ more) name ≡ Some own
-  named-front [] more name own h = cc
-  named-front (item ∷ items) more name own h =
-      named-cons name_of item (items ++ more) name
-      ∙ named-front-step (bytes_eq (name_of item) name) item own (named name_of items name) (named name_of (items ++ more) name) (named-front items more name own)
-      (sym (named-cons name_of item items name) ∙ h)
-
-  place-front-step : (b : Bool) (place : ℕ) (found all : Option ℕ) → ((n : ℕ) → found ≡ Some n → all ≡ Some n) → next_place b found ≡ Some place → next_place b all ≡ Some place
-  place-front-step true place found all next h = h
-  place-front-step false place None all next h = cc
-  place-front-step false place (Some n) all next h = ap (option_map suc) (next n refl) ∙ h
-
-  pub place-front : (items more : List T) (name : List ℕ) (place : ℕ) → place_of name_of items name ≡ Some place → place_of name_of (items ++ more) name ≡ Some place
-  place-front [] more name place h = cc
-  place-front (item ∷ items) more name place h =
-      place-cons name_of item (items ++ more) name
-      ∙ place-front-step (bytes_eq (name_of item) name) place (place_of name_of items name) (place_of name_of (items ++ more) name) (place-front items more name)
-      (sym (place-cons name_of item items name) ∙ h)
-
   place-new-step : (b c : Bool) (found : Option ℕ) (size : ℕ) → (b || c) ≡ false → (c ≡ false → found ≡ Some size) → next_place b found ≡ Some (suc size)
   place-new-step true c found size h next = cc
   place-new-step false c found size h next = ap (option_map suc) (next h)
@@ -56,15 +28,6 @@ module _ {T : Type 0} (name_of : T → List ℕ) where
   place-new (first ∷ items) item h =
       place-cons name_of first (items ++ item ∷ []) (name_of item)
       ∙ place-new-step (bytes_eq (name_of first) (name_of item)) (is_among name_of items (name_of item)) (place_of name_of (items ++ item ∷ []) (name_of item)) (length items) h (place-new items item)
-
-  -- an item is among others by its name
-  pub among-names : (items : List T) (name : List ℕ) → is_among name_of items name ≡ is_among (λ own. own) (map name_of items) name
-  among-names [] name = refl
-  among-names (item ∷ items) name = ap (λ (b : Bool). bytes_eq (name_of item) name || b) (among-names items name)
-
-  pub length-names : (items : List T) → length (map name_of items) ≡ length items
-  length-names [] = refl
-  length-names (item ∷ items) = ap suc (length-names items)
 
 module _ {A B : Type 0} (name_of : A → List ℕ) (other_of : B → List ℕ) where
   some-step : (b : Bool) (one : A) (other : B) (found : Option A) (there : Option B) → is_some found ≡ is_some there → is_some (pick b one found) ≡ is_some (pick b other there)

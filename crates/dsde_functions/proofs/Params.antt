@@ -1,9 +1,7 @@
 -- Parameters: their slots, and values that are bound to them.
-use Rattle.std.proofs.Common.{◌≡◌, ℕ, suc, Bool, true, false, ◌||◌, if◌then◌else◌, List, [], ◌∷◌, ◌++◌, map, length, Option, Ok, refl, sym, ◌∙◌, ap, append_assoc, append-nil}
-use Rattle.std.specs.Option.{option_map}
-use Rattle.std.specs.Str.{bytes_eq}
+use Rattle.std.proofs.Common.{◌≡◌, ℕ, suc, false, List, [], ◌∷◌, ◌++◌, map, length, Ok, refl, sym, ◌∙◌, ap, append_assoc, append-nil}
 use Rattle.std.proofs.lemmas.List.{map-append}
-use Rattle.dsde_names.specs.Table.{named, is_among}
+use Rattle.dsde_names.specs.Table.{is_among}
 use Rattle.dsde_syntax.specs.declared.decl.Typed as syntax
 use Rattle.dsde_values.specs.declared.types.Field.{Field}
 use Rattle.dsde_values.specs.declared.types.Ty.{Ty}
@@ -13,60 +11,24 @@ use Rattle.dsde_rules.specs.declared.known.Known.{Known}
 use Rattle.dsde_rules.specs.declared.seen.Binding.{Binding}
 use Rattle.dsde_rules.specs.declared.wrong.WrongKind.TheVariants.{Duplicate}
 use Rattle.dsde_rules.specs.Tables.{binding_name, field_name, by_text}
-use Rattle.dsde_rules.specs.Judge.{bound_to, fixed, unbound, type_of}
+use Rattle.dsde_rules.specs.Judge.{fixed, unbound, type_of}
 use Rattle.dsde_rules.specs.Judge as rules
 use Rattle.dsde_rules.specs.Blocks.{params_all}
-use Rattle.dsde_nodes.specs.Typing.{with_slot, with_slots}
+use Rattle.dsde_nodes.specs.Typing.{with_slots}
 use Rattle.dsde_nodes.specs.Statements.{typed_fields}
 use Rattle.dsde_meaning.specs.Functions.{bound_params}
-use Rattle.dsde_meaning.specs.Scopes.{Sees, Within}
+use Rattle.dsde_meaning.specs.Scopes.{Within}
 use Rattle.dsde_meaning.specs.Typed.{AllTyped, Fits, values_in}
-use Rattle.dsde_functions.proofs.Places.{pick, named-cons}
-use Rattle.dsde_functions.proofs.Steps.{went, ok-is, unless-is}
-use Rattle.dsde_functions.proofs.TypeText.{type-text}
-
-abbrev pub field_of : List ℕ → Ty → Field
-field_of name ty = record { name = name; ty = ty }
-
--- the slots of names that are bound
-abbrev pub slot : Binding → Field
-slot bound = field_of bound.name bound.ty
-
-abbrev pub slots_of : rules.Scope → List Field
-slots_of = map slot
+use Rattle.dsde_typing.specs.Fitting.{field_of}
+use Rattle.dsde_typing.specs.Seeing.{own_slot, slots_of, among-slots, slot-behind}
+use Rattle.dsde_typing.specs.Steps.{went, ok-is, unless-is}
+use Rattle.dsde_typing.specs.Written.{written}
 
 abbrev pub ty_of : Binding → Ty
 ty_of bound = bound.ty
 
 abbrev pub param_name : syntax.Typed → List ℕ
 param_name param = param.name.name
-
-among-slots : (scope : rules.Scope) (name : List ℕ) → is_among field_name (slots_of scope) name ≡ is_among binding_name scope name
-among-slots [] name = refl
-among-slots (bound ∷ scope) name = ap (λ (b : Bool). bytes_eq bound.name name || b) (among-slots scope name)
-
-pick-slot : (b : Bool) (bound : Binding) (found : Option Binding) → pick b (slot bound) (option_map slot found) ≡ option_map slot (pick b bound found)
-pick-slot true bound found = refl
-pick-slot false bound found = refl
-
-named-slots : (scope : rules.Scope) (name : List ℕ) → named field_name (slots_of scope) name ≡ option_map slot (bound_to scope name)
-named-slots [] name = refl
-named-slots (bound ∷ scope) name =
-    named-cons field_name (slot bound) (slots_of scope) name
-    ∙ ap (pick (bytes_eq bound.name name) (slot bound)) (named-slots scope name)
-    ∙ pick-slot (bytes_eq bound.name name) bound (bound_to scope name)
-    ∙ ap (option_map slot) (sym (named-cons binding_name bound scope name))
-
--- Names that are bound are seen by their slots.
-pub slots-see : (scope : rules.Scope) → Sees false scope (slots_of scope)
-slots-see scope = record {
-  seen = λ name bound h. record { field = slot bound; found = named-slots scope name ∙ ap (option_map slot) h; of = refl };
-  unseen = λ name h other. among-slots scope name ∙ h;
-  elapsed = λ h. cc;
-}
-
-slot-behind : (slots : List Field) (name : List ℕ) (own : Ty) → is_among field_name slots name ≡ false → with_slot slots name own ≡ slots ++ field_of name own ∷ []
-slot-behind slots name own new = ap (λ (b : Bool). if b then slots else (slots ++ field_of name own ∷ [])) new
 
 module _ (types : Types) (known whole : Known) (within : Within types known whole) where
   -- Parameters get slots as they are bound.
@@ -80,8 +42,8 @@ module _ (types : Types) (known whole : Known) (within : Within types known whol
       let own : Binding = fixed param.name w2.value.ty in
       let rest : List Field = typed_fields whole params in
       ap (λ (slots : List Field). with_slots slots rest) (slot-behind (slots_of before) param.name.name (by_text whole.words param.ty) new)
-      ∙ ap (λ (t : Ty). with_slots (slots_of before ++ field_of param.name.name t ∷ []) rest) (type-text types known whole within param.ty w2.value w2.first)
-      ∙ ap (λ (slots : List Field). with_slots slots rest) (sym (map-append slot before (own ∷ [])))
+      ∙ ap (λ (t : Ty). with_slots (slots_of before ++ field_of param.name.name t ∷ []) rest) (written known whole within.words param.ty w2.value w2.first)
+      ∙ ap (λ (slots : List Field). with_slots slots rest) (sym (map-append own_slot before (own ∷ [])))
       ∙ params-slots params (before ++ own ∷ []) scope w2.next
 
 params-names : (known : Known) (params : List syntax.Typed) (before scope : rules.Scope) → params_all known before params ≡ Ok scope → map binding_name before ++ map param_name params ≡ map binding_name scope

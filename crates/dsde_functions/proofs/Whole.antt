@@ -11,7 +11,7 @@ use Rattle.dsde_rules.specs.Rules.{apart_all, decls_rule, top_rules, rules}
 use Rattle.dsde_rules.specs.Steps as steps
 use Rattle.dsde_nodes.specs.Pieces.{Next}
 use Rattle.dsde_nodes.specs.Models.{with_funcs, resolve_decls, whole_of, types_of}
-use Rattle.dsde_program.specs.Right.{IsRight}
+use Rattle.dsde_rules.specs.Right.{IsRight}
 use Rattle.dsde_meaning.specs.Functions.{functions_from}
 use Rattle.dsde_meaning.specs.Tables.{Coded}
 use Rattle.dsde_meaning.specs.Scopes.{Stands}
@@ -21,7 +21,7 @@ use Rattle.dsde_proper.specs.IsProper.{ShapedIsProper}
 use Rattle.dsde_standing.specs.Places.{KnownAt}
 use Rattle.dsde_standing.specs.Laws.{KnownIsWithin}
 use Rattle.dsde_functions.specs.Coded.{coded_of, FuncsAgree}
-use Rattle.dsde_functions.proofs.Steps.{went}
+use Rattle.dsde_typing.specs.Steps.{went}
 use Rattle.dsde_functions.proofs.Decls.{Tabled, Here, Ended, walk-decls}
 
 -- the whole of a table

@@ -2,7 +2,7 @@
 use Rattle.dsde_syntax.specs.declared.decl.Model.{Model}
 use Rattle.dsde_rules.specs.declared.known.Known.{Known}
 use Rattle.dsde_nodes.specs.Models.{whole_of, types_of, resolved}
-use Rattle.dsde_program.specs.Right.{IsRight}
+use Rattle.dsde_rules.specs.Right.{IsRight}
 use Rattle.dsde_meaning.specs.Functions.{functions_of}
 use Rattle.dsde_meaning.specs.Tables.{Coded}
 use Rattle.dsde_meaning.specs.Scopes.{Serve, Calls}

@@ -26,7 +26,7 @@ use Rattle.dsde_rules.specs.Blocks.{body_names, params_all, ports_all, body_of}
 use Rattle.dsde_rules.specs.Rules.{around_with, atomic_rule, inside_rule, network_rule, decl_rule, decls_rule}
 use Rattle.dsde_nodes.specs.declared.info.Info.{Info}
 use Rattle.dsde_nodes.specs.Models.{whole_of, with_info, infos_from, infos_of}
-use Rattle.dsde_program.specs.Right.{IsRight}
+use Rattle.dsde_rules.specs.Right.{IsRight}
 use Rattle.dsde_lawful.proofs.Heads.{atomic-headed, network-headed}
 use Rattle.dsde_lawful.proofs.Ports.{ports-are}
 use Rattle.dsde_lawful.proofs.Steps.{went, judged}

@@ -6,7 +6,7 @@ use Rattle.dsde_rules.specs.declared.wrong.WrongKind.{WrongKind}
 use Rattle.dsde_rules.specs.Steps.{◌>>=◌, Test, unless}
 use Rattle.dsde_rules.specs.Tables.{known_of}
 use Rattle.dsde_rules.specs.Rules.{apart_all, decls_rule, top_rules, rules}
-use Rattle.dsde_program.specs.Right.{IsRight}
+use Rattle.dsde_rules.specs.Right.{IsRight}
 
 -- a step and the next
 pub record Went {A B : Type 0} (first : Result A Wrong) (next : A → Result B Wrong) (last : B) : Type 0 where

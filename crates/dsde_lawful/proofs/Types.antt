@@ -22,7 +22,7 @@ use Rattle.dsde_rules.specs.declared.known.Known.{Known}
 use Rattle.dsde_rules.specs.declared.signatures.TypeWord.{TypeWord}
 use Rattle.dsde_rules.specs.Tables.{type_word, with_name, with_names, with_word, declared_word, declared_words, used_in, used_word, used_typed, used_ports, used_decl, used_words, type_words, text_fields, with_shape, shapes_from, known_of}
 use Rattle.dsde_nodes.specs.Models.{with_func, with_funcs, whole_of, defs_from, types_of}
-use Rattle.dsde_program.specs.Right.{IsRight}
+use Rattle.dsde_rules.specs.Right.{IsRight}
 use Rattle.dsde_lawful.proofs.Heads.{record-worded, enum-worded, atomic-headed, network-headed}
 use Rattle.dsde_lawful.proofs.Words.{worded, Both, both, and-true, or-parts, front-worded, flat-worded, tokens-worded, is_word_used, used-worded}
 

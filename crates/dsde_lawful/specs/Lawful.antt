@@ -5,7 +5,7 @@ use Rattle.dsde_values.specs.Value.{IsLawful}
 use Rattle.dsde_records.specs.Record.{ArePorts}
 use Rattle.dsde_nodes.specs.declared.info.Info.{Info}
 use Rattle.dsde_nodes.specs.Models.{types_of, infos_of, resolved}
-use Rattle.dsde_program.specs.Right.{IsRight}
+use Rattle.dsde_rules.specs.Right.{IsRight}
 
 -- Types have identifiers as names, and enums have distinct identifiers as variants.
 abbrev pub TypesAreLawful : Type 0

@@ -19,10 +19,11 @@ use Rattle.dsde_meaning.specs.Scopes.{Stands, Sees}
 use Rattle.dsde_plans.specs.Layout.{Layout, Lay, lay_all, braced, for_one, for_lay}
 use Rattle.dsde_plans.specs.Drafts as over_slots
 use Rattle.dsde_plans.specs.Drafts.{Draft, draft_of, draw, for_draw}
-use Rattle.dsde_layouts.proofs.OfType.{AllHave, FirstHas, all-cons}
-use Rattle.dsde_layouts.proofs.Steps.{went, ok-is, and-left, and-right}
-use Rattle.dsde_layouts.proofs.Standing.{stands-left, stands-right}
-use Rattle.dsde_layouts.proofs.Fitting.{field_of, fits-snoc, values-snoc}
+use Rattle.dsde_typing.specs.Values.{AllHave, all-cons}
+use Rattle.dsde_typing.specs.Steps.{went, ok-is}
+use Rattle.dsde_typing.specs.Truths.{and-left, and-right}
+use Rattle.dsde_typing.specs.Standing.{stands-left, stands-right}
+use Rattle.dsde_typing.specs.Fitting.{field_of, fits-snoc, values-snoc}
 use Rattle.dsde_layouts.proofs.Ground.{Ground, Kept, Shows, shown, shows-ok, shows-then, shows-cut}
 use Rattle.dsde_layouts.proofs.Does.{Entered, entered-first, entered-then, Widens, nothing-widens, then-widens, Ready, Done, Does, AllDo, one_does, all_do}
 
@@ -154,7 +155,7 @@ module _ (g : Ground) where
         → Shows g slots (for_lay name body next.via items before) (for_draw (all_do g own.own) items (shown before))
     for-shows [] have before kept = shows-ok g slots before kept
     for-shows (value ∷ items) have before kept =
-        let both : FirstHas g.types item value items = all-cons g.types item value items have in
+        let both = all-cons g.types item value items have in
         shows-then g slots slots (for_one name body next.via value before) (over_slots.for_one (all_do g own.own) value (shown before)) _ _
-        (once-shows value both.first before kept)
-        (λ after more. for-shows items both.rest after more)
+        (once-shows value both.0 before kept)
+        (λ after more. for-shows items both.1 after more)

@@ -18,13 +18,13 @@ use Rattle.dsde_structure.specs.declared.plan.Part.TheVariants as part
 use Rattle.dsde_plans.specs.declared.laid.Laid.{Laid}
 use Rattle.dsde_standing.specs.Bodies.{Own, owns_of}
 use Rattle.dsde_system.specs.Plans.{ways, body_ways, HasPort, Joins, IsThrough, FitsEntry}
-use Rattle.dsde_layouts.proofs.Places.{Placed, placed}
+use Rattle.dsde_typing.specs.Places.{Placed, placed}
 
 -- the port of a name
 pub port-has : (ports : List Field) (name : List ℕ) (field : Field) → named field_name ports name ≡ Some field → HasPort ports (slot_of ports name) field.ty
 port-has ports name field h =
     let p : Placed field_name ports name field = placed field_name ports name field h in
-    let slot : slot_of ports name ≡ p.place = ap (λ (o : Option ℕ). unwrap_or o 0) p.is in
+    let slot : slot_of ports name ≡ p.place = ap (λ (o : Option ℕ). unwrap_or o 0) p.found in
     record { field = field; found = ap (λ (n : ℕ). slice_get ports n) slot ∙ p.at; is = refl }
 
 -- A part that is not the network itself where this says so.

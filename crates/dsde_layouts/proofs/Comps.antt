@@ -4,6 +4,7 @@ use Rattle.std.specs.List.{AllByRecursion}
 use Rattle.std.specs.Option.{option_map_or}
 use Rattle.std.specs.Ordering.{is_lt}
 use Rattle.std.proofs.lemmas.List.{length-map}
+use Rattle.std.proofs.lemmas.Bool.{not-false, eqb-true}
 use Rattle.dsde_names.specs.Table.{place_of}
 use Rattle.dsde_syntax.specs.declared.decl.Model.{Model}
 use Rattle.dsde_syntax.specs.declared.expr.Expr.{Expr}
@@ -46,10 +47,10 @@ use Rattle.dsde_standing.specs.Bodies.{Own, owns_of, param_slots}
 use Rattle.dsde_plans.specs.Layout.{most, inserted, is_there, with_entry, index_of, item_step}
 use Rattle.dsde_plans.specs.Drafts.{index_at}
 use Rattle.dsde_system.specs.Fitting.{Fill, FitsArgs}
-use Rattle.dsde_layouts.proofs.Steps.{went, ok-is, unless-is, not-true, and-left, and-right}
-use Rattle.dsde_layouts.proofs.Types.{same-number}
-use Rattle.dsde_layouts.proofs.Places.{Placed, placed}
-use Rattle.dsde_layouts.proofs.Standing.{stands-left, stands-right}
+use Rattle.dsde_typing.specs.Steps.{went, ok-is, unless-is}
+use Rattle.dsde_typing.specs.Truths.{and-left, and-right}
+use Rattle.dsde_typing.specs.Places.{Placed, placed}
+use Rattle.dsde_typing.specs.Standing.{stands-left, stands-right}
 use Rattle.dsde_layouts.proofs.Gets.{gets-own}
 use Rattle.dsde_layouts.proofs.Families.{comp-enters}
 use Rattle.dsde_layouts.proofs.Ground.{Ground, Shows, part_in, shown, shows-ok, shows-over, shows-by}
@@ -106,7 +107,7 @@ called-by : (around : Around) (model : Id) (args : List Expr) (scope : rules.Sco
 called-by around model args scope height None is h = absurd (cc h)
 called-by around model args scope height (Some sig) is h =
     let w1 = went (unless (not (length (map (judge around) args) == length sig.params)) WrongType model.at) _ height h in
-    let same : length (map (judge around) args) ≡ length sig.params = same-number _ _ (not-true _ (unless-is (not (length (map (judge around) args) == length sig.params)) WrongType model.at w1.value w1.first)) in
+    let same : length (map (judge around) args) ≡ length sig.params = eqb-true _ _ (not-false _ (unless-is (not (length (map (judge around) args) == length sig.params)) WrongType model.at w1.value w1.first)) in
     record { sig = sig; found = is; long = sym (length-map args (judge around)) ∙ same; fits = w1.next }
 
 called-at : (around : Around) (model : Id) (args : List Expr) (scope : rules.Scope) (height : ℕ) → args_of around model args scope ≡ Ok height → Called around model args scope height
@@ -185,7 +186,7 @@ pub entry-by : (m : Model) (own : Own) (families : List Family) (known : Known) 
     → EntryBy m own families (record { name = record { stem = name.name; index = index }; model = model_id (whole_of m) model.name; args = values })
 entry-by m own families known models same name model index sig number family values is found has of typed =
     let p : Placed model_name known.models model.name sig = placed model_name known.models model.name sig found in
-    let some : (let own : Option ℕ = Some p.place in own) ≡ Some number = sym p.is ∙ is in
+    let some : (let own : Option ℕ = Some p.place in own) ≡ Some number = sym p.found ∙ is in
     let place : p.place ≡ number = the-number p.place number some in
     let at : slice_get (whole_of m).models number ≡ Some sig =
     ap (λ (l : List ModelSig). slice_get l number) (sym same) ∙ ap (λ (n : ℕ). slice_get known.models n) (sym place) ∙ p.at in

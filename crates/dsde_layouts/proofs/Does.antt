@@ -14,7 +14,7 @@ use Rattle.dsde_nodes.specs.Pieces.{Next, Piece, Step}
 use Rattle.dsde_meaning.specs.Scopes.{Stands, Sees}
 use Rattle.dsde_plans.specs.Layout.{Layout, Lay}
 use Rattle.dsde_plans.specs.Drafts.{Draw, draw, draws}
-use Rattle.dsde_layouts.proofs.Steps.{went, ok-is}
+use Rattle.dsde_typing.specs.Steps.{went, ok-is}
 use Rattle.dsde_layouts.proofs.Families.{Grows, grows-same, grows-more}
 use Rattle.dsde_layouts.proofs.Ground.{Ground, Kept, Shows, part_in, shown}
 

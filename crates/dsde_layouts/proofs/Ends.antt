@@ -39,9 +39,9 @@ use Rattle.dsde_standing.specs.Structures.{ArePorts}
 use Rattle.dsde_plans.specs.Layout.{index_of, part_of, end_of}
 use Rattle.dsde_plans.specs.Drafts.{index_at, part_at, end_at}
 use Rattle.dsde_system.specs.Plans.{ways, body_ways, HasPort}
-use Rattle.dsde_layouts.proofs.Steps.{went}
-use Rattle.dsde_layouts.proofs.Standing.{stands-left}
-use Rattle.dsde_layouts.proofs.Fitting.{field_of}
+use Rattle.dsde_typing.specs.Steps.{went}
+use Rattle.dsde_typing.specs.Standing.{stands-left}
+use Rattle.dsde_typing.specs.Fitting.{field_of}
 use Rattle.dsde_layouts.proofs.Gets.{Gets, gets-ok, gets-then}
 use Rattle.dsde_layouts.proofs.Ports.{PortSeen, port-seen, directed-named, model-named, typed-slot}
 use Rattle.dsde_layouts.proofs.ByFamily.{NetIs, PortsBy, EndBy, port-has}

@@ -1,6 +1,7 @@
 -- The models of components, as the rules enter them and as they are resolved.
 use Rattle.std.proofs.Common.{◌≡◌, ℕ, ◌==◌, Bool, true, false, not, ◌||◌, if◌then◌else◌, List, [], ◌∷◌, ◌++◌, map, Option, Some, None, is_some, unwrap_or, Result, Ok, refl, sym, ◌∙◌, ap, subst}
 use Rattle.std.specs.Str.{bytes_eq}
+use Rattle.std.proofs.lemmas.Bool.{not-false, eqb-true}
 use Rattle.dsde_names.specs.Table.{place_of, named, is_among}
 use Rattle.dsde_syntax.specs.declared.id.Id.{Id}
 use Rattle.dsde_syntax.specs.declared.item.Item.{Item}
@@ -19,10 +20,8 @@ use Rattle.dsde_rules.specs.Structures as rules
 use Rattle.dsde_rules.specs.Structures.{Enter, family_named, enter, enter_all, enter_last, enter_step, enter_arm_step, with_comp, comp_family}
 use Rattle.dsde_nodes.specs.Items.{Kin, kin_all, kin_of, kin_step, kin_arm_step}
 use Rattle.dsde_nodes.specs.Items as nodes
-use Rattle.dsde_layouts.proofs.Steps.{went, ok-is, unless-is, not-true}
-use Rattle.dsde_layouts.proofs.Types.{same-number}
-use Rattle.dsde_layouts.proofs.Seeing.{eq-same}
-use Rattle.dsde_layouts.proofs.Places.{pick, or_last, named-cons, named-snoc}
+use Rattle.dsde_typing.specs.Steps.{went, ok-is, unless-is}
+use Rattle.dsde_typing.specs.Places.{eq-same, pick, or_last, named-cons, named-snoc}
 
 abbrev family_of : List ℕ → ℕ → Family
 family_of name model = record { name = name; model = model }
@@ -99,7 +98,7 @@ with-enters known at name model found more number is (Some family) before h =
       is = is;
       family = family;
       has = subst (λ (l : List Family). family_named l name.name ≡ Some family) same before;
-      of = same-number family.model number (not-true (family.model == number) (unless-is (not (family.model == number)) MixedFamily at w1.value w1.first));
+      of = eqb-true family.model number (not-false (family.model == number) (unless-is (not (family.model == number)) MixedFamily at w1.value w1.first));
       kin = ap (λ (b : Bool). if b then found else (found ++ own ∷ [])) there ∙ same;
       grows = subst (λ (l : List Family). Grows found l) same (grows-same found);
     }

@@ -25,10 +25,11 @@ use Rattle.dsde_proper.specs.Items as proper
 use Rattle.dsde_standing.specs.Structures as standing
 use Rattle.dsde_plans.specs.Layout.{item_step}
 use Rattle.dsde_plans.specs.Drafts.{draft_of}
-use Rattle.dsde_layouts.proofs.Steps.{went, ok-is, and-left, and-right}
-use Rattle.dsde_layouts.proofs.Standing.{stands-left}
-use Rattle.dsde_layouts.proofs.Fitting.{field_of, fits-snoc, values-snoc}
-use Rattle.dsde_layouts.proofs.Seeing.{sees-snoc, fresh-new, slot-behind}
+use Rattle.dsde_typing.specs.Steps.{went, ok-is}
+use Rattle.dsde_typing.specs.Truths.{and-left, and-right}
+use Rattle.dsde_typing.specs.Standing.{stands-left}
+use Rattle.dsde_typing.specs.Fitting.{field_of, fits-snoc, values-snoc}
+use Rattle.dsde_typing.specs.Seeing.{sees-snoc, fresh-new, slot-behind}
 use Rattle.dsde_layouts.proofs.Ground.{Ground, Shows, part_in, shown, shows-at, shows-over, shows-by}
 use Rattle.dsde_layouts.proofs.Values.{value-gets}
 use Rattle.dsde_layouts.proofs.Drawing.{draw-let}

@@ -1,10 +1,3 @@
-mod Standing
-mod Places
-mod Steps
-mod OfType
-mod Types
-mod Fitting
-mod Seeing
 mod Gets
 mod Families
 mod Ports

@@ -34,8 +34,9 @@ use Rattle.dsde_plans.specs.declared.laid.Laid.{Laid}
 use Rattle.dsde_plans.specs.Layout.{most, vias_in, with_link, end_of, via_of, item_step}
 use Rattle.dsde_plans.specs.Drafts.{end_at, via_at}
 use Rattle.dsde_system.specs.Plans.{Joins}
-use Rattle.dsde_layouts.proofs.Steps.{went, ok-is, unless-is, and-left, and-right}
-use Rattle.dsde_layouts.proofs.Standing.{stands-left, stands-right}
+use Rattle.dsde_typing.specs.Steps.{went, ok-is, unless-is}
+use Rattle.dsde_typing.specs.Truths.{and-left, and-right}
+use Rattle.dsde_typing.specs.Standing.{stands-left, stands-right}
 use Rattle.dsde_layouts.proofs.Gets.{Gets, gets-own}
 use Rattle.dsde_layouts.proofs.Ground.{Ground, Shows, part_in, shown, shows-ok, shows-over, shows-by}
 use Rattle.dsde_layouts.proofs.ByFamily.{LinkBy, not-through}

@@ -31,12 +31,13 @@ use Rattle.dsde_meaning.specs.Scopes.{Sees}
 use Rattle.dsde_proper.specs.Items as proper
 use Rattle.dsde_standing.specs.Structures as standing
 use Rattle.dsde_plans.specs.Layout.{Lay, lay_all, item_step}
-use Rattle.dsde_layouts.proofs.OfType.{AllHave, items-sound}
-use Rattle.dsde_layouts.proofs.Types.{item-is, inner-is}
-use Rattle.dsde_layouts.proofs.Steps.{went, ok-is, and-left, and-right}
-use Rattle.dsde_layouts.proofs.Standing.{stands-left, stands-right}
-use Rattle.dsde_layouts.proofs.Fitting.{field_of}
-use Rattle.dsde_layouts.proofs.Seeing.{sees-snoc, fresh-new, slot-behind}
+use Rattle.dsde_typing.specs.Values.{IsList, items-sound}
+use Rattle.dsde_typing.specs.Types.{item-is, item-in-list}
+use Rattle.dsde_typing.specs.Steps.{went, ok-is}
+use Rattle.dsde_typing.specs.Truths.{and-left, and-right}
+use Rattle.dsde_typing.specs.Standing.{stands-left, stands-right}
+use Rattle.dsde_typing.specs.Fitting.{field_of}
+use Rattle.dsde_typing.specs.Seeing.{sees-snoc, fresh-new, slot-behind}
 use Rattle.dsde_layouts.proofs.Gets.{gets-own}
 use Rattle.dsde_layouts.proofs.Ground.{Ground, part_in, shown, shows-over, shows-by}
 use Rattle.dsde_layouts.proofs.Values.{value-gets}
@@ -84,7 +85,7 @@ module _ (g : Ground) where
         let inside : List Field = with_slot slots name.name (item_in ((resolve whole e).ty slots)) in
         let new = fresh-new E scope slots sees around name w1.value w1.first (and-left (is_plain name) _ plain) in
         let same : inside ≡ last =
-        ap (λ (own : Ty). with_slot slots name.name own) (inner-is ((resolve whole e).ty slots) t (agrees.ty scope slots w2.value w2.first sees ∙ own)) ∙ slot-behind slots name.name t new in
+        ap (λ (own : Ty). with_slot slots name.name own) (ap item_in (agrees.ty scope slots w2.value w2.first sees ∙ own) ∙ item-in-list t) ∙ slot-behind slots name.name t new in
         let sees2 : Sees E more inside = subst (λ (s : List Field). Sees E more s) (sym same) (sees-snoc E scope slots sees (fixed name t) new) in
         let held : Piece (List Make) = all R inside next1 in
         let done = body.does (and-right (is_proper e) (all_so P) (and-right (is_plain name) _ plain)) (record { found = entered.found; more = entered.more; is = entered.is; within = entered.within }) w2.value.height more w5.value inside next1 w5.first sees2 in
@@ -101,9 +102,9 @@ module _ (g : Ground) where
               (value-gets g scope slots sees before.vars kept.fits e (and-left (is_proper e) (all_so P) (and-right (is_plain name) _ plain)) w2.value next.node w2.first
               (stands-left g.coded.nodes next.node code (held.nodes ++ []) ready.code) (omega (arith, high, rises, low)))
               (λ v typed.
-              shows-over g (AllHave g.types t) slots (items_of v) (items_of v) _ _
-              (gets-own (AllHave g.types t) (items_of v) (items-sound g.types false v t (subst (λ (u : Ty). Typed g.types u v) own typed)))
-              (λ items have.
+              shows-over g (IsList g.types t) slots (items_of v) (items_of v) _ _
+              (gets-own (IsList g.types t) (items_of v) (items-sound g.types false v t (subst (λ (u : Ty). Typed g.types u v) own typed)))
+              (λ items list.
               for-shows g w5.value slots inside name.name t same next1 held (joined_texts V) (lay_all L) done
               (record {
                 code = stands-left g.coded.nodes next1.node held.nodes [] (stands-right g.coded.nodes next.node code (held.nodes ++ []) ready.code);
@@ -111,6 +112,6 @@ module _ (g : Ground) where
                 words = ready.words;
                 low = omega (arith, high, low);
               })
-              items have before kept)));
+              items list.have before kept)));
         });
   }

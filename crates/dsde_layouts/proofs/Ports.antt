@@ -17,9 +17,9 @@ use Rattle.dsde_rules.specs.Tables.{field_name, port_name}
 use Rattle.dsde_rules.specs.Structures.{port_at, end_at, ports_at}
 use Rattle.dsde_nodes.specs.Typing.{with_slot, with_slots, slot_type}
 use Rattle.dsde_nodes.specs.Items.{directed, model_ports}
-use Rattle.dsde_layouts.proofs.Steps.{went, ok-is, unless-is}
-use Rattle.dsde_layouts.proofs.Places.{same-name, pick, or_last, named-cons, named-snoc}
-use Rattle.dsde_layouts.proofs.Fitting.{field_of}
+use Rattle.dsde_typing.specs.Steps.{went, ok-is, unless-is}
+use Rattle.dsde_typing.specs.Places.{same-name, pick, or_last, named-cons, named-snoc}
+use Rattle.dsde_typing.specs.Fitting.{field_of}
 use Rattle.dsde_layouts.proofs.Families.{among-found}
 
 -- whether a port is of a direction

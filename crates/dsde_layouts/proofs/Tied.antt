@@ -24,7 +24,7 @@ use Rattle.dsde_plans.specs.declared.laid.Laid.{Laid}
 use Rattle.dsde_plans.specs.Layout.{is_there, has_part, tied}
 use Rattle.dsde_standing.specs.Bodies.{Own}
 use Rattle.dsde_system.specs.Plans.{ArePortsOf, HasKid, FitsLink, FitsEntry}
-use Rattle.dsde_layouts.proofs.Steps.{and-left, and-right}
+use Rattle.dsde_typing.specs.Truths.{and-left, and-right}
 use Rattle.dsde_layouts.proofs.ByFamily.{EntryBy, LinkBy, KidBy, PortsBy}
 
 -- names that are the same are equal

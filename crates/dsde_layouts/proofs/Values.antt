@@ -6,8 +6,8 @@ use Rattle.dsde_syntax.specs.declared.item.Bracket.{Bracket}
 use Rattle.dsde_values.specs.declared.types.Field.{Field}
 use Rattle.dsde_values.specs.declared.types.Ty.{Ty}
 use Rattle.dsde_values.specs.declared.types.Ty.TheVariants as ty
-use Rattle.dsde_values.specs.declared.types.Types.{Types}
 use Rattle.dsde_values.specs.declared.value.Value.{Value}
+use Rattle.dsde_values.specs.Value.{fits_int}
 use Rattle.dsde_rules.specs.declared.known.Around.{Around}
 use Rattle.dsde_rules.specs.declared.known.Known.{Known}
 use Rattle.dsde_rules.specs.declared.seen.Seen.{Seen}
@@ -29,22 +29,18 @@ use Rattle.dsde_meaning.specs.Scopes.{Stands, Sees}
 use Rattle.dsde_proper.specs.Items.{is_proper_index}
 use Rattle.dsde_plans.specs.Layout.{natural, index_of}
 use Rattle.dsde_plans.specs.Drafts.{index_at}
-use Rattle.dsde_layouts.proofs.Steps.{went, ok-is, and-left, and-right}
-use Rattle.dsde_layouts.proofs.Types.{wanted-is}
-use Rattle.dsde_layouts.proofs.OfType.{int-sound}
-use Rattle.dsde_layouts.proofs.Standing.{stands-left, stands-right}
+use Rattle.dsde_typing.specs.Steps.{went, ok-is}
+use Rattle.dsde_typing.specs.Truths.{and-left, and-right}
+use Rattle.dsde_typing.specs.Types.{wanted-is}
+use Rattle.dsde_typing.specs.Values.{int-sound}
+use Rattle.dsde_typing.specs.Standing.{stands-left, stands-right}
+use Rattle.dsde_typing.specs.Fitting.{typed-snoc}
 use Rattle.dsde_layouts.proofs.Gets.{Gets, sound-any, gets-ok, gets-own, gets-then}
 use Rattle.dsde_layouts.proofs.Ground.{Ground, part_in}
 
 natural-sound : (at : ℕ) (number : ℤ) → Sound false (λ (own : Option ℕ). Unit {0}) (natural at number)
 natural-sound at (pos number) = tt
 natural-sound at (negsuc number) = refl
-
-pub typed-snoc : (types : Types) (tys : List Ty) (values : List Value) (t : Ty) (v : Value) → AllTyped types tys values → Typed types t v → AllTyped types (tys ++ t ∷ []) (values ++ v ∷ [])
-typed-snoc types [] [] t v all own = (own, tt)
-typed-snoc types [] (w ∷ values) t v all own = absurd all
-typed-snoc types (u ∷ tys) [] t v all own = absurd all
-typed-snoc types (u ∷ tys) (w ∷ values) t v all own = (all.0, typed-snoc types tys values t v all.1 own)
 
 -- Parts are as high as what came before them at least.
 pub fit-rises : (parts : List Judge) (tys : List Ty) (height : ℕ) (scope : rules.Scope) (last : ℕ) → fit parts tys height scope ≡ Ok last → height ≤ last
@@ -110,8 +106,8 @@ module _ (g : Ground) (scope : rules.Scope) (slots : List Field) (sees : Sees g.
       gets-then (Typed g.types w1.value.ty) (λ (own : Option ℕ). Unit {0}) (mean whole g.functions own.value vars) (part_in g (expr_id next.node) (values_in vars)) _ _
       (value-gets own.value proper w1.value next.node w1.first (stands-left g.coded.nodes next.node nodes [] (stands-left g.coded.nodes next.node (nodes ++ []) [] stands)) (omega (arith, high, low)))
       (λ v typed.
-      gets-then (λ (number : ℤ). Unit {0}) (λ (own : Option ℕ). Unit {0}) (int_of v) (int_of v) _ _
-      (gets-own (λ (number : ℤ). Unit {0}) (int_of v) (int-sound g.types false v (subst (λ (u : Ty). Typed g.types u v) (sym t) typed)))
+      gets-then (λ (number : ℤ). fits_int number ≡ true) (λ (own : Option ℕ). Unit {0}) (int_of v) (int_of v) _ _
+      (gets-own (λ (number : ℤ). fits_int number ≡ true) (int_of v) (int-sound g.types false v (subst (λ (u : Ty). Typed g.types u v) (sym t) typed)))
       (λ number _. gets-own (λ (own : Option ℕ). Unit {0}) (natural own.at number) (natural-sound own.at number)))
 
   pub values-get : (args : List Expr) → list_all is_proper args ≡ true → (tys : List Ty) (height last : ℕ) → fit (map (judge around) args) tys height scope ≡ Ok last

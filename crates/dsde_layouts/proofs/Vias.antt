@@ -1,6 +1,7 @@
 -- The translation of a link is in tables what it is over names.
 use Rattle.std.proofs.Common.{◌≡◌, ℕ, ◌+◌, ◌≤◌, max, arith, Bool, true, false, not, ◌||◌, List, [], ◌∷◌, ◌++◌, length, Option, Some, None, is_some, Ok, refl, sym, ◌∙◌, ap, subst, slice_get}
 use Rattle.std.specs.Str.{bytes_eq}
+use Rattle.std.proofs.lemmas.Bool.{not-false}
 use Rattle.dsde_names.specs.Table.{is_among}
 use Rattle.dsde_syntax.specs.declared.decl.Model.{Model}
 use Rattle.dsde_syntax.specs.declared.expr.Expr.{Expr}
@@ -39,14 +40,15 @@ use Rattle.dsde_standing.specs.Places.{KnownAt, IsExpr}
 use Rattle.dsde_standing.specs.Structures.{vias_of, vias_there}
 use Rattle.dsde_plans.specs.Layout.{via_of, key_of}
 use Rattle.dsde_plans.specs.Drafts.{via_at, key_at}
-use Rattle.dsde_eval.specs.Conditions.{IsVia}
+use Rattle.dsde_standing.specs.Conditions.{IsVia}
 use Rattle.dsde_system.specs.Plans.{IsKey, Joins}
-use Rattle.dsde_layouts.proofs.Steps.{went, ok-is, unless-is, not-true, and-left, and-right}
-use Rattle.dsde_layouts.proofs.Types.{same-true, wanted-is}
-use Rattle.dsde_layouts.proofs.Places.{among-snoc}
-use Rattle.dsde_layouts.proofs.Standing.{stands-head, stands-left, stands-right}
-use Rattle.dsde_layouts.proofs.Fitting.{field_of}
-use Rattle.dsde_layouts.proofs.Seeing.{sees-snoc, slot-behind}
+use Rattle.dsde_typing.specs.Steps.{went, ok-is, unless-is}
+use Rattle.dsde_typing.specs.Truths.{and-left, and-right, or-right}
+use Rattle.dsde_typing.specs.Types.{same-true, wanted-is}
+use Rattle.dsde_typing.specs.Places.{among-snoc}
+use Rattle.dsde_typing.specs.Standing.{stands-head, stands-left, stands-right}
+use Rattle.dsde_typing.specs.Fitting.{field_of}
+use Rattle.dsde_typing.specs.Seeing.{sees-snoc, slot-behind}
 use Rattle.dsde_layouts.proofs.Gets.{Gets, gets-ok, gets-then}
 use Rattle.dsde_layouts.proofs.Ground.{Ground, part_in}
 use Rattle.dsde_layouts.proofs.Values.{value-gets}
@@ -59,16 +61,12 @@ nothing-seen = record {
   elapsed = λ h. absurd (cc h);
 }
 
-or-last : (a b : Bool) → (a || (b || false)) ≡ false → (b || false) ≡ false
-or-last true b h = absurd (cc h)
-or-last false b h = h
-
 -- A name behind another in scope differs from it.
 fresh-other : (around : Around) (id : Id) (scope : rules.Scope) (own : Binding) (u : Unit {0}) → fresh around id (scope ++ own ∷ []) ≡ Ok u → is_among field_name (field_of own.name own.ty ∷ []) id.name ≡ false
 fresh-other around id scope own u h =
     let w1 = went (apart around.reserved id) (λ _. unbound (scope ++ own ∷ []) id) u h in
     let new : is_among binding_name (scope ++ own ∷ []) id.name ≡ false = unless-is (is_among binding_name (scope ++ own ∷ []) id.name) Duplicate id.at u w1.next in
-    or-last (is_among binding_name scope id.name) (bytes_eq own.name id.name) (sym (among-snoc binding_name scope own id.name) ∙ new)
+    or-right (is_among binding_name scope id.name) (bytes_eq own.name id.name || false) (sym (among-snoc binding_name scope own id.name) ∙ new)
 
 module _ (m : Model) (g : Ground) (whole_is : g.place.known ≡ whole_of m) (known : KnownAt m g.site.around.known)
     (nodes_are : g.coded.nodes ≡ (resolved m).nodes) (codes_are : g.codes ≡ (resolved m).vias) (written_are : g.written ≡ vias_of m) (types_are : g.types ≡ types_of m) where
@@ -201,6 +199,6 @@ module _ (m : Model) (g : Ground) (whole_is : g.place.known ≡ whole_of m) (kno
     via-gets source from target same_from at None next proper height h stands ways words low =
         let w1 = went (unless (not (same source target)) WrongType at) _ height h in
         gets-ok (λ (own : Option Via). Joins m own source target) None
-        (same-true source target (not-true (same source target) (unless-is (not (same source target)) WrongType at w1.value w1.first)))
+        (same-true source target (not-false (same source target) (unless-is (not (same source target)) WrongType at w1.value w1.first)))
     via-gets source from target same_from at (Some via) next proper height h stands ways words low =
         keyed-gets source from target same_from via.value via.key via.body at next proper height h stands ways words low

@@ -12,7 +12,7 @@ use Rattle.dsde_rules.specs.Structures.{enter, enter_all, item_walk}
 use Rattle.dsde_nodes.specs.declared.make.Make.{Make}
 use Rattle.dsde_nodes.specs.Items.{Place, kin_all, kin_of}
 use Rattle.dsde_nodes.specs.Models.{whole_of, types_of, resolved, place_of_items}
-use Rattle.dsde_program.specs.Right.{IsRight}
+use Rattle.dsde_rules.specs.Right.{IsRight}
 use Rattle.dsde_structure.specs.declared.plan.Entry.{Entry}
 use Rattle.dsde_structure.specs.declared.plan.Plan.{Plan}
 use Rattle.dsde_structure.specs.Survival.{IsInOrder}
@@ -33,7 +33,7 @@ use Rattle.dsde_plans.specs.Layout.{Layout, lay, lay_all, tied, plan_of, structu
 use Rattle.dsde_plans.specs.Drafts.{Draft, draws, draft_of}
 use Rattle.dsde_system.specs.Plans.{FitsPlan}
 use Rattle.dsde_layouts.specs.Agreement.{StructuresAgree, structure_of}
-use Rattle.dsde_layouts.proofs.Steps.{went, ok-is}
+use Rattle.dsde_typing.specs.Steps.{went, ok-is}
 use Rattle.dsde_layouts.proofs.Families.{all-enters, item-enters, grows-same}
 use Rattle.dsde_layouts.proofs.Ground.{Ground, Kept, seen}
 use Rattle.dsde_layouts.proofs.ByFamily.{EntryBy, LinkBy}

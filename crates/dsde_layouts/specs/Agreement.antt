@@ -4,7 +4,7 @@ use Rattle.dsde_syntax.specs.declared.decl.Model.{Model}
 use Rattle.dsde_syntax.specs.declared.item.Item.{Item}
 use Rattle.dsde_nodes.specs.declared.make.Make.{Make}
 use Rattle.dsde_nodes.specs.Models.{whole_of, types_of, place_of_items}
-use Rattle.dsde_program.specs.Right.{IsRight}
+use Rattle.dsde_rules.specs.Right.{IsRight}
 use Rattle.dsde_structure.specs.declared.plan.Plan.{Plan}
 use Rattle.dsde_meaning.specs.Outcome.{Stuck, Outcome}
 use Rattle.dsde_meaning.specs.Meaning.{Vars}

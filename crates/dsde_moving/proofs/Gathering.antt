@@ -8,7 +8,7 @@ use Rattle.dsde_values.specs.declared.types.Field.{Field}
 use Rattle.dsde_values.specs.declared.value.Value.{Value}
 use Rattle.dsde_nodes.specs.declared.ids.ModelId.{ModelId}
 use Rattle.dsde_nodes.specs.Models.{types_of}
-use Rattle.dsde_program.specs.Right.{IsRight}
+use Rattle.dsde_rules.specs.Right.{IsRight}
 use Rattle.dsde_structure.specs.declared.plan.Entry.{Entry}
 use Rattle.dsde_structure.specs.declared.plan.Link.{Link}
 use Rattle.dsde_structure.specs.declared.plan.Part.{Part}
@@ -31,8 +31,8 @@ use Rattle.dsde_gathering.specs.Passing.{AreSorted, AreSortedKids, IsOfModel}
 use Rattle.dsde_starting.specs.Fitting.{FitsGot, FitsKid, FitsNet}
 use Rattle.dsde_starting.specs.Asking.{AreSources, AreAsked}
 use Rattle.dsde_moving.specs.Moving.{box_of, AreFew, AreGot, FitsInside, IsAsked}
-use Rattle.dsde_moving.proofs.Fits.{kid-tree, net-kids, net-shape}
-use Rattle.dsde_moving.proofs.Stood.{Stood, stood, same-own, component-ins}
+use Rattle.dsde_starting.specs.Fits.{kid-tree, net-kids, net-shape}
+use Rattle.dsde_starting.specs.Stood.{Stood, stood, same-own, component-ins}
 
 each-inside : (model : Model) (kids : List Kid) → AllByRecursion (FitsKid model) kids → AllByRecursion (FitsInside model) kids
 each-inside model [] all = tt

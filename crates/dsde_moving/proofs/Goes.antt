@@ -16,10 +16,11 @@ use Rattle.dsde_tree.specs.declared.sim.Kid.{Kid}
 use Rattle.dsde_tree.specs.declared.sim.Net.{Net}
 use Rattle.dsde_tree.specs.declared.sim.Sim.TheVariants as sim
 use Rattle.dsde_tree.specs.declared.sim.Sim.TheViews.{out-Net}
+use Rattle.dsde_tree.specs.Opened.{as_leaf, as_net, move-Leaf, move-Net, net_move-opens}
 use Rattle.dsde_tree.specs.Output.{kid_output, sources_of}
 use Rattle.dsde_tree.specs.Move.{take_move, move_leaf_at, after_boss, after_kids, boss_moves, kid_move, move, net_move, with_sources}
 use Rattle.dsde_moving.specs.Moving.{box_of, kid_with, kids_with}
-use Rattle.dsde_moving.proofs.Opens.{as_leaf, as_net, kids-moved, move-Leaf, move-Net, net_move-opens}
+use Rattle.dsde_moving.proofs.Opens.{kids-moved}
 
 -- what was to be told is another spelling of itself
 pub goes-same : {A : Type 0} (whole rest next : Told A) (old new : List Event) → rest ≡ next → GoesOn whole rest old new → GoesOn whole next old new

@@ -1,6 +1,4 @@
-pub mod Fits
 pub mod Opens
-pub mod Stood
 pub mod Gathering
 pub mod Made
 pub mod Goes

@@ -2,7 +2,7 @@
 
 ghost use Rattle.std.specs.Prelude.{◌≡◌, ◌<◌, Some, length, slice_get, IfOk};
 ghost use Rattle.dsde_nodes.specs.Models.{infos_of, resolved, types_of};
-ghost use Rattle.dsde_program.specs.Right.{IsRight};
+ghost use Rattle.dsde_rules.specs.Right.{IsRight};
 
 use crate::whole::{Declared, Laid, Whole, whole_in};
 use dsde_laying::model_laid;
@@ -29,7 +29,7 @@ impl<'m> std::marker::Model for Program<'m> {
     ghost use Rattle.dsde_syntax.specs.declared.decl.Model.{Model};
     ghost use Rattle.dsde_syntax.specs.contracts.decl.Model as whole;
     ghost use Rattle.dsde_nodes.specs.Models.{infos_of, resolved, types_of};
-    ghost use Rattle.dsde_program.specs.Right.{IsRight};
+    ghost use Rattle.dsde_rules.specs.Right.{IsRight};
 
     ghost Value = { Model };
 

@@ -1,6 +1,6 @@
 //! What an accepted model is resolved to: a line for each thing that has a number.
 
-ghost use Rattle.dsde_program.specs.Right.{IsRight};
+ghost use Rattle.dsde_rules.specs.Right.{IsRight};
 
 use anyhow::{Result, bail};
 use dsde_nodes::{BlockId, ExprId, ModelId, ViaId};

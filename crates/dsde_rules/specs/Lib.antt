@@ -5,3 +5,4 @@ pub mod Judge
 pub mod Blocks
 pub mod Structures
 pub mod Rules
+pub mod Right

@@ -1,44 +1,28 @@
--- What comes by the in ports of a model without networks comes to its root.
-use Rattle.std.proofs.Common.{◌≡◌, ℕ, false, List, [], ◌∷◌, Option, Some, None, slice_get, sym, ap, subst, ◌∙◌, arith}
-use Rattle.std.specs.Prelude.{All, zero, suc}
-use Rattle.std.specs.List.{list_any}
+-- What comes by the in ports of a model comes to the root of its tree.
+use Rattle.std.proofs.Common.{◌≡◌, ℕ, false, List, [], ◌∷◌, Option, Some, None, slice_get, ap, subst, ◌∙◌, arith}
+use Rattle.std.specs.Prelude.{All, IfSome, suc}
 use Rattle.std.specs.Option.{option_map_or}
-use Rattle.dsde_syntax.specs.declared.decl.Decl.{Decl}
-use Rattle.dsde_syntax.specs.declared.decl.Decl.TheVariants as decl
 use Rattle.dsde_values.specs.declared.arrival.Arrival.{Arrival}
 use Rattle.dsde_values.specs.declared.arrival.Item.{Item}
 use Rattle.dsde_values.specs.declared.types.Field.{Field}
 use Rattle.dsde_values.specs.declared.types.Types.{Types}
 use Rattle.dsde_values.proofs.Typed.{HasType-is}
 use Rattle.dsde_records.specs.Record.{IsItem}
-use Rattle.dsde_formalism.specs.declared.leaf.Leaf.{Leaf}
 use Rattle.dsde_lawful.specs.Lawful.{TopIsDeclared}
 use Rattle.dsde_meaning.specs.Typed.{AllSent}
 use Rattle.dsde_nodes.specs.declared.info.Info.{Info}
-use Rattle.dsde_nodes.specs.Models.{resolved, types_of, whole_of}
-use Rattle.dsde_nodes.specs.Statements.{port_fields}
-use Rattle.dsde_program.specs.Right.{IsRight}
-use Rattle.dsde_sim.specs.Working as working
-use Rattle.dsde_sim.specs.Working.{HeadComes}
-use Rattle.dsde_standing.specs.Bodies.{Own, owns_of, body_ins}
-use Rattle.dsde_standing.specs.Laws.{TopsStand, BodiesStand}
+use Rattle.dsde_nodes.specs.declared.ids.ModelId.{ModelId}
+use Rattle.dsde_nodes.specs.Models.{resolved, types_of}
+use Rattle.dsde_rules.specs.Right.{IsRight}
+use Rattle.dsde_sim.specs.Working as sim
+use Rattle.dsde_standing.specs.Bodies.{owns_of}
+use Rattle.dsde_standing.specs.Laws.{BodiesStand}
+use Rattle.dsde_system.specs.Plans.{ways}
+use Rattle.dsde_tree.specs.declared.sim.Sim.{Sim}
+use Rattle.dsde_tree.specs.Tree.{model_of}
 use Rattle.dsde_run.specs.Heads.{Comes}
-use Rattle.dsde_run.specs.Run.{Running, declares_network, info_of, is_network, no_info}
+use Rattle.dsde_run.specs.Run.{Running, info_of, no_info}
 use Rattle.dsde_run.specs.Steps.{ItemsCome}
-
--- the ports of an atomic model are those of its body
-own-ports : (decls : List Decl) (number : ℕ) (own : Own) → list_any is_network decls ≡ false → slice_get (owns_of decls) number ≡ Some own → own.ports ≡ own.body.ports
-own-ports [] number own none found = absurd (cc found)
-own-ports (decl.Enum name variants ∷ decls) number own none found = own-ports decls number own none found
-own-ports (decl.Rec name fields ∷ decls) number own none found = own-ports decls number own none found
-own-ports (decl.Func name params result stmts value ∷ decls) number own none found = own-ports decls number own none found
-own-ports (decl.Top at name args ∷ decls) number own none found = own-ports decls number own none found
-own-ports (decl.Network at name params ports exec_at body items ∷ decls) number own none found = absurd (cc none)
-own-ports (decl.Atomic at name params body ∷ decls) zero own none found = let same = some-is _ own found in ap (λ (own : Own). own.ports) (sym same) ∙ ap (λ (own : Own). own.body.ports) same
-  where
-    some-is : (this that : Own) → Some this ≡ Some that → this ≡ that
-    some-is this that same = cc same
-own-ports (decl.Atomic at name params body ∷ decls) (suc number) own none found = own-ports decls number own none found
 
 -- items with values of their ports' types
 all-sent : (ports : List Field) (types : Types) (items : List Item) → All (IsItem ports types) items → AllSent types ports items
@@ -49,24 +33,27 @@ all-sent ports types (item ∷ items) all =
       all-sent ports types items (λ k d within. all (suc k) d (omega (arith, within))),
     )
 
-module _ (tops : TopsStand) (bodies : BodiesStand) (declared : TopIsDeclared) (own : Running) (right : IsRight own.model) (single : declares_network own.model ≡ false) where
-  comes-root : (leaf : Leaf) (head : Arrival) → leaf.model ≡ (resolved own.model).own.top_model → Comes (info_of own.model).ins (types_of own.model) head → working.Comes own.model leaf head
-  comes-root leaf head root comes =
+module _ (bodies : BodiesStand) (declared : TopIsDeclared) (own : Running) (right : IsRight own.model) where
+  comes-root : (root : ModelId) (head : Arrival) → root ≡ (resolved own.model).own.top_model → Comes (info_of own.model).ins (types_of own.model) head → sim.Comes own.model root head
+  comes-root root head is_root comes =
       let number : ℕ = (resolved own.model).own.top_model.0 in
       let has = bodies own.model number right (declared own.model right) in
       let is_info : info_of own.model ≡ has.is.info = ap (λ (found : Option Info). option_map_or (λ (info : Info). info) found no_info) has.is.told in
-      let ports : (info_of own.model).ins ≡ body_ins own.model has.own =
-      ap (λ (info : Info). info.ins) is_info ∙ has.is.is.ins
-      ∙ ap (port_fields (whole_of own.model) false) (own-ports own.model.decls number has.own single has.is.found) in
+      let ports : (info_of own.model).ins ≡ ways own.model has.own false = ap (λ (info : Info). info.ins) is_info ∙ has.is.is.ins in
       record {
         early = comes.early;
         fits = record {
           own = has.own;
-          found = ap (λ m. slice_get (owns_of own.model.decls) m.0) root ∙ has.is.found;
+          found = ap (λ (m : ModelId). slice_get (owns_of own.model.decls) m.0) is_root ∙ has.is.found;
           come = subst (λ (ins : List Field). AllSent (types_of own.model) ins head.items) ports (all-sent (info_of own.model).ins (types_of own.model) head.items comes.items.each);
         };
       }
 
+  comes-tree : (tree : Option Sim) (head : Option Arrival) → IfSome tree (λ tree. model_of tree ≡ (resolved own.model).own.top_model) →
+      IfSome head (Comes (info_of own.model).ins (types_of own.model)) → IfSome tree (λ tree. IfSome head (sim.Comes own.model (model_of tree)))
+  comes-tree None head root comes = tt
+  comes-tree (Some tree) None root comes = tt
+  comes-tree (Some tree) (Some head) root comes = comes-root (model_of tree) head root comes
+
   pub items-come : ItemsCome own
-  items-come engine None root comes = tt
-  items-come engine (Some head) root comes = comes-root _ head root comes
+  items-come engine head root comes = comes-tree engine.tree head root comes

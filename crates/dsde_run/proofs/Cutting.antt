@@ -11,8 +11,8 @@ use Rattle.dsde_records.specs.Records.{Records, end, bad, one}
 use Rattle.dsde_events.specs.declared.event.Event.{Event}
 use Rattle.dsde_events.specs.declared.event.Finish.TheVariants as how
 use Rattle.dsde_events.specs.declared.fault.TurnEnd.{TurnEnd}
-use Rattle.dsde_turns.specs.declared.tree.Step.{Step}
-use Rattle.dsde_turns.specs.declared.tree.Step.TheVariants.{Turned, Quiet}
+use Rattle.dsde_turns.specs.declared.step.Step.{Step}
+use Rattle.dsde_turns.specs.declared.step.Step.TheVariants.{Turned, Quiet}
 use Rattle.dsde_turns.specs.Engine.{Engine}
 use Rattle.dsde_run.specs.Run.{event_text, trace_text}
 use Rattle.dsde_turns.specs.Turn.{turn_time}
@@ -43,14 +43,14 @@ behind_turn model engine head later answer = elim answer [
     | Turned took_input ↦ later took_input answer.1
     | Quiet ↦ ended how.Quiet engine.turn engine.time
   ]
-  | Err why ↦ faulted model why (engine.turn + 1) (unwrap_or (turn_time (next_of engine.tree) head) engine.time)
+  | Err why ↦ faulted model why (engine.turn + 1) (unwrap_or (turn_time (next_of engine) head) engine.time)
 ]
 
 begins-behind : (model : Running) (engine : Engine) (head : Option Arrival) (part whole : Bool → Engine → Run) → ((took_input : Bool) (after : Engine) → Begins (part took_input after) (whole took_input after)) →
     (answer : Result (Step × Engine) TurnEnd) → Begins (behind_turn model engine head part answer) (behind_turn model engine head whole answer)
 begins-behind model engine head part whole begins (Ok (Turned took_input, after)) = begins took_input after
 begins-behind model engine head part whole begins (Ok (Quiet, after)) = begins-same (ended how.Quiet engine.turn engine.time)
-begins-behind model engine head part whole begins (Err why) = begins-same (faulted model why (engine.turn + 1) (unwrap_or (turn_time (next_of engine.tree) head) engine.time))
+begins-behind model engine head part whole begins (Err why) = begins-same (faulted model why (engine.turn + 1) (unwrap_or (turn_time (next_of engine) head) engine.time))
 
 begins-turn_on : (model : Running) (engine : Engine) (head : Option Arrival) (part whole : Bool → Engine → Run) → ((took_input : Bool) (after : Engine) → Begins (part took_input after) (whole took_input after)) →
     Begins (turn_on model engine head part) (turn_on model engine head whole)

@@ -15,7 +15,7 @@ use Rattle.dsde_events.specs.declared.event.Event.{Event}
 use Rattle.dsde_events.specs.declared.event.Finish.{Finish}
 use Rattle.dsde_events.specs.declared.fault.TurnEnd.{TurnEnd}
 use Rattle.dsde_events.specs.declared.fault.TurnEnd.TheVariants.{Fault, Memory}
-use Rattle.dsde_turns.specs.declared.tree.Step.{Step}
+use Rattle.dsde_turns.specs.declared.step.Step.{Step}
 use Rattle.dsde_turns.specs.Engine.{Engine}
 use Rattle.dsde_run.specs.Run.{event_text, trace_text}
 use Rattle.dsde_events.specs.Told.{Told}

@@ -1,6 +1,5 @@
 -- A run that falls quiet has read its input to the end.
 use Rattle.dsde_system.specs.Program.{system}
-use Rattle.dsde_turns.specs.Engine.{leaf_of}
 use Rattle.dsde_turns.specs.Engine.{next_of}
 use Rattle.std.proofs.Common.{◌≡◌, ◌≢◌, ℕ, ◌+◌, Bool, true, false, List, [], ◌∷◌, ◌++◌, Result, Ok, Err, refl, sym, ap, ◌∙◌}
 use Rattle.std.specs.Prelude.{Option, Some, None, min}
@@ -14,14 +13,14 @@ use Rattle.dsde_events.specs.declared.event.Finish.{Finish}
 use Rattle.dsde_events.specs.declared.event.Finish.TheVariants as how
 use Rattle.dsde_events.specs.declared.fault.TurnEnd.{TurnEnd}
 use Rattle.dsde_events.specs.declared.fault.TurnEnd.TheVariants.{Fault, Memory}
-use Rattle.dsde_formalism.specs.declared.leaf.Leaf.{Leaf}
-use Rattle.dsde_turns.specs.declared.tree.Step.{Step}
-use Rattle.dsde_turns.specs.declared.tree.Step.TheVariants.{Turned, Quiet}
+use Rattle.dsde_turns.specs.declared.step.Step.{Step}
+use Rattle.dsde_turns.specs.declared.step.Step.TheVariants.{Turned}
 use Rattle.dsde_turns.specs.Engine.{Engine}
 use Rattle.dsde_events.specs.Told as step
-use Rattle.dsde_events.specs.Told.{told, ◌then◌}
+use Rattle.dsde_events.specs.Told.{quietly, ◌then◌}
 use Rattle.dsde_turns.specs.Engine.{turned}
-use Rattle.dsde_turns.specs.Turn.{turn, is_taken, items_at, turn_time}
+use Rattle.dsde_tree.specs.declared.sim.Sim.{Sim}
+use Rattle.dsde_turns.specs.Turn.{turn, is_taken, items_at, turn_time, after_turn, advance_tree}
 use Rattle.dsde_run.specs.Run.{advance}
 use Rattle.dsde_run.specs.Heads.{Heads}
 use Rattle.dsde_run.specs.declared.run.After.TheVariants.{Ended}
@@ -47,57 +46,69 @@ offence-not_quiet input_end.ReadFault turns time answer is quiet = let two = ap 
 offence-not_quiet input_end.Memory turns time answer is quiet = let two = ap (λ run. run.end) is in absurd (cc)
 
 -- what a turn comes to, from what its phases come to
-abbrev turned_end : (engine : Engine) (time : ℕ) (took_input : Bool) → Result Leaf TurnEnd → Result (Step × Engine) TurnEnd
-turned_end engine time took_input (Ok leaf) = Ok (Turned took_input, turned engine leaf time took_input)
-turned_end engine time took_input (Err why) = Err why
+abbrev turned_end : Engine → Arrival → ℕ → Result Sim TurnEnd → Result (Step × Engine) TurnEnd
+turned_end engine head time (Ok own) = Ok (Turned (is_taken (Some head) time), turned engine own time (is_taken (Some head) time))
+turned_end engine head time (Err why) = Err why
 
 -- a turn that is taken is no quiet end
-turned-not_quiet : (model : Running) (engine : Engine) (head : Option Arrival) (time : ℕ) (took_input : Bool) (end : Result Leaf TurnEnd) →
-    (behind_turn model engine head (λ took_input after. cut) (turned_end engine time took_input end)).end ≢ Some how.Quiet
-turned-not_quiet model engine head time took_input (Ok leaf) quiet = absurd (cc quiet)
-turned-not_quiet model engine head time took_input (Err (Fault path site kind at)) quiet = absurd (cc quiet)
-turned-not_quiet model engine head time took_input (Err Memory) quiet = absurd (cc quiet)
+turned-not_quiet : (model : Running) (engine : Engine) (head : Arrival) (time : ℕ) (end : Result Sim TurnEnd) →
+    (behind_turn model engine (Some head) (λ took_input after. cut) (turned_end engine head time end)).end ≢ Some how.Quiet
+turned-not_quiet model engine head time (Ok own) quiet = absurd (cc quiet)
+turned-not_quiet model engine head time (Err (Fault path site kind at)) quiet = absurd (cc quiet)
+turned-not_quiet model engine head time (Err Memory) quiet = absurd (cc quiet)
 
 -- what a step comes to
-end_then : (engine : Engine) (time : ℕ) (took_input : Bool) (phases : step.Told Leaf) (end : Result Leaf TurnEnd) → phases.end ≡ end →
-    (phases then (λ leaf. told [] (Turned took_input, turned engine leaf time took_input))).end ≡ turned_end engine time took_input end
-end_then engine time took_input phases (Ok leaf) is = rw is refl
-end_then engine time took_input phases (Err why) is = rw is refl
+end_then : (engine : Engine) (head : Arrival) (time : ℕ) (phases : step.Told Sim) (end : Result Sim TurnEnd) → phases.end ≡ end →
+    (phases then after_turn engine (Some head) time).end ≡ turned_end engine head time end
+end_then engine head time phases (Ok own) is = rw is refl
+end_then engine head time phases (Err why) is = rw is refl
 
--- a turn at the time that was found
-abbrev at_time : Running → Engine → Arrival → Option ℕ → step.Told (Step × Engine)
-at_time model engine head found = elim found [
-  | Some time ↦ turn (system model.model) (leaf_of engine.tree) (engine.turn + 1) time (items_at (Some head) time) then (λ leaf.
-      told [] (Turned (is_taken (Some head) time), turned engine leaf time (is_taken (Some head) time)))
-  | None ↦ told [] (Quiet, engine)
+-- the phases of a turn at this time
+abbrev phases_at : Running → Engine → Sim → Arrival → ℕ → step.Told Sim
+phases_at model engine own head time = turn (system model.model) own (engine.turn + 1) time (items_at (Some head) time)
+
+-- the turn of an engine with this tree
+abbrev by_tree : Running → Engine → Arrival → Option Sim → step.Told (Step × Engine)
+by_tree model engine head tree = elim tree [
+  | Some own ↦ advance_tree (system model.model) engine own (Some head) (turn_time (next_of engine) (Some head))
+  | None ↦ quietly (Err Memory)
 ]
 
-end_at : (model : Running) (engine : Engine) (head : Arrival) (time : ℕ) → turn_time (next_of engine.tree) (Some head) ≡ Some time →
-    (advance model engine (Some head)).end ≡
-    turned_end engine time (is_taken (Some head) time) (turn (system model.model) (leaf_of engine.tree) (engine.turn + 1) time (items_at (Some head) time)).end
-end_at model engine head time is =
-    ap (λ found. (at_time model engine head found).end) is
-    ∙ end_then engine time (is_taken (Some head) time) (turn (system model.model) (leaf_of engine.tree) (engine.turn + 1) time (items_at (Some head) time))
-    (turn (system model.model) (leaf_of engine.tree) (engine.turn + 1) time (items_at (Some head) time)).end refl
+end_at : (model : Running) (engine : Engine) (own : Sim) (head : Arrival) (time : ℕ) → engine.tree ≡ Some own → turn_time (next_of engine) (Some head) ≡ Some time →
+    (advance model engine (Some head)).end ≡ turned_end engine head time (phases_at model engine own head time).end
+end_at model engine own head time is_tree is =
+    ap (λ tree. (by_tree model engine head tree).end) is_tree
+    ∙ ap (λ found. (advance_tree (system model.model) engine own (Some head) found).end) is
+    ∙ end_then engine head time (phases_at model engine own head time) (phases_at model engine own head time).end refl
 
 -- where a turn is taken the run does not fall quiet
-taken-not_quiet : (model : Running) (engine : Engine) (head : Arrival) (time : ℕ) → turn_time (next_of engine.tree) (Some head) ≡ Some time →
+taken-not_quiet : (model : Running) (engine : Engine) (own : Sim) (head : Arrival) (time : ℕ) → engine.tree ≡ Some own → turn_time (next_of engine) (Some head) ≡ Some time →
     (turn_on model engine (Some head) (λ took_input after. cut)).end ≢ Some how.Quiet
-taken-not_quiet model engine head time is quiet =
-    turned-not_quiet model engine (Some head) time (is_taken (Some head) time) (turn (system model.model) (leaf_of engine.tree) (engine.turn + 1) time (items_at (Some head) time)).end
-    (ap (λ end. (behind_turn model engine (Some head) (λ took_input after. cut) end).end) (sym (end_at model engine head time is)) ∙ quiet)
+taken-not_quiet model engine own head time is_tree is quiet =
+    turned-not_quiet model engine head time (phases_at model engine own head time).end
+    (ap (λ end. (behind_turn model engine (Some head) (λ took_input after. cut) end).end) (sym (end_at model engine own head time is_tree is)) ∙ quiet)
+
+-- nor where there is no tree
+spent-not_quiet : (model : Running) (engine : Engine) (head : Arrival) → engine.tree ≡ None → (turn_on model engine (Some head) (λ took_input after. cut)).end ≢ Some how.Quiet
+spent-not_quiet model engine head is_tree quiet =
+    let ends : (advance model engine (Some head)).end ≡ Err Memory = ap (λ tree. (by_tree model engine head tree).end) is_tree in
+    let none : None ≡ Some how.Quiet = ap (λ end. (behind_turn model engine (Some head) (λ took_input after. cut) end).end) (sym ends) ∙ quiet in
+    absurd (cc none)
 
 -- where there is a head a turn is taken
-head-not_quiet : (model : Running) (engine : Engine) (head : Arrival) (next : When) → (next_of engine.tree) ≡ next →
+head-not_quiet : (model : Running) (engine : Engine) (head : Arrival) (tree : Option Sim) (next : When) → engine.tree ≡ tree → next_of engine ≡ next →
     (turn_on model engine (Some head) (λ took_input after. cut)).end ≢ Some how.Quiet
-head-not_quiet model engine head (At due) is = taken-not_quiet model engine head (min due head.time) (ap (λ next. turn_time next (Some head)) is)
-head-not_quiet model engine head Never is = taken-not_quiet model engine head head.time (ap (λ next. turn_time next (Some head)) is)
+head-not_quiet model engine head None next is_tree is = spent-not_quiet model engine head is_tree
+head-not_quiet model engine head (Some own) (At due) is_tree is =
+    taken-not_quiet model engine own head (min due head.time) is_tree (ap (λ next. turn_time next (Some head)) is)
+head-not_quiet model engine head (Some own) Never is_tree is =
+    taken-not_quiet model engine own head head.time is_tree (ap (λ next. turn_time next (Some head)) is)
 
 pub ended-not_asked : (model : Running) (before after : Engine) (head : Option Arrival) (old new : List ℕ) →
     Turns model before head after old new (Ended how.Quiet) → head ≡ None
 ended-not_asked model before after None old new turns = refl
 ended-not_asked model before after (Some head) old new turns =
-    absurd (head-not_quiet model before head (next_of before.tree) refl (turns (λ took_input after. cut)).end)
+    absurd (head-not_quiet model before head before.tree (next_of before) refl refl (turns (λ took_input after. cut)).end)
 
 -- nothing is left where the head was asked for and the end was seen
 read_out_by : (ended : Bool) (heads new : Heads) (mid after : List ℕ) → heads.reader.ended ≡ ended → Asked None None heads new mid after →

@@ -12,8 +12,8 @@ use Rattle.dsde_events.specs.declared.event.Finish.{Finish}
 use Rattle.dsde_events.specs.declared.event.Finish.TheVariants as how
 use Rattle.dsde_events.specs.declared.fault.TurnEnd.{TurnEnd}
 use Rattle.dsde_events.specs.declared.fault.TurnEnd.TheVariants.{Fault, Memory}
-use Rattle.dsde_turns.specs.declared.tree.Step.{Step}
-use Rattle.dsde_turns.specs.declared.tree.Step.TheVariants.{Turned, Quiet}
+use Rattle.dsde_turns.specs.declared.step.Step.{Step}
+use Rattle.dsde_turns.specs.declared.step.Step.TheVariants.{Turned, Quiet}
 use Rattle.dsde_turns.specs.Engine.{Engine}
 use Rattle.dsde_trace.specs.Text.{end_text}
 use Rattle.dsde_run.specs.Run.{event_text, trace_text}
@@ -40,7 +40,7 @@ turn_on-quiet model engine next head later e = rw e
 -- it ends where the turn does not come to its end
 pub turn_on-faulted : (model : Running) (engine : Engine) (head : Option Arrival) (why : TurnEnd) (later : Bool → Engine → Run) →
     (advance model engine head).end ≡ Err why →
-    turn_on model engine head later ≡ preceded (advance model engine head).events (faulted model why (engine.turn + 1) (unwrap_or (turn_time (next_of engine.tree) head) engine.time))
+    turn_on model engine head later ≡ preceded (advance model engine head).events (faulted model why (engine.turn + 1) (unwrap_or (turn_time (next_of engine) head) engine.time))
 turn_on-faulted model engine head why later e = rw e
 
 -- it goes on where the start comes to its end

@@ -1,10 +1,16 @@
 -- A run's start, and then its turns.
-use Rattle.std.proofs.Common.{◌≡◌, ℕ, List, [], ◌++◌, Ok, ap, sym, ◌∙◌}
-use Rattle.std.specs.Prelude.{Option, Some, None, IfSome}
+use Rattle.std.proofs.Common.{◌≡◌, ℕ, true, List, [], ◌++◌, Result, Ok, Err, refl, ap, sym, ◌∙◌}
+use Rattle.std.specs.Prelude.{Option, Some, None, IfSome, is_some}
+use Rattle.dsde_values.specs.Path.{root}
+use Rattle.dsde_events.specs.declared.fault.TurnEnd.{TurnEnd}
+use Rattle.dsde_events.specs.Told.{at, told, quietly, ◌then◌}
+use Rattle.dsde_formalism.specs.System.{System, Chosen}
 use Rattle.dsde_run.specs.Run.{Running}
 use Rattle.dsde_records.specs.Records.{Records}
 use Rattle.dsde_events.specs.declared.event.Event.{Event}
-use Rattle.dsde_turns.specs.Engine.{Engine}
+use Rattle.dsde_turns.specs.Engine.{Engine, begun}
+use Rattle.dsde_turns.specs.Turn as turning
+use Rattle.dsde_turns.specs.Turn.{started_tree}
 use Rattle.dsde_run.specs.Run.{trace_text}
 use Rattle.dsde_run.specs.Run.{start}
 use Rattle.dsde_events.specs.Told as turn
@@ -13,6 +19,32 @@ use Rattle.dsde_runs.specs.Run.{Run}
 use Rattle.dsde_run.specs.Run.{run, go}
 use Rattle.dsde_run.specs.Steps.{GoesOn}
 use Rattle.dsde_run.proofs.RunLemmas.{GoesOn-text, run-started, text-told}
+
+-- a step that comes to its end has a first part that does
+ends-first : {A B : Type 0} (end : Result A TurnEnd) (step : turn.Told A) (next : A → turn.Told B) (value : B) → step.end ≡ end →
+    (step then next).end ≡ Ok value → (first : A) × ((next first).end ≡ Ok value)
+ends-first (Ok first) step next value is ends = (first, rw is at ends)
+ends-first (Err why) step next value is ends = let two = rw is at ends in absurd (cc two)
+
+same_ok : {A : Type 0} (this that : A) → ◌≡◌ {A = Result A TurnEnd} (Ok this) (Ok that) → this ≡ that
+same_ok this that same = cc same
+
+-- An engine that has started has a tree, and no turn of it is done.
+pub record IsBegun (engine : Engine) : Type 0 where
+  pub has_tree : is_some engine.tree ≡ true
+  pub none_done : engine.turn ≡ 0
+
+pub is_begun : (system : System) (engine : Engine) → (turning.start system).end ≡ Ok engine → IsBegun engine
+is_begun system engine ends =
+    let first = ends-first (at root system.top) (quietly (at root system.top))
+    (λ (chosen : Chosen). started_tree system chosen.model chosen.args then (λ own. told [] (begun own))) engine refl ends in
+    let second = ends-first (started_tree system first.0.model first.0.args).end (started_tree system first.0.model first.0.args)
+    (λ own. told [] (begun own)) engine refl first.1 in
+    let is : begun second.0 ≡ engine = same_ok (begun second.0) engine second.1 in
+    record {
+      has_tree = ap (λ (engine : Engine). is_some engine.tree) (sym is);
+      none_done = ap (λ (engine : Engine). engine.turn) (sym is);
+    }
 
 -- the start of a run comes before its turns
 pub GoesOn-start : (model : Running) (turns : ℕ) (engine : Engine) (begun told : List Event) (old new : List ℕ) →

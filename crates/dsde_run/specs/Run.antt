@@ -1,9 +1,6 @@
 -- A run of a program, by the definitions of runs of a system.
-use Rattle.std.specs.Prelude.{ℕ, Bool, true, false, List, [], Option, slice_get}
-use Rattle.std.specs.List.{list_any}
+use Rattle.std.specs.Prelude.{ℕ, Bool, false, List, [], Option, slice_get}
 use Rattle.std.specs.Option.{option_map_or}
-use Rattle.dsde_syntax.specs.declared.decl.Decl.{Decl}
-use Rattle.dsde_syntax.specs.declared.decl.Decl.TheVariants as decl
 use Rattle.dsde_syntax.specs.declared.decl.Model.{Model}
 use Rattle.dsde_values.specs.declared.arrival.Arrival.{Arrival}
 use Rattle.dsde_records.specs.Records.{Records}
@@ -12,21 +9,13 @@ use Rattle.dsde_nodes.specs.Models.{infos_of, types_of, resolved}
 use Rattle.dsde_system.specs.Program.{system}
 use Rattle.dsde_events.specs.declared.event.Event.{Event}
 use Rattle.dsde_events.specs.declared.fault.TurnEnd.{TurnEnd}
-use Rattle.dsde_turns.specs.declared.tree.Step.{Step}
+use Rattle.dsde_turns.specs.declared.step.Step.{Step}
 use Rattle.dsde_turns.specs.Engine.{Engine}
 use Rattle.dsde_events.specs.Told.{Told}
 use Rattle.dsde_turns.specs.Turn as turn
 use Rattle.dsde_runs.specs.Run as runs
 use Rattle.dsde_runs.specs.Run.{Run, Spots}
 use Rattle.dsde_trace.specs.Text as text
-
--- whether a model declares a network; those that do are not run yet
-abbrev pub is_network : Decl → Bool
-is_network (decl.Network at name params ports exec_at body items) = true
-is_network _ = false
-
-abbrev pub declares_network : Model → Bool
-declares_network model = list_any is_network model.decls
 
 -- A model that runs, and the line and the column of each place of its text.
 pub record Running : Type 0 where

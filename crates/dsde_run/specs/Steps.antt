@@ -1,14 +1,16 @@
 -- What the functions that run a model append, and answer.
-use Rattle.std.specs.Prelude.{ℕ, ◌+◌, ◌≡◌, ◌≢◌, true, false, Bool, List, [], ◌∷◌, ◌++◌, length, Option, Some, None, IfSome}
+use Rattle.std.specs.Prelude.{ℕ, ◌+◌, ◌≡◌, ◌≢◌, true, false, Bool, List, [], ◌∷◌, ◌++◌, length, Option, Some, None, is_some, IfSome}
 use Rattle.dsde_run.specs.Run.{Running}
 use Rattle.dsde_values.specs.declared.arrival.Arrival.{Arrival}
 use Rattle.dsde_records.specs.declared.end.InputEnd.{InputEnd}
 use Rattle.dsde_input.specs.Reader.{IsOffence}
 use Rattle.dsde_records.specs.Records.{Records, end, one}
 use Rattle.dsde_events.specs.declared.event.Finish.{Finish}
+use Rattle.dsde_nodes.specs.declared.ids.ModelId.{ModelId}
 use Rattle.dsde_nodes.specs.Models.{resolved, types_of}
+use Rattle.dsde_sim.specs.Working as sim
 use Rattle.dsde_sim.specs.Working.{Working, HeadComes, working}
-use Rattle.dsde_turns.specs.Engine.{Engine, leaf_of}
+use Rattle.dsde_turns.specs.Engine.{Engine}
 use Rattle.dsde_trace.specs.Text.{end_text}
 use Rattle.dsde_run.specs.Run.{trace_text}
 use Rattle.dsde_run.specs.declared.run.After.{After}
@@ -39,7 +41,7 @@ Turns model before head after old new (Ended how) =
 
 -- The root of the tree is of the model that runs.
 abbrev pub IsRoot : Running → Engine → Type 0
-IsRoot own engine = (leaf_of engine.tree).model ≡ (resolved own.model).own.top_model
+IsRoot own engine = sim.IsRoot (resolved own.model).own.top_model engine
 
 -- A record that comes by the in ports of the model comes to the root.
 abbrev pub ItemsCome : Running → Type 0
@@ -49,10 +51,10 @@ ItemsCome own =
 
 -- An engine is ready for the turn behind that of this engine.
 pub record IsNext (before after : Working) : Type 0 where
-  pub fresh : after.engine.spent ≡ false
+  pub fresh : is_some after.engine.tree ≡ true
   pub counted : after.engine.turn ≡ before.engine.turn + 1
   pub same : after.program ≡ before.program
-  pub root : (leaf_of after.engine.tree).model ≡ (leaf_of before.engine.tree).model
+  pub root : (number : ModelId) → sim.IsRoot number before.engine → sim.IsRoot number after.engine
 
 -- The engine is ready for a turn more where the run goes on.
 abbrev pub Readies : Working → Working → After → Type 0

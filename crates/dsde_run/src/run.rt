@@ -1,6 +1,6 @@
 //! A whole run: the turns of an engine on the records of an input.
 
-ghost use Rattle.std.specs.Prelude.{ℕ, ◌≡◌, ◌+◌, ◌<◌, ◌≤◌, ◌^◌, [], ◌++◌, Bool, false, unwrap_or, OnOk, IfOk, OnErr, IfSome, IsErrOf};
+ghost use Rattle.std.specs.Prelude.{ℕ, ◌≡◌, ◌+◌, ◌<◌, ◌≤◌, ◌^◌, [], ◌++◌, Bool, true, false, is_some, unwrap_or, OnOk, IfOk, OnErr, IfSome, IsErrOf};
 ghost use Rattle.std.specs.Option.{option_copied};
 ghost use Rattle.dsde_values.specs.Value.{IsLawful};
 ghost use Rattle.dsde_io.specs.Fault.{Rose};
@@ -110,7 +110,7 @@ fn go<R: Source>(
 ) -> Result<Finish, Cut>
     requires model { plain.program ≡ own.now.model }
     requires root { IsRoot own.now plain.engine }
-    requires fresh { plain.engine.spent ≡ false }
+    requires fresh { is_some plain.engine.tree ≡ true }
     requires bounded { plain.engine.turn + turns < 2 ^ 63 }
     requires input { IsInput own.now heads }
     requires ready { IsReady heads.reader }
@@ -155,7 +155,7 @@ fn turn(
     text: &mut Text,
 ) -> Result<After, Memory>
     requires model { plain.old.program ≡ own.now.model }
-    requires fresh { plain.old.engine.spent ≡ false }
+    requires fresh { is_some plain.old.engine.tree ≡ true }
     requires turns { plain.old.engine.turn < 2 ^ 63 }
     requires head { HeadComes plain.old (option_copied head) }
     requires empty { events.old ≡ [] }

@@ -1,11 +1,11 @@
 //! A program that runs, with what its trace is written by.
 
-ghost use Rattle.std.specs.Prelude.{◌≡◌, ◌++◌, false, OnOk, OnErr};
+ghost use Rattle.std.specs.Prelude.{◌≡◌, ◌++◌, OnOk, OnErr};
 ghost use Rattle.dsde_values.specs.Value.{IsLawful};
 ghost use Rattle.dsde_records.specs.Record.{ArePorts};
 ghost use Rattle.dsde_nodes.specs.Models.{types_of};
 ghost use Rattle.dsde_runs.specs.Run.{spot_at};
-ghost use Rattle.dsde_run.specs.Run.{declares_network, info_of, running, event_text};
+ghost use Rattle.dsde_run.specs.Run.{info_of, running, event_text};
 ghost use Rattle.dsde_run.specs.Steps.{ItemsCome};
 
 use dsde_events::Event;
@@ -13,7 +13,7 @@ use dsde_lawful::{ports_are_lawful, top_is_declared, types_are_lawful};
 use dsde_lexer::Places;
 use dsde_nodes::Info;
 use dsde_program::Program;
-use dsde_standing::{bodies_stand, tops_stand};
+use dsde_standing::bodies_stand;
 use dsde_trace::write_event;
 use dsde_values::{Field, Memory, Seq, Text, Types};
 use std::marker::Model;
@@ -28,11 +28,11 @@ pub struct Running<'p> {
 }
 
 impl<'p> Model for Running<'p> {
-    ghost use Rattle.std.specs.Prelude.{◌≡◌, false};
+    ghost use Rattle.std.specs.Prelude.{◌≡◌};
     ghost use Rattle.std.specs.Coded.{codes};
     ghost use Rattle.dsde_syntax.specs.contracts.decl.Model as model;
     ghost use Rattle.dsde_run.specs.Run as own;
-    ghost use Rattle.dsde_program.specs.Right.{IsRight};
+    ghost use Rattle.dsde_rules.specs.Right.{IsRight};
 
     ghost Value = { own.Running };
 
@@ -40,13 +40,12 @@ impl<'p> Model for Running<'p> {
 
     ghost view = { λ running. own.running running.program.now running.places.now };
 
-    ghost invariant = { λ running. IsRight running.program.now × (own.declares_network running.program.now ≡ false) × (running.info.now ≡ own.info_of running.program.now) };
+    ghost invariant = { λ running. IsRight running.program.now × (running.info.now ≡ own.info_of running.program.now) };
 }
 
 impl<'p> Running<'p> {
-    /// The program, to be run, with the places of its model's text. It declares no network.
+    /// The program, to be run, with the places of its model's text.
     pub fn new(program: &'p Program<'p>, places: &'p Places) -> Running<'p>
-        requires { declares_network program.now ≡ false }
         ensures { result ≡ running program.now places.now }
     {
         // A law: the model that runs is one of the program's.
@@ -91,7 +90,6 @@ impl<'p> Running<'p> {
     pub(crate) fn comes(&self)
         ensures { ItemsCome self.now }
     {
-        tops_stand();
         bodies_stand();
         top_is_declared();
         let _ = &self.info;

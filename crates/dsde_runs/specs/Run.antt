@@ -16,7 +16,7 @@ use Rattle.dsde_events.specs.declared.event.Finish.TheVariants as how
 use Rattle.dsde_events.specs.declared.event.InputKind.TheVariants as kind
 use Rattle.dsde_events.specs.declared.fault.TurnEnd.{TurnEnd}
 use Rattle.dsde_events.specs.declared.fault.TurnEnd.TheVariants.{Fault, Memory}
-use Rattle.dsde_turns.specs.declared.tree.Step.TheVariants.{Turned, Quiet}
+use Rattle.dsde_turns.specs.declared.step.Step.TheVariants.{Turned, Quiet}
 use Rattle.dsde_turns.specs.Engine.{Engine, next_of}
 use Rattle.dsde_turns.specs.Turn.{start, advance, turn_time}
 
@@ -66,7 +66,7 @@ turn_on system spots engine head later = preceded (advance system engine head).e
     | Turned took_input ↦ later took_input answer.1
     | Quiet ↦ ended how.Quiet engine.turn engine.time
   ]
-  | Err why ↦ faulted spots why (engine.turn + 1) (unwrap_or (turn_time (next_of engine.tree) head) engine.time)
+  | Err why ↦ faulted spots why (engine.turn + 1) (unwrap_or (turn_time (next_of engine) head) engine.time)
 ])
 
 -- at most this many turns of an engine on these records, each of which is the head until it is taken

@@ -1,2 +1,4 @@
-pub mod Coming
-pub mod Telling
+pub mod Receiving
+pub mod Times
+pub mod Advancing
+pub mod Delivering

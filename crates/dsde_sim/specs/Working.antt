@@ -1,15 +1,22 @@
 -- A program at work, and what may come to it.
-use Rattle.std.specs.Prelude.{◌≡◌, ℕ, List, Option, Some, None, Result, Ok, Err, IfSome, slice_get}
+use Rattle.std.specs.Prelude.{◌≡◌, ℕ, ◌≤◌, false, List, Option, Some, None, Result, Ok, Err, IfSome, slice_get}
 use Rattle.dsde_syntax.specs.declared.decl.Model.{Model}
 use Rattle.dsde_values.specs.declared.arrival.Arrival.{Arrival}
 use Rattle.dsde_values.specs.declared.arrival.Item.{Item}
 use Rattle.dsde_values.specs.When.{IsMoment}
+use Rattle.dsde_values.specs.declared.value.Value.{Value}
+use Rattle.dsde_nodes.specs.declared.ids.ModelId.{ModelId}
 use Rattle.dsde_nodes.specs.Models.{types_of}
-use Rattle.dsde_formalism.specs.declared.leaf.Leaf.{Leaf}
 use Rattle.dsde_meaning.specs.Typed.{AllSent}
-use Rattle.dsde_standing.specs.Bodies.{Own, owns_of, body_ins}
+use Rattle.dsde_standing.specs.Bodies.{Own, owns_of}
+use Rattle.dsde_system.specs.Plans.{ways}
+use Rattle.dsde_formalism.specs.System.{Chosen}
 use Rattle.dsde_events.specs.declared.fault.TurnEnd.{TurnEnd}
-use Rattle.dsde_turns.specs.Engine.{Engine, leaf_of}
+use Rattle.dsde_tree.specs.declared.sim.Sim.{Sim}
+use Rattle.dsde_tree.specs.Tree.{parts, model_of}
+use Rattle.dsde_turns.specs.declared.step.TheConstants.{MOST_PARTS}
+use Rattle.dsde_turns.specs.Engine.{Engine}
+use Rattle.dsde_moving.specs.Fitting.{FitsTree}
 
 -- a program, and the engine that runs it
 pub record Working : Type 0 where
@@ -20,27 +27,35 @@ pub record Working : Type 0 where
 abbrev pub working : Model → Engine → Working
 working program engine = record { program = program; engine = engine }
 
--- Items come to a component of the model with this number: each by one of its in ports, with that port's type.
+-- Items come to a part of the model with this number: each by one of its in ports, with that port's type.
 pub record FitsItems (model : Model) (number : ℕ) (items : List Item) : Type 0 where
   pub own : Own
   pub found : slice_get (owns_of model.decls) number ≡ Some own
-  pub come : AllSent (types_of model) (body_ins model own) items
+  pub come : AllSent (types_of model) (ways model own false) items
 
 -- A record comes at a moment of a run, and its items come to the root.
-pub record Comes (model : Model) (root : Leaf) (head : Arrival) : Type 0 where
+pub record Comes (model : Model) (root : ModelId) (head : Arrival) : Type 0 where
   pub early : IsMoment head.time
-  pub fits : FitsItems model root.model.0 head.items
+  pub fits : FitsItems model root.0 head.items
 
 -- The head of the input, if there is one, comes to this program at work.
 abbrev pub HeadComes : Working → Option Arrival → Type 0
-HeadComes own head = IfSome head (Comes own.program (leaf_of own.engine.tree))
+HeadComes own head = IfSome own.engine.tree (λ tree. IfSome head (Comes own.program (model_of tree)))
 
--- a component behind a step that left it as it was, or moved it
-abbrev pub kept : Leaf → Option Leaf → Leaf
-kept leaf None = leaf
-kept leaf (Some moved) = moved
+-- A tree is one of the program, with no more parts alive than there may be.
+pub record Stands (model : Model) (tree : Sim) : Type 0 where
+  pub fits : FitsTree model tree
+  pub within : parts tree ≤ MOST_PARTS
 
--- what such a step came to
-abbrev pub kept_by : Leaf → Result (Option Leaf) TurnEnd → Result Leaf TurnEnd
-kept_by leaf (Ok moved) = Ok (kept leaf moved)
-kept_by leaf (Err end) = Err end
+abbrev pub StandsIf : Model → Option Sim → Type 0
+StandsIf model None = Unit {0}
+StandsIf model (Some tree) = Stands model tree
+
+-- The root of an engine's tree is of this model.
+abbrev pub IsRoot : ModelId → Engine → Type 0
+IsRoot model engine = IfSome engine.tree (λ tree. model_of tree ≡ model)
+
+-- arguments, with their model
+abbrev pub chosen_by : ModelId → Result (List Value) TurnEnd → Result Chosen TurnEnd
+chosen_by model (Ok args) = Ok (record { model = model; args = args })
+chosen_by model (Err end) = Err end

@@ -1,9 +1,8 @@
 //! The simulator of a program: its start and its turns, and the events that they tell.
 #![tactic(auto)]
 
-mod phases;
+mod heads;
 mod plain;
-mod received;
-mod told;
+mod turn;
 
 pub use plain::Plain;

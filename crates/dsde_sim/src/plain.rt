@@ -1,29 +1,30 @@
 //! The engine: the start of a run, and its turns.
 
-ghost use Rattle.std.specs.Prelude.{◌≡◌, ◌<◌, ◌≤◌, ◌^◌, false, is_err, Ok, Err, IfOk, IfErr, IfSome};
+ghost use Rattle.std.specs.Prelude.{◌≡◌, ◌<◌, ◌≤◌, ◌^◌, Some, Ok, Err, is_some, is_none, is_err, true, IfOk, IfErr, drop, length};
 ghost use Rattle.std.specs.Option.{option_copied};
-ghost use Rattle.dsde_values.specs.When.{IsMoment};
-ghost use Rattle.dsde_system.specs.Program.{system};
-ghost use Rattle.dsde_system.specs.Fitting.{FitsArgs, FitsLeaf};
-ghost use Rattle.dsde_formalism.specs.Leaf.{start_leaf};
-ghost use Rattle.dsde_nodes.specs.Models.{resolved};
-ghost use Rattle.dsde_turns.specs.Engine.{leaf_of, next_of, begun, turned};
 ghost use Rattle.dsde_values.specs.Path.{root};
-ghost use Rattle.dsde_events.specs.Told.{at, Comes, Tells};
-ghost use Rattle.dsde_turns.specs.Turn.{start, advance, turn, turn_time, is_taken, items_at};
-ghost use Rattle.dsde_turns.specs.declared.tree.Sim.TheVariants as sim;
-ghost use Rattle.dsde_sim.specs.Working.{Working, HeadComes, FitsItems, kept, kept_by};
+ghost use Rattle.dsde_events.specs.Told.{Comes, Tells, at};
+ghost use Rattle.dsde_system.specs.Program.{system};
+ghost use Rattle.dsde_system.specs.Fitting.{FitsArgs};
+ghost use Rattle.dsde_nodes.specs.declared.ids.ModelId.{ModelId};
+ghost use Rattle.dsde_nodes.specs.Models.{resolved};
+ghost use Rattle.dsde_tree.specs.Tree.{model_of};
+ghost use Rattle.dsde_turns.specs.Engine.{next_of};
+ghost use Rattle.dsde_turns.specs.Turn.{start, started_tree, advance, turn_time};
+ghost use Rattle.dsde_delivery.specs.Delivered.{IsTurnDelivered};
+ghost use Rattle.dsde_sim.specs.Working.{HeadComes, IsRoot, Stands, chosen_by};
 
-use crate::phases::turn;
-use crate::received::{is_taken, items_at, turn_time};
-use crate::told::{at_root, tell_leaf};
-use dsde_atomic::{start_leaf, top_args};
+use crate::heads::{is_taken, items_at, turn_time};
+use crate::turn::turn;
+use dsde_atomic::top_args;
+use dsde_delivery::advances_are_delivered;
 use dsde_events::{Event, TurnEnd};
-use dsde_formalism::Leaf;
-use dsde_nodes::ModelId;
+use dsde_moving::{next_time, start};
 use dsde_program::Program;
-use dsde_turns::{Sim, Step};
-use dsde_values::{Arrival, Seq, Values};
+use dsde_telling::at;
+use dsde_tree::{DEEPEST, Sim};
+use dsde_turns::{MOST_PARTS, Step};
+use dsde_values::{Arrival, Path, Seq, Values};
 use std::alloc::Global;
 use std::marker::Model;
 
@@ -32,62 +33,67 @@ use std::marker::Model;
 pub struct Plain<'p> {
     alloc: Global,
     program: &'p Program<'p>,
-    tree: Sim,
+    tree: Option<Sim>,
     turn: u64,
     time: u64,
     taken: u64,
-    spent: bool,
 }
 
 impl<'p> Model for Plain<'p> {
     ghost use Rattle.std.specs.Prelude.{◌≤◌};
-    ghost use Rattle.dsde_system.specs.Fitting.{FitsLeaf};
-    ghost use Rattle.dsde_turns.specs.Engine.{leaf_of};
-    ghost use Rattle.dsde_sim.specs.Working.{Working, working};
+    ghost use Rattle.dsde_sim.specs.Working.{Working, working, StandsIf};
     ghost use Rattle.dsde_syntax.specs.contracts.decl.Model as model;
-    ghost use Rattle.dsde_values.specs.contracts.value.Value as value;
+    ghost use Rattle.dsde_tree.specs.contracts.sim.Sim as sim;
     ghost use Rattle.std.specs.Coded.{codes};
 
     ghost Value = { Working };
 
-    ghost coded = { Prim.hlevel (codes, model.the_row.coded, value.the_row.coded) };
+    ghost coded = { Prim.hlevel (codes, model.the_row.coded, sim.the_row.coded) };
 
     ghost view = { λ plain. working plain.program.now (record {
       tree = plain.tree;
       turn = plain.turn;
       time = plain.time;
       taken = plain.taken;
-      spent = plain.spent;
     }) };
 
-    ghost invariant = { λ plain. FitsLeaf plain.program.now (leaf_of plain.tree) × (plain.taken ≤ plain.turn) };
+    ghost invariant = { λ plain. StandsIf plain.program.now plain.tree × (plain.taken ≤ plain.turn) };
 }
 
-/// The one component of a tree.
-fn leaf_in(tree: &Sim) -> &Leaf
-    ensures { result.now ≡ leaf_of tree.now }
+/// The tree of the model that runs, which starts at time 0.
+fn started(
+    alloc: Global,
+    program: &Program,
+    args: Values,
+    events: &mut Seq<Event>,
+) -> Result<Sim, TurnEnd>
+    requires { FitsArgs program.now (resolved program.now).own.top_model.0 args }
+    ensures told { Tells (started_tree (system program.now) (resolved program.now).own.top_model args) events.old events.new result }
+    ensures stands { IfOk result (Stands program.now) }
+    ensures model { IfOk result (λ tree. model_of tree ≡ (resolved program.now).own.top_model) }
 {
-    let Sim::Leaf(leaf) = tree;
-    leaf
+    let root = Path::root(alloc)?;
+    let (tree, _room) = start(
+        alloc,
+        program,
+        DEEPEST,
+        program.top_model(),
+        args,
+        &root,
+        0,
+        MOST_PARTS,
+        events,
+    )?;
+    Ok(tree)
 }
 
-/// Puts the component after its move into the tree, if it moved.
-fn keep(tree: &mut Sim, moved: Option<Leaf>)
-    ensures { tree.new ≡ sim.Leaf (kept (leaf_of tree.old) moved) }
+/// What `top` comes to: the arguments of the model that runs.
+fn chosen(alloc: Global, program: &Program) -> Result<Values, TurnEnd>
+    ensures comes { Comes (at root (system program.now).top) (chosen_by (resolved program.now).own.top_model result) }
+    ensures fits { IfOk result (λ args. FitsArgs program.now (resolved program.now).own.top_model.0 args) }
 {
-    if let Some(leaf) = moved {
-        *tree = Sim::Leaf(leaf);
-    }
-}
-
-/// The root, which starts at time 0.
-fn started(alloc: Global, program: &Program, model: ModelId, args: Values) -> Result<Leaf, TurnEnd>
-    requires { FitsArgs program.now model.0 args }
-    ensures is { Comes (at root (start_leaf (system program.now) model false args 0)) result }
-    ensures fits { IfOk result (FitsLeaf program.now) }
-    ensures model { IfOk result (λ leaf. leaf.model ≡ model) }
-{
-    at_root(alloc, start_leaf(alloc, program, model, false, args, 0))
+    let root = Path::root(alloc)?;
+    at(alloc, &root, top_args(alloc, program))
 }
 
 impl<'p> Plain<'p> {
@@ -101,20 +107,17 @@ impl<'p> Plain<'p> {
         ensures program { IfOk result (λ plain. plain.program ≡ program.now) }
         ensures ok { IfOk result (λ plain. Tells (start (system program.now)) events.old events.new (Ok plain.engine)) }
         ensures err { IfErr result (λ end. Tells (start (system program.now)) events.old events.new (Err end)) }
-        ensures root { IfOk result (λ plain. (leaf_of plain.engine.tree).model ≡ (resolved program.now).own.top_model) }
+        ensures root { IfOk result (λ plain. IsRoot (resolved program.now).own.top_model plain.engine) }
     {
-        let model = program.top_model();
-        let args = at_root(alloc, top_args(alloc, program))?;
-        let leaf = started(alloc, program, model, args)?;
-        tell_leaf(alloc, &leaf, events)?;
+        let args = chosen(alloc, program)?;
+        let tree = started(alloc, program, args, events)?;
         Ok(Plain {
             alloc,
             program,
-            tree: Sim::Leaf(leaf),
+            tree: Some(tree),
             turn: 0,
             time: 0,
             taken: 0,
-            spent: false,
         })
     }
 
@@ -124,56 +127,64 @@ impl<'p> Plain<'p> {
     /// After a fault the events before it were told, and without memory some of the events, from
     /// their front. After either the engine is spent. `Quiet` comes exactly where there is no head
     /// and nothing will ever be due, and changes nothing.
+    ///
+    /// What it tells of the turn reaches only parts of the tree before it and none that it added,
+    /// and each component and each executive receives what the links of that tree carry to it.
     pub fn advance(
         &mut self,
         head: Option<&Arrival>,
         events: &mut Seq<Event>,
     ) -> Result<Step, TurnEnd>
-        requires fresh { self.old.engine.spent ≡ false }
+        requires fresh { is_some self.old.engine.tree ≡ true }
         requires turns { self.old.engine.turn < 2 ^ 63 }
         requires head { HeadComes self.old (option_copied head) }
         ensures ok { IfOk result (λ step. Tells (advance (system self.old.program) self.old.engine (option_copied head.entry)) events.old events.new (Ok (step, self.new.engine))) }
         ensures err { IfErr result (λ end. Tells (advance (system self.old.program) self.old.engine (option_copied head.entry)) events.old events.new (Err end)) }
+        ensures delivered { IsTurnDelivered (system self.old.program) self.old.engine (option_copied head.entry) (drop (length events.old) events.new) result }
         ensures program { self.new.program ≡ self.old.program }
-        ensures root { (leaf_of self.new.engine.tree).model ≡ (leaf_of self.old.engine.tree).model }
-        ensures spent { self.new.engine.spent ≡ is_err result }
+        ensures root { (number : ModelId) → IsRoot number self.old.engine → IfOk result (λ step. IsRoot number self.new.engine) }
+        ensures spent { is_none self.new.engine.tree ≡ is_err result }
     {
-        let leaf = leaf_in(&self.tree);
-        let Some(time) = turn_time(leaf.next, head) else {
+        advances_are_delivered();
+        let Some(tree) = self.tree.take() else {
+            unreachable!();
+        };
+        let Some(time) = turn_time(next_time(&tree), head) else {
+            self.tree = Some(tree);
             return Ok(Step::Quiet);
         };
         let number = self.turn + 1;
         let took_input = is_taken(head, time);
-        // Until the turn has come to its end.
-        self.spent = true;
-        let moved = turn(
+        let tree = turn(
             self.alloc,
             self.program,
-            leaf,
+            tree,
             number,
             time,
             items_at(head, time),
             events,
         )?;
-        keep(&mut self.tree, moved);
+        self.tree = Some(tree);
         self.turn = number;
         self.time = time;
         self.taken += u64::from(took_input);
-        self.spent = false;
         Ok(Step::Turned { took_input })
     }
 
     /// The tree of simulators, as it is between two turns.
     pub fn tree(&self) -> &Sim
-        requires { self.now.engine.spent ≡ false }
-        ensures { result.now ≡ self.now.engine.tree }
+        requires { is_some self.now.engine.tree ≡ true }
+        ensures { Some result.now ≡ self.now.engine.tree }
     {
-        &self.tree
+        match &self.tree {
+            Some(tree) => tree,
+            None => unreachable!(),
+        }
     }
 
     /// How many turns are done.
     pub fn turn(&self) -> u64
-        requires { self.now.engine.spent ≡ false }
+        requires { is_some self.now.engine.tree ≡ true }
         ensures { result ≡ self.now.engine.turn }
     {
         self.turn
@@ -181,7 +192,7 @@ impl<'p> Plain<'p> {
 
     /// The time of the last turn, or 0.
     pub fn time(&self) -> u64
-        requires { self.now.engine.spent ≡ false }
+        requires { is_some self.now.engine.tree ≡ true }
         ensures { result ≡ self.now.engine.time }
     {
         self.time
@@ -189,7 +200,7 @@ impl<'p> Plain<'p> {
 
     /// How many records of the input are taken.
     pub fn taken(&self) -> u64
-        requires { self.now.engine.spent ≡ false }
+        requires { is_some self.now.engine.tree ≡ true }
         ensures value { result ≡ self.now.engine.taken }
         ensures within { result ≤ self.now.engine.turn }
     {
@@ -198,16 +209,16 @@ impl<'p> Plain<'p> {
 
     /// The time of the turn that comes next with this head of the input, if one comes.
     pub fn turn_time(&self, head: Option<&Arrival>) -> Option<u64>
-        requires { self.now.engine.spent ≡ false }
-        ensures { result ≡ turn_time (next_of self.now.engine.tree) (option_copied head.entry) }
+        requires { is_some self.now.engine.tree ≡ true }
+        ensures { result ≡ turn_time (next_of self.now.engine) (option_copied head.entry) }
     {
-        turn_time(leaf_in(&self.tree).next, head)
+        turn_time(next_time(self.tree()), head)
     }
 
     /// Whether a turn did not come to its end.
     pub fn spent(&self) -> bool
-        ensures { result ≡ self.now.engine.spent }
+        ensures { result ≡ is_none self.now.engine.tree }
     {
-        self.spent
+        self.tree.is_none()
     }
 }

@@ -26,8 +26,8 @@ use Rattle.dsde_nodes.specs.Statements.{typed_fields}
 use Rattle.dsde_meaning.specs.Proper.{is_proper}
 use Rattle.dsde_standing.specs.Places.{KnownAt}
 use Rattle.dsde_standing.specs.Bodies.{ArgsStand}
-use Rattle.dsde_standing.proofs.Steps.{ok-same, Went, went}
-use Rattle.dsde_standing.proofs.Same.{wanted-is}
+use Rattle.dsde_typing.specs.Steps.{ok-is, Went, went}
+use Rattle.dsde_typing.specs.Types.{wanted-is}
 use Rattle.dsde_standing.proofs.Slots.{sees-slots}
 use Rattle.dsde_standing.proofs.Pieces.{Put, put-first, put-next, put-own}
 
@@ -36,12 +36,12 @@ with_seen parts ty tys height scope seen = wanted ty seen >>= (λ _. fit parts t
 
 -- Parts are no lower than what came before them.
 fit-high : (parts : List Judge) (tys : List Ty) (height last : ℕ) (scope : Scope) → fit parts tys height scope ≡ Ok last → height ≤ last
-fit-high [] tys height last scope is = let same : height ≡ last = ok-same height last is in omega (arith, same)
-fit-high (part ∷ parts) [] height last scope is = let same : height ≡ last = ok-same height last is in omega (arith, same)
+fit-high [] tys height last scope is = let same : height ≡ last = ok-is height last is in omega (arith, same)
+fit-high (part ∷ parts) [] height last scope is = let same : height ≡ last = ok-is height last is in omega (arith, same)
 fit-high (part ∷ parts) (ty ∷ tys) height last scope is =
     let one : Went (part scope) (with_seen parts ty tys height scope) last = went (part scope) (with_seen parts ty tys height scope) last is in
-    let two = went (wanted ty one.own) (λ _. fit parts tys (max height one.own.height) scope) last one.next-is in
-    let rest = fit-high parts tys (max height one.own.height) last scope two.next-is in
+    let two = went (wanted ty one.value) (λ _. fit parts tys (max height one.value.height) scope) last one.next in
+    let rest = fit-high parts tys (max height one.value.height) last scope two.next in
     omega (arith, rest)
 
 module _ (model : Model) (known : Known) (at : KnownAt model known) where
@@ -73,8 +73,8 @@ module _ (model : Model) (known : Known) (at : KnownAt model known) where
       let parts : List Judge = map (judge around) args in
       let tys : List Ty = text_params whole.words params in
       let one : Went (judge around own []) (with_seen parts ty tys height []) last = went (judge around own []) (with_seen parts ty tys height []) last is in
-      let two = went (wanted ty one.own) (λ _. fit parts tys (max height one.own.height) []) last one.next-is in
-      let high = fit-high parts tys (max height one.own.height) last [] two.next-is in
+      let two = went (wanted ty one.value) (λ _. fit parts tys (max height one.value.height) []) last one.next in
+      let high = fit-high parts tys (max height one.value.height) last [] two.next in
       let both = and_parts (is_proper own) (list_all is_proper args) proper in
       let first = put-first nodes blocks (arg_step own) (behind_arg args) [] next put in
       let next1 : Next = piece.behind next (arg_step own [] next) in
@@ -83,15 +83,15 @@ module _ (model : Model) (known : Known) (at : KnownAt model known) where
         record {
           around = around;
           scope = [];
-          found = one.own;
+          found = one.value;
           known = at;
           is_total = refl;
           proper = both.0;
-          judged = one.is;
-          of = sym (wanted-is ty one.own two.own two.is);
+          judged = one.first;
+          of = sym (wanted-is ty one.value two.value two.first);
           low = omega (arith, high, low);
           sees = sees-slots [] [] refl;
           stands = put-own nodes blocks (resolve whole own) (λ value ty. piece.give value) [] next first;
         },
-        args-stand args params (max height one.own.height) last two.next-is (omega (arith, long)) low both.1 next1 put2,
+        args-stand args params (max height one.value.height) last two.next (omega (arith, long)) low both.1 next1 put2,
       )

@@ -16,13 +16,14 @@ use Rattle.dsde_nodes.specs.Models.{Parts, whole_of, infos_of, infos_from, resol
 use Rattle.dsde_nodes.specs.Pieces.{Block, Next}
 use Rattle.dsde_nodes.specs.Statements.{typed_fields, state_fields, port_fields, resolve_body}
 use Rattle.dsde_nodes.specs.Typing as nodes
-use Rattle.dsde_program.specs.Right.{IsRight}
+use Rattle.dsde_rules.specs.Right.{IsRight}
 use Rattle.dsde_meaning.specs.Proper.{is_proper_decl, are_plain, is_proper_body}
 use Rattle.dsde_standing.specs.Bodies.{Own, owns_of, BodyStands, InfoIs}
 use Rattle.dsde_standing.specs.Laws.{HasOwn}
-use Rattle.dsde_standing.proofs.Steps.{went}
+use Rattle.dsde_typing.specs.Steps.{went}
 use Rattle.dsde_standing.proofs.Within.{ruled}
-use Rattle.dsde_standing.proofs.Pieces.{Put, stands-whole}
+use Rattle.dsde_typing.specs.Standing.{stands-whole}
+use Rattle.dsde_standing.proofs.Pieces.{Put}
 use Rattle.dsde_standing.proofs.BodyPieces.{body-put}
 use Rattle.dsde_standing.proofs.DeclPieces.{BodyDecl, func-put, atomic-put, network-put, top-put}
 use Rattle.dsde_standing.proofs.OneBody.{OwnJudged, body-stands}
@@ -117,7 +118,7 @@ module _ (model : Model) (right : IsRight model) where
       → (scope : nodes.Scope) (next : Next) → Put node_table block_table next (resolve_decls whole rest scope next) → CodesStand model (owns_of rest) (resolve_decls whole rest scope next).own.codes
   behind-one own rest stand known place is proper scope next put =
       let one = went (decl_rule known own) (λ more. decls_rule more rest) tt is in
-      stand one.own (next-place model right known one.own own rest place one.is) one.next-is proper scope next put
+      stand one.value (next-place model right known one.value own rest place one.first) one.next proper scope next put
 
   one-body : (own : Own) (rest : List Decl) (known : Known) (scope : nodes.Scope) (next : Next) (parts : Parts) → OwnJudged model known own
       → (here : BodyDecl node_table block_table whole (resolve_decls whole rest) scope next (resolve_body whole own.params own.start_at own.body) parts)
@@ -145,8 +146,8 @@ module _ (model : Model) (right : IsRight model) where
       let both = and_parts (is_proper_decl own) (list_all is_proper_decl rest) proper in
       let parts = and_parts (are_plain params) (is_proper_body body) both.0 in
       let one = went (decl_rule known own) (λ more. decls_rule more rest) tt is in
-      let test = went (atomic_rule (around_with known (body_names params body)) at name params body) (λ _. Ok known) one.own one.is in
-      let judged : OwnJudged model known text = atomic-judged model right known (known-at model right known (own ∷ rest) place) name params body at test.own test.is parts.0 parts.1 in
+      let test = went (atomic_rule (around_with known (body_names params body)) at name params body) (λ _. Ok known) one.value one.first in
+      let judged : OwnJudged model known text = atomic-judged model right known (known-at model right known (own ∷ rest) place) name params body at test.value test.first parts.0 parts.1 in
       one-body text rest known scope next (resolve_decls whole (own ∷ rest) scope next).own judged here
       (behind-one own rest (codes-stand rest) known place is both.1 here.other.own.names here.other.own.next here.other.own.put)
   codes-stand (decl.Network at name params ports exec_at body items ∷ rest) known place is proper scope next put =
@@ -156,8 +157,8 @@ module _ (model : Model) (right : IsRight model) where
       let both = and_parts (is_proper_decl own) (list_all is_proper_decl rest) proper in
       let parts = and_parts (are_plain params) (is_proper_body body) both.0 in
       let one = went (decl_rule known own) (λ more. decls_rule more rest) tt is in
-      let test = went (network_rule (around_with known (body_names params body)) name params ports exec_at body items) (λ _. Ok known) one.own one.is in
-      let judged : OwnJudged model known text = network-judged model right known (known-at model right known (own ∷ rest) place) name params body at ports exec_at items test.own test.is parts.0 parts.1 in
+      let test = went (network_rule (around_with known (body_names params body)) name params ports exec_at body items) (λ _. Ok known) one.value one.first in
+      let judged : OwnJudged model known text = network-judged model right known (known-at model right known (own ∷ rest) place) name params body at ports exec_at items test.value test.first parts.0 parts.1 in
       one-body text rest known scope next (resolve_decls whole (own ∷ rest) scope next).own judged here
       (behind-one own rest (codes-stand rest) known place is both.1 here.other.own.names here.other.own.next here.other.own.put)
   codes-stand (decl.Top at name args ∷ rest) known place is proper scope next put =

@@ -10,18 +10,18 @@ use Rattle.dsde_rules.specs.Steps.{◌>>=◌}
 use Rattle.dsde_rules.specs.Types.{wanted}
 use Rattle.dsde_rules.specs.Judge.{Scope, judge}
 use Rattle.dsde_rules.specs.Blocks.{Passed, Walk, walk_all, state_of, inputs_seen, phase_of, moving, advance_of, move_of, inputs_of, phases_of, external_of, body_of}
-use Rattle.dsde_standing.proofs.Steps.{ok-same, Went, went}
-use Rattle.dsde_standing.proofs.Same.{wanted-is}
+use Rattle.dsde_typing.specs.Steps.{ok-is, Went, went}
+use Rattle.dsde_typing.specs.Types.{wanted-is}
 
 -- Statements are no lower than what came before them.
 pub walk-high : (walks : List Walk) (height : ℕ) (scope : Scope) (passed : Passed) → walk_all walks height scope ≡ Ok passed → height ≤ passed.height
 walk-high [] height scope passed is =
     let own : Passed = record { scope = scope; height = height } in
-    let same : height ≡ passed.height = ap (λ (p : Passed). p.height) (ok-same own passed is) in
+    let same : height ≡ passed.height = ap (λ (p : Passed). p.height) (ok-is own passed is) in
     omega (arith, same)
 walk-high (walk ∷ walks) height scope passed is =
     let one = went (walk scope) (λ own. walk_all walks (max height own.height) own.scope) passed is in
-    let rest = walk-high walks (max height one.own.height) one.own.scope passed one.next-is in
+    let rest = walk-high walks (max height one.value.height) one.value.scope passed one.next in
     omega (arith, rest)
 
 module _ (around : Around) (at : ℕ) (ports : List Port) (body : Body) where
@@ -72,41 +72,41 @@ module _ (around : Around) (at : ℕ) (ports : List Port) (body : Body) where
   pub body-judged : (scope : Scope) (passed : Passed) → body_of around at ports body scope ≡ Ok passed → BodyJudged scope passed
   body-judged scope passed is =
       let one : Went (walk_all (map (state_of around ports) body.states) 0 scope) with_states passed = went (walk_all (map (state_of around ports) body.states) 0 scope) with_states passed is in
-      let states : Passed = one.own in
-      let two : Went (advance_of around body.advance states.scope) (with_advance states) passed = went (advance_of around body.advance states.scope) (with_advance states) passed one.next-is in
-      let three : Went (phases_of around ports body states.scope) (with_phases states two.own) passed = went (phases_of around ports body states.scope) (with_phases states two.own) passed two.next-is in
-      let four = went (external_of at body) (λ _. Ok (whole_body states.scope (max states.height (max two.own three.own)))) passed three.next-is in
-      let same : whole_body states.scope (max states.height (max two.own three.own)) ≡ passed = ok-same (whole_body states.scope (max states.height (max two.own three.own))) passed four.next-is in
-      let height : max states.height (max two.own three.own) ≡ passed.height = ap (λ (p : Passed). p.height) same in
-      let seen = went (judge around body.advance states.scope) (λ seen. wanted (ty.Opt ty.Int) seen >>= (λ _. Ok seen.height)) two.own two.is in
-      let test = went (wanted (ty.Opt ty.Int) seen.own) (λ _. Ok seen.own.height) two.own seen.next-is in
-      let advance : seen.own.height ≡ two.own = ok-same seen.own.height two.own test.next-is in
-      let output : Went (phase_of around ports body.output states.scope) (with_output states.scope) three.own = went (phase_of around ports body.output states.scope) (with_output states.scope) three.own three.is in
-      let internal : Went (move_of around false body.internal states.scope) (with_internal states.scope output.own) three.own = went (move_of around false body.internal states.scope) (with_internal states.scope output.own) three.own output.next-is in
-      let inputs = went (inputs_of around body (inputs_seen states.scope ports)) (λ inputs. Ok (max (max output.own internal.own) inputs)) three.own internal.next-is in
-      let phases : max (max output.own internal.own) inputs.own ≡ three.own = ok-same (max (max output.own internal.own) inputs.own) three.own inputs.next-is in
-      let external : Went (move_of around true body.external (inputs_seen states.scope ports)) (with_external (inputs_seen states.scope ports)) inputs.own = went (move_of around true body.external (inputs_seen states.scope ports)) (with_external (inputs_seen states.scope ports)) inputs.own inputs.is in
-      let confluent = went (move_of around true body.confluent (inputs_seen states.scope ports)) (λ confluent. Ok (max external.own confluent)) inputs.own external.next-is in
-      let both : max external.own confluent.own ≡ inputs.own = ok-same (max external.own confluent.own) inputs.own confluent.next-is in
+      let states : Passed = one.value in
+      let two : Went (advance_of around body.advance states.scope) (with_advance states) passed = went (advance_of around body.advance states.scope) (with_advance states) passed one.next in
+      let three : Went (phases_of around ports body states.scope) (with_phases states two.value) passed = went (phases_of around ports body states.scope) (with_phases states two.value) passed two.next in
+      let four = went (external_of at body) (λ _. Ok (whole_body states.scope (max states.height (max two.value three.value)))) passed three.next in
+      let same : whole_body states.scope (max states.height (max two.value three.value)) ≡ passed = ok-is (whole_body states.scope (max states.height (max two.value three.value))) passed four.next in
+      let height : max states.height (max two.value three.value) ≡ passed.height = ap (λ (p : Passed). p.height) same in
+      let seen = went (judge around body.advance states.scope) (λ seen. wanted (ty.Opt ty.Int) seen >>= (λ _. Ok seen.height)) two.value two.first in
+      let test = went (wanted (ty.Opt ty.Int) seen.value) (λ _. Ok seen.value.height) two.value seen.next in
+      let advance : seen.value.height ≡ two.value = ok-is seen.value.height two.value test.next in
+      let output : Went (phase_of around ports body.output states.scope) (with_output states.scope) three.value = went (phase_of around ports body.output states.scope) (with_output states.scope) three.value three.first in
+      let internal : Went (move_of around false body.internal states.scope) (with_internal states.scope output.value) three.value = went (move_of around false body.internal states.scope) (with_internal states.scope output.value) three.value output.next in
+      let inputs = went (inputs_of around body (inputs_seen states.scope ports)) (λ inputs. Ok (max (max output.value internal.value) inputs)) three.value internal.next in
+      let phases : max (max output.value internal.value) inputs.value ≡ three.value = ok-is (max (max output.value internal.value) inputs.value) three.value inputs.next in
+      let external : Went (move_of around true body.external (inputs_seen states.scope ports)) (with_external (inputs_seen states.scope ports)) inputs.value = went (move_of around true body.external (inputs_seen states.scope ports)) (with_external (inputs_seen states.scope ports)) inputs.value inputs.first in
+      let confluent = went (move_of around true body.confluent (inputs_seen states.scope ports)) (λ confluent. Ok (max external.value confluent)) inputs.value external.next in
+      let both : max external.value confluent.value ≡ inputs.value = ok-is (max external.value confluent.value) inputs.value confluent.next in
       record {
         states = states;
-        states_are = one.is;
+        states_are = one.first;
         states_low = omega (arith, height);
         last = ap (λ (p : Passed). p.scope) same;
-        advance = seen.own;
-        advance_is = seen.is;
-        advance_of = sym (wanted-is (ty.Opt ty.Int) seen.own test.own test.is);
+        advance = seen.value;
+        advance_is = seen.first;
+        advance_of = sym (wanted-is (ty.Opt ty.Int) seen.value test.value test.first);
         advance_low = omega (arith, height, advance);
-        output = output.own;
-        output_is = output.is;
+        output = output.value;
+        output_is = output.first;
         output_low = omega (arith, height, phases);
-        internal = internal.own;
-        internal_is = internal.is;
+        internal = internal.value;
+        internal_is = internal.first;
         internal_low = omega (arith, height, phases);
-        external = external.own;
-        external_is = external.is;
+        external = external.value;
+        external_is = external.first;
         external_low = omega (arith, height, phases, both);
-        confluent = confluent.own;
-        confluent_is = confluent.is;
+        confluent = confluent.value;
+        confluent_is = confluent.first;
         confluent_low = omega (arith, height, phases, both);
       }

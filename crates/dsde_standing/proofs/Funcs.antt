@@ -1,5 +1,5 @@
 -- The functions of a file by their text, and those that are known behind declarations.
-use Rattle.std.proofs.Common.{◌≡◌, ℕ, Bool, true, false, List, [], ◌∷◌, ◌++◌, map, Option, Some, None, Result, Ok, slice_get, unwrap_or, nat_lt, if◌then◌else◌, refl, sym, ap, subst, ◌∙◌, append_assoc, append-nil}
+use Rattle.std.proofs.Common.{◌≡◌, ℕ, false, List, [], ◌∷◌, ◌++◌, map, Result, Ok, refl, sym, ap, ◌∙◌, append_assoc, append-nil}
 use Rattle.std.proofs.lemmas.List.{map-append}
 use Rattle.dsde_syntax.specs.declared.id.Id.{Id}
 use Rattle.dsde_syntax.specs.declared.expr.Expr.{Expr}
@@ -8,9 +8,6 @@ use Rattle.dsde_syntax.specs.declared.decl.Decl.{Decl}
 use Rattle.dsde_syntax.specs.declared.decl.Decl.TheVariants as decl
 use Rattle.dsde_syntax.specs.declared.decl.Typed.{Typed}
 use Rattle.dsde_syntax.specs.declared.type_name.TypeName.{TypeName}
-use Rattle.dsde_syntax.specs.declared.type_name.TypeName.TheOpen.{TypeName-F}
-use Rattle.dsde_syntax.specs.declared.type_name.TypeName.TheViews.{roll-TypeName}
-use Rattle.dsde_syntax.specs.declared.type_name.TypeName.TheFolds.{map-TypeName, fold-roll-TypeName, ind-TypeName}
 use Rattle.dsde_values.specs.declared.types.Ty.{Ty}
 use Rattle.dsde_values.specs.declared.types.Ty.TheVariants as ty
 use Rattle.dsde_rules.specs.declared.known.Known.{Known}
@@ -19,64 +16,15 @@ use Rattle.dsde_rules.specs.declared.seen.TypeSeen.{TypeSeen}
 use Rattle.dsde_rules.specs.declared.signatures.Func.{Func}
 use Rattle.dsde_rules.specs.declared.signatures.TypeWord.{TypeWord}
 use Rattle.dsde_rules.specs.declared.wrong.Wrong.{Wrong}
-use Rattle.dsde_rules.specs.declared.wrong.WrongKind.TheVariants.{Unknown, Limit}
-use Rattle.dsde_rules.specs.Steps.{◌>>=◌, wrong, above, within}
-use Rattle.dsde_rules.specs.Tables.{added, by_text, text_step, text_params, text_type, func_name, numbered}
-use Rattle.dsde_rules.specs.Judge.{Scope, declared_type, type_at, type_of, type_of_id, type_step, made_type}
-use Rattle.dsde_rules.specs.Types.{deeper}
+use Rattle.dsde_rules.specs.Steps.{◌>>=◌, above, within}
+use Rattle.dsde_rules.specs.Tables.{added, by_text, text_params, func_name}
+use Rattle.dsde_rules.specs.Judge.{Scope, type_of}
 use Rattle.dsde_rules.specs.Blocks.{func_of, func_height, around_func, params_all}
 use Rattle.dsde_rules.specs.Rules.{apart_all}
 use Rattle.dsde_nodes.specs.Models.{with_func, with_funcs}
-use Rattle.dsde_meaning.specs.Scopes.{IsDeclared}
-use Rattle.dsde_standing.proofs.Found.{added-new}
-use Rattle.dsde_standing.proofs.Steps.{ok-same, Went, went, is_name, apart-parts, Among, among-more, among-new}
-
-seen-is : (own : Ty) (depth : ℕ) (seen : TypeSeen) → (let made : TypeSeen = record { ty = own; depth = depth } in let result : Result TypeSeen Wrong = Ok made in result) ≡ Ok seen → own ≡ seen.ty
-seen-is own depth seen is = let made : TypeSeen = record { ty = own; depth = depth } in let e : made ≡ seen = cc in ap (λ (s : TypeSeen). s.ty) e
-
--- A type in which nothing is wrong is the one by its text.
-module _ (known whole : Known) (declared : (name : List ℕ) (number : ℕ) → declared_type known name ≡ Some number → IsDeclared known whole name number) where
-  abbrev IsTyped : TypeName → Type 0
-  IsTyped own = (seen : TypeSeen) → type_of known own ≡ Ok seen → by_text whole.words own ≡ seen.ty
-
-  typed-id : (id : Id) (found : Option ℕ) (seen : TypeSeen) → declared_type known id.name ≡ found → type_of_id known id ≡ Ok seen → text_type whole.words id ≡ seen.ty
-  typed-id id None seen is right = cc
-  typed-id id (Some number) seen is right =
-      let own : IsDeclared known whole id.name number = declared id.name number is in
-      let one : TypeSeen = record { ty = type_at known number; depth = unwrap_or (slice_get known.depths number) 0 } in
-      let here : type_of_id known id ≡ Ok one =
-      ap (λ (o : Option ℕ). elim o [
-        | None ↦ wrong Unknown id.at
-        | Some number ↦ (let found : TypeSeen = record { ty = type_at known number; depth = unwrap_or (slice_get known.depths number) 0 } in let own : Result TypeSeen Wrong = Ok found in own)
-      ]) is in
-      let same : Ok one ≡ Ok seen = sym here ∙ right in
-      ap (λ (o : Option ℕ). elim o [ None ↦ ty.Rec 0 | Some number ↦ numbered number (slice_get whole.words number) ]) own.place
-      ∙ own.own
-      ∙ ap (λ (s : TypeSeen). s.ty) (let e : one ≡ seen = cc in e)
-
-  typed-part : (made : Ty → Ty) (of : Ty) (inner : Result TypeSeen Wrong) (at : ℕ) (seen : TypeSeen) → ((part : TypeSeen) → inner ≡ Ok part → of ≡ part.ty)
-      → (inner >>= (λ (part : TypeSeen). made_type (made part.ty) (deeper part.depth) at)) ≡ Ok seen → made of ≡ seen.ty
-  typed-part made of inner at seen own is =
-      let parts = went inner (λ (part : TypeSeen). made_type (made part.ty) (deeper part.depth) at) seen is in
-      ap made (own parts.own parts.is) ∙ made-is (nat_lt 64 (deeper parts.own.depth)) (made parts.own.ty) (deeper parts.own.depth) parts.next-is
-    where
-      made-is : (deep : Bool) (ty : Ty) (depth : ℕ) → (if deep then wrong Limit at else (let made : TypeSeen = record { ty = ty; depth = depth } in let own : Result TypeSeen Wrong = Ok made in own)) ≡ Ok seen → ty ≡ seen.ty
-      made-is true ty depth is = cc
-      made-is false ty depth is = let made : TypeSeen = record { ty = ty; depth = depth } in let e : made ≡ seen = cc in ap (λ (s : TypeSeen). s.ty) e
-
-  type-roll : (x : TypeName-F TypeName) → ((seen : TypeSeen) → type_step known (map-TypeName TypeName (Result TypeSeen Wrong) (type_of known) x) ≡ Ok seen → text_step whole.words (map-TypeName TypeName Ty (by_text whole.words) x) ≡ seen.ty) → IsTyped (roll-TypeName x)
-  type-roll x own seen is =
-      fold-roll-TypeName Ty (text_step whole.words) x ∙ own seen (sym (fold-roll-TypeName (Result TypeSeen Wrong) (type_step known) x) ∙ is)
-
-  type-case : (y : TypeName-F ((own : TypeName) × IsTyped own)) → IsTyped (roll-TypeName (map-TypeName ((own : TypeName) × IsTyped own) TypeName (λ e. e.0) y))
-  type-case (TypeName-F.Int at) = type-roll (TypeName-F.Int at) (λ seen is. seen-is ty.Int 0 seen is)
-  type-case (TypeName-F.Bool at) = type-roll (TypeName-F.Bool at) (λ seen is. seen-is ty.Bool 0 seen is)
-  type-case (TypeName-F.Named id) = type-roll (TypeName-F.Named id) (λ seen is. typed-id id (declared_type known id.name) seen refl is)
-  type-case (TypeName-F.List at (part, own)) = type-roll (TypeName-F.List at part) (λ seen is. typed-part ty.List (by_text whole.words part) (type_of known part) at seen own is)
-  type-case (TypeName-F.Opt at (part, own)) = type-roll (TypeName-F.Opt at part) (λ seen is. typed-part ty.Opt (by_text whole.words part) (type_of known part) at seen own is)
-
-  pub typed-is : (own : TypeName) → IsTyped own
-  typed-is = ind-TypeName IsTyped (λ x y is. subst (λ (z : TypeName-F TypeName). IsTyped (roll-TypeName z)) is (type-case y))
+use Rattle.dsde_typing.specs.Places.{added-new}
+use Rattle.dsde_typing.specs.Steps.{ok-is, Went, went}
+use Rattle.dsde_standing.proofs.Steps.{is_name, apart-parts, Among, among-more, among-new}
 
 -- a function by its name and by the type of its result
 pub record Sig : Type 0 where
@@ -187,8 +135,8 @@ module _ (known : Known) (name : Id) (params : List Typed) (result : TypeName) (
   pub func-judged : (func : Func) → func_of known name params result stmts value ≡ Ok func → Judged known name result func
   func-judged func is =
       let one : Went (params_all known [] params) with_result func = went (params_all known [] params) with_result func is in
-      let two : Went (type_of known result) (with_height one.own) func = went (type_of known result) (with_height one.own) func one.next-is in
-      let three : Went (func_height (around_func known) stmts value two.own.ty one.own) (with_test one.own two.own) func = went (func_height (around_func known) stmts value two.own.ty one.own) (with_test one.own two.own) func two.next-is in
-      let four = went (within name.at three.own) (λ _. Ok (made_func one.own two.own three.own)) func three.next-is in
-      let same : made_func one.own two.own three.own ≡ func = ok-same (made_func one.own two.own three.own) func four.next-is in
-      record { named = ap (λ (f : Func). f.name) (sym same); seen = two.own; typed = two.is; is = ap (λ (f : Func). f.result) (sym same) }
+      let two : Went (type_of known result) (with_height one.value) func = went (type_of known result) (with_height one.value) func one.next in
+      let three : Went (func_height (around_func known) stmts value two.value.ty one.value) (with_test one.value two.value) func = went (func_height (around_func known) stmts value two.value.ty one.value) (with_test one.value two.value) func two.next in
+      let four = went (within name.at three.value) (λ _. Ok (made_func one.value two.value three.value)) func three.next in
+      let same : made_func one.value two.value three.value ≡ func = ok-is (made_func one.value two.value three.value) func four.next in
+      record { named = ap (λ (f : Func). f.name) (sym same); seen = two.value; typed = two.first; is = ap (λ (f : Func). f.result) (sym same) }

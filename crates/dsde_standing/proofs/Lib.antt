@@ -1,9 +1,7 @@
-mod Found
 mod Steps
 mod Types
 mod Funcs
 mod Within
-mod Same
 mod Pieces
 mod Slots
 mod Params

@@ -7,7 +7,7 @@ use Rattle.dsde_rules.specs.declared.signatures.TypeWord.{TypeWord}
 use Rattle.dsde_rules.specs.Tables.{added, model_name, models_from, text_params, text_ports}
 use Rattle.dsde_rules.specs.Rules.{own_name, apart_all}
 use Rattle.dsde_standing.specs.Bodies.{Own, owns_of}
-use Rattle.dsde_standing.proofs.Found.{added-new}
+use Rattle.dsde_typing.specs.Places.{added-new}
 use Rattle.dsde_standing.proofs.Steps.{is_name, apart-parts, Among, among-more, among-new}
 
 -- a model, as it is declared

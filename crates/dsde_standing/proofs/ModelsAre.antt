@@ -23,12 +23,13 @@ use Rattle.dsde_nodes.specs.Items.{directed}
 use Rattle.dsde_nodes.specs.Models.{whole_of, infos_of}
 use Rattle.dsde_nodes.specs.Statements.{typed_fields, port_fields}
 use Rattle.dsde_nodes.specs.Typing.{with_slots}
-use Rattle.dsde_program.specs.Right.{IsRight}
+use Rattle.dsde_rules.specs.Right.{IsRight}
 use Rattle.dsde_meaning.specs.Proper.{is_proper_decl, are_plain, is_proper_body}
 use Rattle.dsde_standing.specs.Bodies.{Own, owns_of}
 use Rattle.dsde_standing.specs.Structures.{ModelIs, PortsApart, ModelsAre}
-use Rattle.dsde_standing.proofs.Found.{added-new}
-use Rattle.dsde_standing.proofs.Steps.{went, among-none}
+use Rattle.dsde_typing.specs.Places.{added-new}
+use Rattle.dsde_typing.specs.Steps.{went}
+use Rattle.dsde_standing.proofs.Steps.{among-none}
 use Rattle.dsde_standing.proofs.Funcs.{words-stay, models-stay}
 use Rattle.dsde_standing.proofs.Within.{known-models, ruled}
 use Rattle.dsde_standing.proofs.Slots.{NewFields, slots-are}
@@ -87,7 +88,7 @@ module _ (model : Model) (right : IsRight model) where
   behind : (own : Decl) (rest : List Decl) → Judged rest → (known : Known) → Place model right known (own ∷ rest) → decls_rule known (own ∷ rest) ≡ Ok tt → list_all is_proper_decl (own ∷ rest) ≡ true → AllPorts (owns_of rest)
   behind own rest all known place is proper =
       let one = went (decl_rule known own) (λ more. decls_rule more rest) tt is in
-      all one.own (next-place model right known one.own own rest place one.is) one.next-is (and_parts (is_proper_decl own) (list_all is_proper_decl rest) proper).1
+      all one.value (next-place model right known one.value own rest place one.first) one.next (and_parts (is_proper_decl own) (list_all is_proper_decl rest) proper).1
 
   all-ports : (rest : List Decl) → Judged rest
   all-ports [] known place is proper = tt
@@ -100,8 +101,8 @@ module _ (model : Model) (right : IsRight model) where
       let both = and_parts (is_proper_decl own) (list_all is_proper_decl rest) proper in
       let parts = and_parts (are_plain params) (is_proper_body body) both.0 in
       let one = went (decl_rule known own) (λ more. decls_rule more rest) tt is in
-      let test = went (atomic_rule (around_with known (body_names params body)) at name params body) (λ _. Ok known) one.own one.is in
-      let judged : OwnJudged model known text = atomic-judged model right known (known-at model right known (own ∷ rest) place) name params body at test.own test.is parts.0 parts.1 in
+      let test = went (atomic_rule (around_with known (body_names params body)) at name params body) (λ _. Ok known) one.value one.first in
+      let judged : OwnJudged model known text = atomic-judged model right known (known-at model right known (own ∷ rest) place) name params body at test.value test.first parts.0 parts.1 in
       let new = (ports-are known whole judged.typed body.ports judged.params [] judged.ports judged.ports_is).new in
       (record { scope = judged.params; ports = new; body = new }, behind own rest (all-ports rest) known place is proper)
   all-ports (decl.Network at name params ports exec_at body items ∷ rest) known place is proper =
@@ -110,8 +111,8 @@ module _ (model : Model) (right : IsRight model) where
       let both = and_parts (is_proper_decl own) (list_all is_proper_decl rest) proper in
       let parts = and_parts (are_plain params) (is_proper_body body) both.0 in
       let one = went (decl_rule known own) (λ more. decls_rule more rest) tt is in
-      let test = went (network_rule (around_with known (body_names params body)) name params ports exec_at body items) (λ _. Ok known) one.own one.is in
-      let judged : StructureJudged model known text items = structure-judged model right known (known-at model right known (own ∷ rest) place) name params body at ports exec_at items test.own test.is parts.0 parts.1 in (
+      let test = went (network_rule (around_with known (body_names params body)) name params ports exec_at body items) (λ _. Ok known) one.value one.first in
+      let judged : StructureJudged model known text items = structure-judged model right known (known-at model right known (own ∷ rest) place) name params body at ports exec_at items test.value test.first parts.0 parts.1 in (
         record {
           scope = judged.body.params;
           ports = (ports-are known whole judged.body.typed ports judged.body.params [] judged.ports judged.ports_is).new;

@@ -2,6 +2,7 @@
 use Rattle.std.proofs.Common.{◌≡◌, ℕ, ◌≤◌, Bool, true, false, ◌||◌, ◌&&◌, List, [], ◌∷◌, ◌++◌, map, Option, Ok, bytes_eq, refl, sym, ap, subst, ◌∙◌, arith, append_assoc, append-nil}
 use Rattle.std.proofs.lemmas.Bool.{and_parts, and_from}
 use Rattle.std.specs.List.{list_all}
+use Rattle.std.proofs.lemmas.List.Folds.{list_any-append}
 use Rattle.dsde_syntax.specs.declared.decl.Body.{Body}
 use Rattle.dsde_syntax.specs.declared.decl.Model.{Model}
 use Rattle.dsde_syntax.specs.declared.decl.PortDecl.{PortDecl}
@@ -34,8 +35,9 @@ use Rattle.dsde_meaning.specs.Proper.{is_plain, are_plain, is_proper, is_proper_
 use Rattle.dsde_meaning.specs.Scopes.{Sees, AreOuts}
 use Rattle.dsde_standing.specs.Places.{KnownAt, IsExpr}
 use Rattle.dsde_standing.specs.Bodies.{Own, BodyStands, PhaseStands, InitsStand, param_slots, body_slots, body_ins, body_outs, moved_slots}
-use Rattle.dsde_standing.proofs.Found.{any-append, any-map}
-use Rattle.dsde_standing.proofs.Slots.{field_of, NewFields, slots-are, among-fields, none-passes, elapsed_field, sees-slots, sees-moved}
+use Rattle.dsde_typing.specs.Places.{any-map}
+use Rattle.dsde_typing.specs.Seeing.{own_slot, among-slots}
+use Rattle.dsde_standing.proofs.Slots.{NewFields, slots-are, none-passes, elapsed_field, sees-slots, sees-moved}
 use Rattle.dsde_standing.proofs.Params.{NewPorts, ports_in, ParamsAre, params-are, PortsAre, ports-are, directed-is, directed-new, covered-none, covered-scope, MovedAre, moved-are, are-outs, are-none}
 use Rattle.dsde_standing.proofs.BodyPieces.{BodyPut}
 use Rattle.dsde_standing.proofs.BodyRules.{BodyJudged, body-judged}
@@ -178,7 +180,7 @@ module _ (model : Model) where
       pub slots1-are : slots1 ≡ body_slots model own
       slots1-are = slots1-from ∙ ap (λ (l : List Field). l ++ state_fields whole own.body.states) slots0-are
 
-      seen : map field_of parts.states.scope ≡ slots1
+      seen : map own_slot parts.states.scope ≡ slots1
       seen = states.is ∙ sym slots1-from
 
       sees : Sees false parts.states.scope slots1
@@ -196,9 +198,9 @@ module _ (model : Model) where
       -- No name that is seen is `elapsed`.
       scope-plain : is_among binding_name parts.states.scope elapsed_name ≡ false
       scope-plain =
-          sym (among-fields parts.states.scope elapsed_name)
+          sym (among-slots parts.states.scope elapsed_name)
           ∙ ap (λ (l : List Field). is_among field_name l elapsed_name) (seen ∙ slots1-are)
-          ∙ any-append (λ field. bytes_eq (field_name field) elapsed_name) (typed_fields whole own.params) (state_fields whole own.body.states)
+          ∙ list_any-append (λ field. bytes_eq (field_name field) elapsed_name) (typed_fields whole own.params) (state_fields whole own.body.states)
           ∙ ap (λ (b : Bool). b || is_among field_name (state_fields whole own.body.states) elapsed_name) (typed-plain whole own.params judged.plain)
           ∙ states-plain whole own.body.states proper.states
 

@@ -22,7 +22,7 @@ use Rattle.dsde_meaning.specs.Scopes.{Stands}
 use Rattle.dsde_proper.specs.Items.{is_proper_item}
 use Rattle.dsde_standing.specs.Bodies.{Own, body_slots}
 use Rattle.dsde_standing.specs.Structures.{vias_in, vias_of, IsStructure}
-use Rattle.dsde_standing.proofs.Steps.{went}
+use Rattle.dsde_typing.specs.Steps.{went}
 use Rattle.dsde_standing.proofs.Params.{PortsAre, ports-are, directed-is}
 use Rattle.dsde_standing.proofs.BodyPieces.{BodyPut}
 use Rattle.dsde_standing.proofs.OneBody.{StructureJudged, slots1-are, structure-sees, directed-are}
@@ -65,7 +65,7 @@ module _ (model : Model) (known : Known) (own : Own) (items : List Item) (judged
         around = around;
         ports = judged.ports;
         execs = judged.body.ports;
-        families = parts.own;
+        families = parts.value;
         scope = judged.body.passed.scope;
         height = judged.height;
         next = next;
@@ -73,8 +73,8 @@ module _ (model : Model) (known : Known) (own : Own) (items : List Item) (judged
         plain = refl;
         partial = refl;
         proper = proper;
-        entered = parts.is;
-        judged = parts.next-is;
+        entered = parts.first;
+        judged = parts.next;
         low = judged.height_low;
         sees = structure-sees model known own judged.body code body_next put;
         own_ports = record {

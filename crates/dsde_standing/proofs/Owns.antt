@@ -22,24 +22,24 @@ use Rattle.dsde_rules.specs.Rules.{around_with, atomic_rule, network_rule, insid
 use Rattle.dsde_nodes.specs.declared.node.Node.{Node}
 use Rattle.dsde_nodes.specs.Models.{whole_of, resolved}
 use Rattle.dsde_nodes.specs.Pieces.{Block}
-use Rattle.dsde_program.specs.Right.{IsRight}
+use Rattle.dsde_rules.specs.Right.{IsRight}
 use Rattle.dsde_meaning.specs.Proper.{are_plain, is_proper_body}
 use Rattle.dsde_standing.specs.Places.{KnownAt, known_behind}
 use Rattle.dsde_standing.specs.Bodies.{Own}
-use Rattle.dsde_standing.proofs.Steps.{ok-same, holds-not, Went, went}
-use Rattle.dsde_standing.proofs.Funcs.{typed-is}
+use Rattle.dsde_typing.specs.Steps.{ok-is, unless-is, Went, went}
+use Rattle.dsde_typing.specs.Written.{written}
 use Rattle.dsde_standing.proofs.Within.{known-is-within}
 use Rattle.dsde_standing.proofs.OneBody.{OwnJudged, StructureJudged}
 
 -- what is known behind more declarations
 pub known-more : (done rest : List Decl) (base known : Known) → known_behind base done ≡ Ok known → known_behind base (done ++ rest) ≡ known_behind known rest
-known-more [] rest base known is = ap (λ (k : Known). known_behind k rest) (ok-same base known is)
+known-more [] rest base known is = ap (λ (k : Known). known_behind k rest) (ok-is base known is)
 known-more (own ∷ done) rest base known is =
     let one = went (decl_rule base own) (λ more. known_behind more done) known is in
-    ap (λ (r : Result Known Wrong). r >>= (λ more. known_behind more (done ++ rest))) one.is ∙ known-more done rest one.own known one.next-is
+    ap (λ (r : Result Known Wrong). r >>= (λ more. known_behind more (done ++ rest))) one.first ∙ known-more done rest one.value known one.next
 
 pub within-low : (at height : ℕ) (done : Unit {0}) → within at height ≡ Ok done → height ≤ 512
-within-low at height done is = ltb-false 512 height (holds-not _ _ _ done is)
+within-low at height done is = ltb-false 512 height (unless-is _ _ _ done is)
 
 module _ (model : Model) (right : IsRight model) where
   abbrev whole : Known
@@ -70,7 +70,7 @@ module _ (model : Model) (right : IsRight model) where
   }
 
   pub typed-at : (known : Known) → KnownAt model known → (own : TypeName) (seen : TypeSeen) → type_of known own ≡ Ok seen → by_text whole.words own ≡ seen.ty
-  typed-at known at = typed-is known whole (known-is-within model known right at).words
+  typed-at known at = written known whole (known-is-within model known right at).words
 
   module _ (known : Known) (at_place : KnownAt model known) (name : Id) (params : List Typed) (body : Body) where
     abbrev around : Around
@@ -89,20 +89,20 @@ module _ (model : Model) (right : IsRight model) where
         → OwnJudged model known (record { name = name; at = at; network = false; params = params; ports = body.ports; start_at = at; body = body })
     atomic-judged at done is plain proper =
         let one : Went (params_all known [] params) (with_params at) done = went (params_all known [] params) (with_params at) done is in
-        let two : Went (ports_all known one.own [] body.ports) (with_ports at one.own) done = went (ports_all known one.own [] body.ports) (with_ports at one.own) done one.next-is in
-        let three : Went (body_of around at two.own body one.own) with_passed done = went (body_of around at two.own body one.own) with_passed done two.next-is in
+        let two : Went (ports_all known one.value [] body.ports) (with_ports at one.value) done = went (ports_all known one.value [] body.ports) (with_ports at one.value) done one.next in
+        let three : Went (body_of around at two.value body one.value) with_passed done = went (body_of around at two.value body one.value) with_passed done two.next in
         record {
           at = at_place;
           typed = typed-at known at_place;
           reserved = body_names params body;
-          params = one.own;
-          params_is = one.is;
-          ports = two.own;
-          ports_is = two.is;
-          passed = three.own;
+          params = one.value;
+          params_is = one.first;
+          ports = two.value;
+          ports_is = two.first;
+          passed = three.value;
           place = at;
-          body_is = three.is;
-          low = within-low name.at three.own.height done three.next-is;
+          body_is = three.first;
+          low = within-low name.at three.value.height done three.next;
           plain = plain;
           proper = proper;
         }
@@ -130,32 +130,32 @@ module _ (model : Model) (right : IsRight model) where
           → StructureJudged model known own items
       structure-judged done is plain proper =
           let one : Went (params_all known [] params) with_scope done = went (params_all known [] params) with_scope done is in
-          let two : Went (ports_all known one.own [] ports) (with_own one.own) done = went (ports_all known one.own [] ports) (with_own one.own) done one.next-is in
-          let three : Went (ports_all known one.own [] body.ports) (with_execs two.own one.own) done = went (ports_all known one.own [] body.ports) (with_execs two.own one.own) done two.next-is in
-          let four : Went (body_of around exec_at three.own body one.own) (with_exec two.own three.own) done = went (body_of around exec_at three.own body one.own) (with_exec two.own three.own) done three.next-is in
-          let five : Went (structure_of around two.own three.own items four.own.scope) (with_structure four.own) done = went (structure_of around two.own three.own items four.own.scope) (with_structure four.own) done four.next-is in
-          let low = within-low name.at (max four.own.height five.own) done five.next-is in
+          let two : Went (ports_all known one.value [] ports) (with_own one.value) done = went (ports_all known one.value [] ports) (with_own one.value) done one.next in
+          let three : Went (ports_all known one.value [] body.ports) (with_execs two.value one.value) done = went (ports_all known one.value [] body.ports) (with_execs two.value one.value) done two.next in
+          let four : Went (body_of around exec_at three.value body one.value) (with_exec two.value three.value) done = went (body_of around exec_at three.value body one.value) (with_exec two.value three.value) done three.next in
+          let five : Went (structure_of around two.value three.value items four.value.scope) (with_structure four.value) done = went (structure_of around two.value three.value items four.value.scope) (with_structure four.value) done four.next in
+          let low = within-low name.at (max four.value.height five.value) done five.next in
           let judged : OwnJudged model known own = record {
             at = at_place;
             typed = typed-at known at_place;
             reserved = body_names params body;
-            params = one.own;
-            params_is = one.is;
-            ports = three.own;
-            ports_is = three.is;
-            passed = four.own;
+            params = one.value;
+            params_is = one.first;
+            ports = three.value;
+            ports_is = three.first;
+            passed = four.value;
             place = exec_at;
-            body_is = four.is;
+            body_is = four.first;
             low = omega (arith, low);
             plain = plain;
             proper = proper;
           } in
           record {
             body = judged;
-            ports = two.own;
-            ports_is = two.is;
-            height = five.own;
-            structure_is = five.is;
+            ports = two.value;
+            ports_is = two.first;
+            height = five.value;
+            structure_is = five.first;
             height_low = omega (arith, low);
           }
 

@@ -1,6 +1,7 @@
 -- Parameters and ports in which nothing is wrong, and their slots.
 use Rattle.std.proofs.Common.{◌≡◌, ℕ, Bool, true, false, not, ◌||◌, if◌then◌else◌, cond, List, [], ◌∷◌, ◌++◌, map, Some, Ok, bytes_eq, refl, sym, ap, subst, ◌∙◌, append_assoc, append-nil, true≢false}
 use Rattle.std.proofs.lemmas.List.{map-append}
+use Rattle.std.proofs.lemmas.List.Folds.{list_any-append}
 use Rattle.dsde_syntax.specs.declared.decl.PortDecl.{PortDecl}
 use Rattle.dsde_syntax.specs.declared.decl.Typed.{Typed}
 use Rattle.dsde_syntax.specs.declared.type_name.TypeName.{TypeName}
@@ -22,9 +23,11 @@ use Rattle.dsde_rules.specs.Blocks.{params_all, new_port, ports_all, inputs_seen
 use Rattle.dsde_nodes.specs.Items.{directed}
 use Rattle.dsde_nodes.specs.Statements.{typed_fields, port_fields, list_fields}
 use Rattle.dsde_meaning.specs.Scopes.{Slotted, AreOuts}
-use Rattle.dsde_standing.proofs.Found.{any-append, any-left, added-new, named-cons}
-use Rattle.dsde_standing.proofs.Steps.{ok-same, holds-not, either-left, either-right, went}
-use Rattle.dsde_standing.proofs.Slots.{field_of, NewFields, among-fields}
+use Rattle.dsde_typing.specs.Places.{any-left, added-new, named-cons}
+use Rattle.dsde_typing.specs.Truths.{or-left, or-right}
+use Rattle.dsde_typing.specs.Seeing.{own_slot, among-slots}
+use Rattle.dsde_typing.specs.Steps.{ok-is, unless-is, went}
+use Rattle.dsde_standing.proofs.Slots.{NewFields}
 
 -- the ports that are declared, by their text
 abbrev pub ports_in : List TypeWord → List PortDecl → List Port
@@ -39,26 +42,26 @@ NewPorts scope found (port ∷ ports) =
 module _ (known whole : Known) (typed : (own : TypeName) (seen : TypeSeen) → type_of known own ≡ Ok seen → by_text whole.words own ≡ seen.ty) where
   -- what parameters add to a scope
   pub record ParamsAre (scope last : Scope) (params : List Typed) : Type 0 where
-    pub is : map field_of last ≡ map field_of scope ++ typed_fields whole params
-    pub new : NewFields (map field_of scope) (typed_fields whole params)
+    pub is : map own_slot last ≡ map own_slot scope ++ typed_fields whole params
+    pub new : NewFields (map own_slot scope) (typed_fields whole params)
 
   pub params-are : (params : List Typed) (scope last : Scope) → params_all known scope params ≡ Ok last → ParamsAre scope last params
   params-are [] scope last is = record {
-    is = ap (map field_of) (sym (ok-same scope last is)) ∙ sym (append-nil (map field_of scope));
+    is = ap (map own_slot) (sym (ok-is scope last is)) ∙ sym (append-nil (map own_slot scope));
     new = tt;
   }
   params-are (own ∷ rest) scope last is =
       let one = went (unbound scope own.name) (λ _. type_of known own.ty >>= (λ seen. params_all known (scope ++ fixed own.name seen.ty ∷ []) rest)) last is in
-      let two = went (type_of known own.ty) (λ seen. params_all known (scope ++ fixed own.name seen.ty ∷ []) rest) last one.next-is in
-      let more : Scope = scope ++ fixed own.name two.own.ty ∷ [] in
-      let next : ParamsAre more last rest = params-are rest more last two.next-is in
+      let two = went (type_of known own.ty) (λ seen. params_all known (scope ++ fixed own.name seen.ty ∷ []) rest) last one.next in
+      let more : Scope = scope ++ fixed own.name two.value.ty ∷ [] in
+      let next : ParamsAre more last rest = params-are rest more last two.next in
       let field : Field = record { name = own.name.name; ty = by_text whole.words own.ty } in
-      let here : map field_of more ≡ map field_of scope ++ field ∷ [] =
-      map-append field_of scope (fixed own.name two.own.ty ∷ [])
-      ∙ ap (λ (t : Ty). let field : Field = record { name = own.name.name; ty = t } in map field_of scope ++ field ∷ []) (sym (typed own.ty two.own two.is)) in
+      let here : map own_slot more ≡ map own_slot scope ++ field ∷ [] =
+      map-append own_slot scope (fixed own.name two.value.ty ∷ [])
+      ∙ ap (λ (t : Ty). let field : Field = record { name = own.name.name; ty = t } in map own_slot scope ++ field ∷ []) (sym (typed own.ty two.value two.first)) in
       record {
-        is = next.is ∙ ap (λ (l : List Field). l ++ typed_fields whole rest) here ∙ append_assoc (map field_of scope) (field ∷ []) (typed_fields whole rest);
-        new = (among-fields scope own.name.name ∙ holds-not _ _ _ one.own one.is, subst (λ (l : List Field). NewFields l (typed_fields whole rest)) here next.new);
+        is = next.is ∙ ap (λ (l : List Field). l ++ typed_fields whole rest) here ∙ append_assoc (map own_slot scope) (field ∷ []) (typed_fields whole rest);
+        new = (among-slots scope own.name.name ∙ unless-is _ _ _ one.value one.first, subst (λ (l : List Field). NewFields l (typed_fields whole rest)) here next.new);
       }
 
   pub record PortsAre (scope : Scope) (found last : List Port) (ports : List PortDecl) : Type 0 where
@@ -67,21 +70,21 @@ module _ (known whole : Known) (typed : (own : TypeName) (seen : TypeSeen) → t
 
   pub ports-are : (ports : List PortDecl) (scope : Scope) (found last : List Port) → ports_all known scope found ports ≡ Ok last → PortsAre scope found last ports
   ports-are [] scope found last is = record {
-    is = sym (ok-same found last is) ∙ sym (append-nil found);
+    is = sym (ok-is found last is) ∙ sym (append-nil found);
     new = tt;
   }
   ports-are (own ∷ rest) scope found last is =
       let as_port : Ty → Port = λ (t : Ty). record { out = own.out; name = own.name.name; ty = t } in
       let one = went (new_port scope found own.name) (λ _. type_of known own.ty >>= (λ seen. ports_all known scope (found ++ as_port seen.ty ∷ []) rest)) last is in
-      let two = went (type_of known own.ty) (λ seen. ports_all known scope (found ++ as_port seen.ty ∷ []) rest) last one.next-is in
-      let apart = went (unbound scope own.name) (λ _. unless (is_among port_name found own.name.name) Duplicate own.name.at) tt one.is in
+      let two = went (type_of known own.ty) (λ seen. ports_all known scope (found ++ as_port seen.ty ∷ []) rest) last one.next in
+      let apart = went (unbound scope own.name) (λ _. unless (is_among port_name found own.name.name) Duplicate own.name.at) tt one.first in
       let port : Port = as_port (by_text whole.words own.ty) in
-      let here : found ++ as_port two.own.ty ∷ [] ≡ found ++ port ∷ [] = ap (λ (t : Ty). found ++ as_port t ∷ []) (sym (typed own.ty two.own two.is)) in
+      let here : found ++ as_port two.value.ty ∷ [] ≡ found ++ port ∷ [] = ap (λ (t : Ty). found ++ as_port t ∷ []) (sym (typed own.ty two.value two.first)) in
       let next : PortsAre scope (found ++ port ∷ []) last rest =
-      ports-are rest scope (found ++ port ∷ []) last (ap (λ (l : List Port). ports_all known scope l rest) (sym here) ∙ two.next-is) in
+      ports-are rest scope (found ++ port ∷ []) last (ap (λ (l : List Port). ports_all known scope l rest) (sym here) ∙ two.next) in
       record {
         is = next.is ∙ append_assoc found (port ∷ []) (ports_in whole.words rest);
-        new = (holds-not _ _ _ apart.own apart.is, holds-not _ _ _ apart.own apart.next-is, next.new);
+        new = (unless-is _ _ _ apart.value apart.first, unless-is _ _ _ apart.value apart.next, next.new);
       }
 
 -- the ports of one direction, as they are declared
@@ -108,8 +111,8 @@ pub record Covered (scope : Scope) (found : List Port) (fields : List Field) : T
 pub covered-none : (scope : Scope) → Covered scope [] []
 covered-none scope = record { cover = λ name one two. refl }
 
-pub covered-scope : (scope : Scope) (fields : List Field) → map field_of scope ≡ fields → Covered scope [] fields
-covered-scope scope fields same = record { cover = λ name one two. ap (λ (l : List Field). is_among field_name l name) (sym same) ∙ among-fields scope name ∙ one }
+pub covered-scope : (scope : Scope) (fields : List Field) → map own_slot scope ≡ fields → Covered scope [] fields
+covered-scope scope fields same = record { cover = λ name one two. ap (λ (l : List Field). is_among field_name l name) (sym same) ∙ among-slots scope name ∙ one }
 
 covered-skip : (scope : Scope) (found : List Port) (fields : List Field) (port : Port) → Covered scope found fields → Covered scope (found ++ port ∷ []) fields
 covered-skip scope found fields port own = record {
@@ -119,10 +122,10 @@ covered-skip scope found fields port own = record {
 covered-more : (scope : Scope) (found : List Port) (fields : List Field) (port : Port) (own : Ty) → Covered scope found fields → Covered scope (found ++ port ∷ []) (fields ++ (let field : Field = record { name = port.name; ty = own } in field) ∷ [])
 covered-more scope found fields port own covered = record {
   cover = λ name one two.
-      let both : (is_among port_name found name || (bytes_eq port.name name || false)) ≡ false = sym (any-append (λ port. bytes_eq (port_name port) name) found (port ∷ [])) ∙ two in
-      any-append (λ field. bytes_eq (field_name field) name) fields _
-      ∙ ap (λ (b : Bool). b || (bytes_eq port.name name || false)) (covered.cover name one (either-left _ _ both))
-      ∙ either-right _ _ both;
+      let both : (is_among port_name found name || (bytes_eq port.name name || false)) ≡ false = sym (list_any-append (λ port. bytes_eq (port_name port) name) found (port ∷ [])) ∙ two in
+      list_any-append (λ field. bytes_eq (field_name field) name) fields _
+      ∙ ap (λ (b : Bool). b || (bytes_eq port.name name || false)) (covered.cover name one (or-left _ _ both))
+      ∙ or-right _ _ both;
 }
 
 -- the fields of one direction, behind others
@@ -140,7 +143,7 @@ directed-new out (port ∷ ports) found scope fields covered new =
 
 -- what external and confluent see: the in ports as lists, behind other names
 pub record MovedAre (scope : Scope) (found : List Port) (fields : List Field) (seen : Scope) (ports : List Port) : Type 0 where
-  pub is : map field_of (inputs_seen seen ports) ≡ fields ++ list_fields (directed false ports)
+  pub is : map own_slot (inputs_seen seen ports) ≡ fields ++ list_fields (directed false ports)
   pub new : NewFields fields (list_fields (directed false ports))
   pub covered : Covered scope (found ++ ports) (fields ++ list_fields (directed false ports))
 
@@ -148,11 +151,11 @@ abbrev input_bound : Port → Binding
 input_bound port = record { name = port.name; ty = ty.List port.ty; kind = kind.Fixed }
 
 record MovedStep (scope : Scope) (found : List Port) (fields : List Field) (seen : Scope) (port : Port) (ports : List Port) (out : Bool) : Type 0 where
-  is : map field_of (inputs_seen (if out then seen else added binding_name seen (input_bound port)) ports) ≡ fields ++ list_fields (if not out then port_field port ∷ directed false ports else directed false ports)
+  is : map own_slot (inputs_seen (if out then seen else added binding_name seen (input_bound port)) ports) ≡ fields ++ list_fields (if not out then port_field port ∷ directed false ports else directed false ports)
   new : NewFields fields (list_fields (if not out then port_field port ∷ directed false ports else directed false ports))
   covered : Covered scope (found ++ (port ∷ ports)) (fields ++ list_fields (if not out then port_field port ∷ directed false ports else directed false ports))
 
-pub moved-are : (ports found : List Port) (scope : Scope) (fields : List Field) (seen : Scope) → map field_of seen ≡ fields → Covered scope found fields → NewPorts scope found ports → MovedAre scope found fields seen ports
+pub moved-are : (ports found : List Port) (scope : Scope) (fields : List Field) (seen : Scope) → map own_slot seen ≡ fields → Covered scope found fields → NewPorts scope found ports → MovedAre scope found fields seen ports
 moved-are [] found scope fields seen same covered new = record {
   is = same ∙ sym (append-nil fields);
   new = tt;
@@ -162,7 +165,7 @@ moved-are (port ∷ ports) found scope fields seen same covered new =
     let own = step port.out (λ fields seen same covered. moved-are ports (found ++ port ∷ []) scope fields seen same covered new.2) in
     record { is = own.is; new = own.new; covered = own.covered }
   where
-    step : (out : Bool) → ((fields : List Field) (seen : Scope) → map field_of seen ≡ fields → Covered scope (found ++ port ∷ []) fields → MovedAre scope (found ++ port ∷ []) fields seen ports)
+    step : (out : Bool) → ((fields : List Field) (seen : Scope) → map own_slot seen ≡ fields → Covered scope (found ++ port ∷ []) fields → MovedAre scope (found ++ port ∷ []) fields seen ports)
         → MovedStep scope found fields seen port ports out
     step true next =
         let rest = next fields seen same (covered-skip scope found fields port covered) in
@@ -172,11 +175,11 @@ moved-are (port ∷ ports) found scope fields seen same covered new =
           covered = subst (λ (l : List Port). Covered scope l (fields ++ list_fields (directed false ports))) (append_assoc found (port ∷ []) ports) rest.covered;
         }
     step false next =
-        let field : Field = field_of (input_bound port) in
+        let field : Field = own_slot (input_bound port) in
         let none : is_among binding_name seen port.name ≡ false =
-        sym (among-fields seen port.name) ∙ ap (λ (l : List Field). is_among field_name l port.name) same ∙ covered.cover port.name new.0 new.1 in
-        let longer : map field_of (added binding_name seen (input_bound port)) ≡ fields ++ field ∷ [] =
-        ap (map field_of) (added-new binding_name seen (input_bound port) none) ∙ map-append field_of seen (input_bound port ∷ []) ∙ ap (λ (l : List Field). l ++ field ∷ []) same in
+        sym (among-slots seen port.name) ∙ ap (λ (l : List Field). is_among field_name l port.name) same ∙ covered.cover port.name new.0 new.1 in
+        let longer : map own_slot (added binding_name seen (input_bound port)) ≡ fields ++ field ∷ [] =
+        ap (map own_slot) (added-new binding_name seen (input_bound port) none) ∙ map-append own_slot seen (input_bound port ∷ []) ∙ ap (λ (l : List Field). l ++ field ∷ []) same in
         let rest = next (fields ++ field ∷ []) (added binding_name seen (input_bound port)) longer (covered-more scope found fields port (ty.List port.ty) covered) in
         let joined : (fields ++ field ∷ []) ++ list_fields (directed false ports) ≡ fields ++ (field ∷ list_fields (directed false ports)) = append_assoc fields (field ∷ []) (list_fields (directed false ports)) in
         record {

@@ -1,6 +1,5 @@
 -- Where the parts of a piece of text stand: in the table of nodes and in that of blocks.
-use Rattle.std.proofs.Common.{ℕ, ◌+◌, List, [], ◌++◌, length, refl, sym, ◌∙◌, ap, append_assoc, append-nil}
-use Rattle.std.proofs.lemmas.List.{length-append}
+use Rattle.std.proofs.Common.{◌+◌, List, length}
 use Rattle.dsde_values.specs.declared.types.Ty.{Ty}
 use Rattle.dsde_nodes.specs.declared.ids.ExprId.{ExprId}
 use Rattle.dsde_nodes.specs.declared.node.Node.{Node}
@@ -8,26 +7,7 @@ use Rattle.dsde_nodes.specs.Typing.{Scope}
 use Rattle.dsde_nodes.specs.Expressions.{Resolved, expr_id}
 use Rattle.dsde_nodes.specs.Pieces.{Block, Next, Piece, Step, ◌>>=◌, behind, expr}
 use Rattle.dsde_meaning.specs.Scopes.{Stands}
-
-module _ {A : Type 0} where
-  pub stands-left : (table : List A) (start : ℕ) (left right : List A) → Stands table start (left ++ right) → Stands table start left
-  stands-left table start left right s = record {
-    before = s.before;
-    rest = right ++ s.rest;
-    is = s.is ∙ ap (λ (l : List A). s.before ++ l) (append_assoc left right s.rest);
-    at = s.at;
-  }
-
-  pub stands-right : (table : List A) (start : ℕ) (left right : List A) → Stands table start (left ++ right) → Stands table (start + length left) right
-  stands-right table start left right s = record {
-    before = s.before ++ left;
-    rest = s.rest;
-    is = s.is ∙ ap (λ (l : List A). s.before ++ l) (append_assoc left right s.rest) ∙ sym (append_assoc s.before left (right ++ s.rest));
-    at = length-append s.before left ∙ ap (λ (n : ℕ). n + length left) s.at;
-  }
-
-  pub stands-whole : (table : List A) → Stands table 0 table
-  stands-whole table = record { before = []; rest = []; is = sym (append-nil table); at = refl }
+use Rattle.dsde_typing.specs.Standing.{stands-left, stands-right}
 
 module _ (nodes : List Node) (blocks : List Block) where
   -- A piece stands in the tables from these numbers on.

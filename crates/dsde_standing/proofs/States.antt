@@ -3,6 +3,7 @@ use Rattle.std.proofs.Common.{◌≡◌, ℕ, ◌+◌, ◌≤◌, max, Bool, tru
 use Rattle.std.proofs.lemmas.List.{map-append}
 use Rattle.std.proofs.lemmas.Bool.{and_parts}
 use Rattle.std.specs.List.{list_all}
+use Rattle.std.proofs.lemmas.List.Folds.{list_any-append}
 use Rattle.dsde_syntax.specs.declared.decl.Model.{Model}
 use Rattle.dsde_syntax.specs.declared.decl.Phase.{Phase}
 use Rattle.dsde_syntax.specs.declared.decl.StateDecl.{StateDecl}
@@ -37,10 +38,12 @@ use Rattle.dsde_meaning.specs.Proper.{is_plain, is_proper, is_proper_phase}
 use Rattle.dsde_meaning.specs.Scopes.{Sees, AreOuts}
 use Rattle.dsde_standing.specs.Places.{KnownAt}
 use Rattle.dsde_standing.specs.Bodies.{InitsStand, PhaseStands}
-use Rattle.dsde_standing.proofs.Found.{any-append, added-new}
-use Rattle.dsde_standing.proofs.Steps.{ok-same, holds-not, either-left, Went, went}
-use Rattle.dsde_standing.proofs.Same.{wanted-is}
-use Rattle.dsde_standing.proofs.Slots.{field_of, NewFields, among-fields, other-way, sees-slots}
+use Rattle.dsde_typing.specs.Places.{added-new, other-way}
+use Rattle.dsde_typing.specs.Truths.{or-left, or-right}
+use Rattle.dsde_typing.specs.Types.{wanted-is}
+use Rattle.dsde_typing.specs.Seeing.{own_slot, among-slots}
+use Rattle.dsde_typing.specs.Steps.{ok-is, unless-is, Went, went}
+use Rattle.dsde_standing.proofs.Slots.{NewFields, sees-slots}
 use Rattle.dsde_standing.proofs.Params.{NewPorts}
 use Rattle.dsde_standing.proofs.Pieces.{Put, put-first, put-own, put-behind, behind_expr}
 use Rattle.dsde_standing.proofs.BodyRules.{walk-high}
@@ -49,16 +52,12 @@ use Rattle.dsde_standing.proofs.BodyRules.{walk-high}
 pub ports-stay : (ports found : List Port) (scope : Scope) (bound : Binding) → is_among port_name ports bound.name ≡ false → NewPorts scope found ports → NewPorts (scope ++ bound ∷ []) found ports
 ports-stay [] found scope bound none new = tt
 ports-stay (port ∷ ports) found scope bound none new = (
-  any-append (λ own. bytes_eq (binding_name own) port.name) scope (bound ∷ [])
+  list_any-append (λ own. bytes_eq (binding_name own) port.name) scope (bound ∷ [])
       ∙ ap (λ (b : Bool). b || (bytes_eq bound.name port.name || false)) new.0
-      ∙ ap (λ (b : Bool). b || false) (other-way port.name bound.name (either-left _ _ none)),
+      ∙ ap (λ (b : Bool). b || false) (other-way port.name bound.name (or-left _ _ none)),
   new.1,
-  ports-stay ports (found ++ port ∷ []) scope bound (either-last _ _ none) new.2,
+  ports-stay ports (found ++ port ∷ []) scope bound (or-right _ _ none) new.2,
 )
-  where
-    either-last : (b c : Bool) → (b || c) ≡ false → c ≡ false
-    either-last true c none = cc
-    either-last false c none = none
 
 module _ (model : Model) where
   abbrev whole : Known
@@ -77,17 +76,17 @@ module _ (model : Model) where
   phase-stands around known ports outs slots scope sends sees None height is low proper names next put = tt
   phase-stands around known ports outs slots scope sends sees (Some phase) height is low proper names next put =
       let one = went (walk_all (map (walk around ports) phase.stmts) 0 scope) (λ passed. Ok passed.height) height is in
-      let same : one.own.height ≡ height = ok-same one.own.height height one.next-is in
+      let same : one.value.height ≡ height = ok-is one.value.height height one.next in
       let own = put-first nodes blocks (piece.over slots (piece.braced (resolve_stmts whole outs phase.stmts))) (λ own. piece.give (Some own)) names next put in
       record {
         around = around;
         ports = ports;
         scope = scope;
-        passed = one.own;
+        passed = one.value;
         next = record next { block = next.block + 1 };
         known = known;
         proper = proper;
-        judged = one.is;
+        judged = one.first;
         low = omega (arith, same, low);
         sees = sees;
         sends = sends;
@@ -113,7 +112,7 @@ module _ (model : Model) where
       height : passed.height ≡ found.height
       bound : Binding
       is : passed.scope ≡ scope ++ bound ∷ []
-      as_field : field_of bound ≡ state_field state
+      as_field : own_slot bound ≡ state_field state
 
     abbrev state_bound : StateDecl → Ty → Binding
     state_bound state ty = record { name = state.name.name; ty = ty; kind = kind.State }
@@ -133,20 +132,20 @@ module _ (model : Model) where
     state-seen : (state : StateDecl) (scope : Scope) (passed : Passed) → state_of around ports state scope ≡ Ok passed → StateSeen state scope passed
     state-seen state scope passed is =
         let one : Went (new_state ports scope state.name) (with_name state scope) passed = went (new_state ports scope state.name) (with_name state scope) passed is in
-        let names = went (unless (is_among port_name ports state.name.name) Duplicate state.name.at) (λ _. unbound scope state.name) one.own one.is in
-        let two : Went (type_of known state.ty) (with_type state scope) passed = went (type_of known state.ty) (with_type state scope) passed one.next-is in
-        let three : Went (judge around state.value scope) (with_value state scope two.own.ty) passed = went (judge around state.value scope) (with_value state scope two.own.ty) passed two.next-is in
-        let four = went (wanted two.own.ty three.own) (λ _. Ok (state_passed state scope two.own.ty three.own)) passed three.next-is in
-        let same : state_passed state scope two.own.ty three.own ≡ passed = ok-same (state_passed state scope two.own.ty three.own) passed four.next-is in
-        let text : by_text whole.words state.ty ≡ two.own.ty = typed state.ty two.own two.is in
+        let names = went (unless (is_among port_name ports state.name.name) Duplicate state.name.at) (λ _. unbound scope state.name) one.value one.first in
+        let two : Went (type_of known state.ty) (with_type state scope) passed = went (type_of known state.ty) (with_type state scope) passed one.next in
+        let three : Went (judge around state.value scope) (with_value state scope two.value.ty) passed = went (judge around state.value scope) (with_value state scope two.value.ty) passed two.next in
+        let four = went (wanted two.value.ty three.value) (λ _. Ok (state_passed state scope two.value.ty three.value)) passed three.next in
+        let same : state_passed state scope two.value.ty three.value ≡ passed = ok-is (state_passed state scope two.value.ty three.value) passed four.next in
+        let text : by_text whole.words state.ty ≡ two.value.ty = typed state.ty two.value two.first in
         record {
-          unused = holds-not _ _ _ names.own names.is;
-          new = holds-not _ _ _ one.own names.next-is;
-          found = three.own;
-          judged = three.is;
-          of = sym (wanted-is two.own.ty three.own four.own four.is) ∙ sym text;
+          unused = unless-is _ _ _ names.value names.first;
+          new = unless-is _ _ _ one.value names.next;
+          found = three.value;
+          judged = three.first;
+          of = sym (wanted-is two.value.ty three.value four.value four.first) ∙ sym text;
           height = ap (λ (p : Passed). p.height) (sym same);
-          bound = state_bound state two.own.ty;
+          bound = state_bound state two.value.ty;
           is = ap (λ (p : Passed). p.scope) (sym same);
           as_field = ap (λ (t : Ty). let field : Field = record { name = state.name.name; ty = t } in field) (sym text);
         }
@@ -154,37 +153,37 @@ module _ (model : Model) where
     -- the first values of state variables, and the names behind these
     pub record StatesAre (states : List StateDecl) (slots : List Field) (passed : Passed) (numbers : List ExprId) : Type 0 where
       pub inits : InitsStand model slots states numbers
-      pub is : map field_of passed.scope ≡ slots ++ state_fields whole states
+      pub is : map own_slot passed.scope ≡ slots ++ state_fields whole states
       pub new : NewFields slots (state_fields whole states)
       pub ports_new : NewPorts passed.scope [] ports
 
-    pub states-are : (states : List StateDecl) (height : ℕ) (scope : Scope) (slots : List Field) (next : Next) (passed : Passed) → map field_of scope ≡ slots
+    pub states-are : (states : List StateDecl) (height : ℕ) (scope : Scope) (slots : List Field) (next : Next) (passed : Passed) → map own_slot scope ≡ slots
         → walk_all (map (state_of around ports) states) height scope ≡ Ok passed → passed.height ≤ 512
         → list_all (λ (state : StateDecl). is_plain state.name && is_proper state.value) states ≡ true → NewPorts scope [] ports
         → Put nodes blocks next (resolve_states whole states slots next) → StatesAre states slots passed (resolve_states whole states slots next).own
     states-are [] height scope slots next passed same is low proper new put =
         let own : Passed = record { scope = scope; height = height } in
-        let here : scope ≡ passed.scope = ap (λ (p : Passed). p.scope) (ok-same own passed is) in
+        let here : scope ≡ passed.scope = ap (λ (p : Passed). p.scope) (ok-is own passed is) in
         record {
           inits = tt;
-          is = ap (map field_of) (sym here) ∙ same ∙ sym (append-nil slots);
+          is = ap (map own_slot) (sym here) ∙ same ∙ sym (append-nil slots);
           new = tt;
           ports_new = subst (λ (s : Scope). NewPorts s [] ports) here new;
         }
     states-are (state ∷ states) height scope slots next passed same is low proper new put =
         let one = went (state_of around ports state scope) (λ own. walk_all (map (state_of around ports) states) (max height own.height) own.scope) passed is in
-        let seen : StateSeen state scope one.own = state-seen state scope one.own one.is in
-        let high = walk-high (map (state_of around ports) states) (max height one.own.height) one.own.scope passed one.next-is in
+        let seen : StateSeen state scope one.value = state-seen state scope one.value one.first in
+        let high = walk-high (map (state_of around ports) states) (max height one.value.height) one.value.scope passed one.next in
         let both = and_parts (is_plain state.name && is_proper state.value) (list_all (λ (state : StateDecl). is_plain state.name && is_proper state.value) states) proper in
         let own_proper = and_parts (is_plain state.name) (is_proper state.value) both.0 in
         let field : Field = state_field state in
         let more : List Field = with_slot slots state.name.name (by_text whole.words state.ty) in
-        let none : is_among field_name slots field.name ≡ false = ap (λ (l : List Field). is_among field_name l field.name) (sym same) ∙ among-fields scope state.name.name ∙ seen.new in
+        let none : is_among field_name slots field.name ≡ false = ap (λ (l : List Field). is_among field_name l field.name) (sym same) ∙ among-slots scope state.name.name ∙ seen.new in
         let longer : more ≡ slots ++ field ∷ [] = added-new field_name slots field none in
-        let behind : map field_of one.own.scope ≡ more =
-        ap (map field_of) seen.is ∙ map-append field_of scope (seen.bound ∷ [])
-        ∙ ap (λ (f : Field). map field_of scope ++ f ∷ []) seen.as_field ∙ ap (λ (l : List Field). l ++ field ∷ []) same ∙ sym longer in
-        let ports_new : NewPorts one.own.scope [] ports = subst (λ (s : Scope). NewPorts s [] ports) (sym seen.is)
+        let behind : map own_slot one.value.scope ≡ more =
+        ap (map own_slot) seen.is ∙ map-append own_slot scope (seen.bound ∷ [])
+        ∙ ap (λ (f : Field). map own_slot scope ++ f ∷ []) seen.as_field ∙ ap (λ (l : List Field). l ++ field ∷ []) same ∙ sym longer in
+        let ports_new : NewPorts one.value.scope [] ports = subst (λ (s : Scope). NewPorts s [] ports) (sym seen.is)
         (ports-stay ports [] scope seen.bound (ap (λ (f : Field). is_among port_name ports f.name) seen.as_field ∙ seen.unused) new) in
         let rest_step : Step (List ExprId) = piece.binding state.name.name (by_text whole.words state.ty) (resolve_states whole states) in
         let more_step : ExprId → Ty → Step (List ExprId) = λ own ty. piece.◌>>=◌ rest_step (λ others. piece.give (own ∷ others)) in
@@ -192,7 +191,7 @@ module _ (model : Model) where
         let put1 = put-behind nodes blocks (resolve whole state.value) more_step slots next put in
         let put2 = put-first nodes blocks rest_step (λ others. piece.give (expr_id next.node ∷ others)) slots next1 put1 in
         let rest : StatesAre states more passed (resolve_states whole states more next1).own =
-        states-are states (max height one.own.height) one.own.scope more next1 passed behind one.next-is low both.1 ports_new put2 in
+        states-are states (max height one.value.height) one.value.scope more next1 passed behind one.next low both.1 ports_new put2 in
         record {
           inits = (
             record {

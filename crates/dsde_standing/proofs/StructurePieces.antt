@@ -24,7 +24,8 @@ use Rattle.dsde_nodes.specs.Pieces.{Block, Next, Piece, Step, ◌>>=◌, behind,
 use Rattle.dsde_nodes.specs.Statements.{resolve_func, resolve_body, body_scope}
 use Rattle.dsde_meaning.specs.Scopes.{Stands}
 use Rattle.dsde_standing.specs.Structures.{vias_in}
-use Rattle.dsde_standing.proofs.Pieces.{stands-left, stands-right, Put, put-first, put-next}
+use Rattle.dsde_typing.specs.Standing.{stands-left, stands-right}
+use Rattle.dsde_standing.proofs.Pieces.{Put, put-first, put-next}
 use Rattle.dsde_standing.proofs.Counts.{args-count, func-count, body-counts}
 use Rattle.dsde_standing.proofs.ItemCounts.{items-count}
 

@@ -20,15 +20,15 @@ use Rattle.dsde_nodes.specs.Models.{Parts, place_of_items, whole_of, resolve_dec
 use Rattle.dsde_nodes.specs.Pieces.{Block, Next}
 use Rattle.dsde_nodes.specs.Statements.{body_scope, resolve_body}
 use Rattle.dsde_nodes.specs.Typing as nodes
-use Rattle.dsde_program.specs.Right.{IsRight}
+use Rattle.dsde_rules.specs.Right.{IsRight}
 use Rattle.dsde_meaning.specs.Proper.{is_proper_decl, are_plain, is_proper_body}
 use Rattle.dsde_meaning.specs.Scopes.{Stands}
 use Rattle.dsde_proper.specs.Items.{has_proper_items}
 use Rattle.dsde_standing.specs.Bodies.{Own, owns_of}
 use Rattle.dsde_standing.specs.Structures.{structures_of, vias_in, vias_of_structures, vias_of, IsStructure, HasStructure}
-use Rattle.dsde_standing.proofs.Steps.{went}
+use Rattle.dsde_typing.specs.Steps.{went}
 use Rattle.dsde_standing.proofs.Within.{ruled}
-use Rattle.dsde_standing.proofs.Pieces.{stands-left, stands-right, stands-whole}
+use Rattle.dsde_typing.specs.Standing.{stands-left, stands-right, stands-whole}
 use Rattle.dsde_standing.proofs.BodyPieces.{body-put}
 use Rattle.dsde_standing.proofs.OneBody.{StructureJudged}
 use Rattle.dsde_standing.proofs.Owns.{Place, known-at, next-place, structure-judged}
@@ -103,7 +103,7 @@ module _ (model : Model) (right : IsRight model) where
       let plain_rest = (and_parts (has_proper_items own) (list_all has_proper_items rest) plain).1 in
       let texts_here = subst (λ (n : ℕ). Stands (vias_of model) n (vias_of_structures (structures_of rest))) (sym here.from) texts in
       subst (λ (n : ℕ). From model n (owns_of rest) (structures_of rest) (resolve_decls whole rest here.names here.next).own.makes) here.from
-      (stand one.own (next-place model right known one.own own rest place one.is) one.next-is proper_rest plain_rest here.names here.next here.laid texts_here)
+      (stand one.value (next-place model right known one.value own rest place one.first) one.next proper_rest plain_rest here.names here.next here.laid texts_here)
 
   stand-all : (rest : List Decl) → Stand rest
   stand-all [] known place is proper plain scope next laid texts = tt
@@ -136,8 +136,8 @@ module _ (model : Model) (right : IsRight model) where
       let both = and_parts (is_proper_decl own) (list_all is_proper_decl rest) proper in
       let parts = and_parts (are_plain params) (is_proper_body body) both.0 in
       let one = went (decl_rule known own) (λ more. decls_rule more rest) tt is in
-      let test = went (network_rule (around_with known (body_names params body)) name params ports exec_at body items) (λ _. Ok known) one.own one.is in
-      let judged : StructureJudged model known text items = structure-judged model right known (known-at model right known (own ∷ rest) place) name params body at ports exec_at items test.own test.is parts.0 parts.1 in
+      let test = went (network_rule (around_with known (body_names params body)) name params ports exec_at body items) (λ _. Ok known) one.value one.first in
+      let judged : StructureJudged model known text items = structure-judged model right known (known-at model right known (own ∷ rest) place) name params body at ports exec_at items test.value test.first parts.0 parts.1 in
       let code : Code = (resolve_body whole params exec_at body scope next).own in
       let put = body-put node_table block_table whole params exec_at body scope next here.own in
       let first = stands-left (vias_of model) next.via (flat_map vias_in items) (vias_of_structures (structures_of rest)) texts in

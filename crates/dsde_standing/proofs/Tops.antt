@@ -29,12 +29,13 @@ use Rattle.dsde_nodes.specs.Items.{model_id, resolve_all}
 use Rattle.dsde_nodes.specs.Models.{Parts, whole_of, resolve_decls, resolved}
 use Rattle.dsde_nodes.specs.Pieces.{Block, Next}
 use Rattle.dsde_nodes.specs.Typing.{Scope}
-use Rattle.dsde_program.specs.Right.{IsRight}
+use Rattle.dsde_rules.specs.Right.{IsRight}
 use Rattle.dsde_meaning.specs.Proper.{is_proper, is_proper_decl}
 use Rattle.dsde_standing.specs.Places.{KnownAt}
 use Rattle.dsde_standing.specs.Bodies.{Own, owns_of, ArgsStand, TopOf, top_in, TopStands, param_slots}
-use Rattle.dsde_standing.proofs.Found.{Placed, placed, position-at, Passes}
-use Rattle.dsde_standing.proofs.Steps.{holds-not, went, among-none}
+use Rattle.dsde_typing.specs.Places.{Placed, placed, position-at, Passes}
+use Rattle.dsde_typing.specs.Steps.{unless-is, went}
+use Rattle.dsde_standing.proofs.Steps.{among-none}
 use Rattle.dsde_standing.proofs.Funcs.{words-stay, models-stay}
 use Rattle.dsde_standing.proofs.Within.{known-models, RuledModel, ruled}
 use Rattle.dsde_standing.proofs.Pieces.{Put}
@@ -90,7 +91,7 @@ module _ (model : Model) (right : IsRight model) where
       let one = went (decl_rule known own) (λ more. decls_rule more rest) tt is in
       let names : here.own.names ≡ [] = here.own.names_are in
       let put : Put node_table block_table here.own.next (resolve_decls whole rest [] here.own.next) = subst (λ (s : Scope). Put node_table block_table here.own.next (resolve_decls whole rest s here.own.next)) names here.own.put in
-      let top : TopAt rest (resolve_decls whole rest [] here.own.next).own = has one.own (next-place model right known one.own own rest place one.is) one.next-is proper some here.own.next put in
+      let top : TopAt rest (resolve_decls whole rest [] here.own.next).own = has one.value (next-place model right known one.value own rest place one.first) one.next proper some here.own.next put in
       let same_parts : (resolve_decls whole rest here.own.names here.own.next).own ≡ (resolve_decls whole rest [] here.own.next).own = ap (λ (s : Scope). (resolve_decls whole rest s here.own.next).own) names in
       record {
         at = top.at;
@@ -128,11 +129,11 @@ module _ (model : Model) (right : IsRight model) where
   has-top (decl.Enum name variants ∷ rest) known place is proper some next put =
       let own : Decl = decl.Enum name variants in
       let one = went (decl_rule known own) (λ more. decls_rule more rest) tt is in
-      type-behind own rest _ (has-top rest one.own (next-place model right known one.own own rest place one.is) one.next-is (and_parts (is_proper_decl own) (list_all is_proper_decl rest) proper).1 some next put) refl
+      type-behind own rest _ (has-top rest one.value (next-place model right known one.value own rest place one.first) one.next (and_parts (is_proper_decl own) (list_all is_proper_decl rest) proper).1 some next put) refl
   has-top (decl.Rec name fields ∷ rest) known place is proper some next put =
       let own : Decl = decl.Rec name fields in
       let one = went (decl_rule known own) (λ more. decls_rule more rest) tt is in
-      type-behind own rest _ (has-top rest one.own (next-place model right known one.own own rest place one.is) one.next-is (and_parts (is_proper_decl own) (list_all is_proper_decl rest) proper).1 some next put) refl
+      type-behind own rest _ (has-top rest one.value (next-place model right known one.value own rest place one.first) one.next (and_parts (is_proper_decl own) (list_all is_proper_decl rest) proper).1 some next put) refl
   has-top (decl.Func name params result stmts value ∷ rest) known place is proper some next put =
       let own : Decl = decl.Func name params result stmts value in
       behind-one own rest refl (has-top rest) known place is (and_parts (is_proper_decl own) (list_all is_proper_decl rest) proper).1 some [] _
@@ -148,7 +149,7 @@ module _ (model : Model) (right : IsRight model) where
   has-top (decl.Top at name args ∷ rest) known place is proper some next put =
       let own : Decl = decl.Top at name args in
       let one = went (decl_rule known own) (λ more. decls_rule more rest) tt is in
-      let test = went (top_rule (around_with known []) at name args) (λ _. Ok known) one.own one.is in
+      let test = went (top_rule (around_with known []) at name args) (λ _. Ok known) one.value one.first in
       let here = top-put node_table block_table whole (resolve_decls whole rest) at name args [] next put in
       record {
         at = at;
@@ -157,7 +158,7 @@ module _ (model : Model) (right : IsRight model) where
         found = refl;
         known = known;
         known_here = known-at model right known (own ∷ rest) place;
-        judged = test.is;
+        judged = test.first;
         proper = (and_parts (is_proper_decl own) (list_all is_proper_decl rest) proper).0;
         next = next;
         put = here.own;
@@ -181,12 +182,12 @@ module _ (model : Model) (right : IsRight model) where
   called-at known name args height (Some sig) is right =
       let parts = map (judge (around_with known [])) args in
       let one = went (unless (not (length parts == length sig.params)) WrongType name.at) (λ _. fit parts sig.params 0 []) height right in
-      let same : length parts ≡ length sig.params = same-number _ _ (holds-not _ _ _ one.own one.is) in
+      let same : length parts ≡ length sig.params = same-number _ _ (unless-is _ _ _ one.value one.first) in
       record {
         sig = sig;
         found = is;
         long = sym (length-map (judge (around_with known [])) args) ∙ same;
-        fits = one.next-is;
+        fits = one.next;
       }
 
   -- the text of the model with a number
@@ -203,8 +204,8 @@ module _ (model : Model) (right : IsRight model) where
   top-from top =
       let words : List TypeWord = type_words model.decls in
       let one = went (args_of (around_with top.known []) top.name top.args []) (λ height. within top.at height) tt top.judged in
-      let low = within-low top.at one.own tt one.next-is in
-      let called : Called top.known top.name top.args one.own = called-at top.known top.name top.args one.own (model_named top.known top.name.name) refl one.is in
+      let low = within-low top.at one.value tt one.next in
+      let called : Called top.known top.name top.args one.value = called-at top.known top.name top.args one.value (model_named top.known top.name.name) refl one.first in
       let here : Placed model_name top.known.models top.name.name called.sig = placed model_name top.known.models top.name.name called.sig called.found in
       let texts : (known_of model.decls).models ≡ map (model_sig words) (owns_of model.decls) = models-are words model.decls [] [] (among-none model_name []) (ruled model right).file.apart in
       let all : top.known.models ≡ map (model_sig words) (owns_of model.decls) = known-models model top.known right top.known_here ∙ texts in
@@ -226,8 +227,8 @@ module _ (model : Model) (right : IsRight model) where
         at = ap (λ (n : ℕ). slice_get (owns_of model.decls) n) number ∙ text.at;
         named = ap (λ (s : ModelSig). s.name) text.is ∙ named;
         args = subst (λ (l : List ExprId). ArgsStand model (param_slots model text.own) top.args l) (sym top.top_args)
-            (args-stand model top.known top.known_here top.args text.own.params 0 one.own
-            (subst (λ l. fit (map (judge (around_with top.known [])) top.args) l 0 [] ≡ Ok one.own) params called.fits)
+            (args-stand model top.known top.known_here top.args text.own.params 0 one.value
+            (subst (λ l. fit (map (judge (around_with top.known [])) top.args) l 0 [] ≡ Ok one.value) params called.fits)
             (called.long ∙ ap length params ∙ length-map _ text.own.params) low top.proper top.next top.put);
       }
     where
@@ -237,5 +238,5 @@ module _ (model : Model) (right : IsRight model) where
   pub tops-stand : list_all is_proper_decl model.decls ≡ true → TopStands model
   tops-stand proper =
       let judged : RuledModel model = ruled model right in
-      let some : list_any is_top model.decls ≡ true = not-false (list_any is_top model.decls) (holds-not _ _ _ tt judged.has_top) in
+      let some : list_any is_top model.decls ≡ true = not-false (list_any is_top model.decls) (unless-is _ _ _ tt judged.has_top) in
       top-from (has-top model.decls (known_of model.decls) (first-place model right) judged.file.judged proper some (record { node = 0; block = 0; via = 0 }) (first-put model right))

@@ -24,13 +24,15 @@ use Rattle.dsde_rules.specs.Blocks.{body_names, func_of}
 use Rattle.dsde_rules.specs.Rules.{own_name, apart_all, distinct, record_rule, atomic_rule, network_rule, top_rule, around_with, behind_type, behind_func, decl_rule, decls_rule, top_rules, rules}
 use Rattle.dsde_nodes.specs.Models.{with_funcs, whole_of, types_of, defs_from}
 use Rattle.dsde_nodes.specs.Typing.{func_type}
-use Rattle.dsde_program.specs.Right.{IsRight}
+use Rattle.dsde_rules.specs.Right.{IsRight}
 use Rattle.dsde_meaning.specs.Scopes.{Within, IsDeclared, AreVariants}
 use Rattle.dsde_standing.specs.Places.{KnownAt, known_behind}
-use Rattle.dsde_standing.proofs.Found.{position-longer, position-at, Passes, position-map, Placed, placed, named-at, get-left}
-use Rattle.dsde_standing.proofs.Steps.{ok-same, went, is_name, apart-parts, name-new, Among, among-none, among-more, among-new}
+use Rattle.dsde_typing.specs.Places.{position-longer, position-at, Passes, position-map, Placed, placed, named-at, get-left}
+use Rattle.dsde_typing.specs.Steps.{ok-is, went}
+use Rattle.dsde_standing.proofs.Steps.{is_name, apart-parts, name-new, Among, among-none, among-more, among-new}
 use Rattle.dsde_standing.proofs.Types.{type_names, shapes_in, names-append, shapes-are, words-longer, type_by, numbered-is, shapes-stay, file_tokens, variants-few}
-use Rattle.dsde_standing.proofs.Funcs.{Sig, sig, sigs_in, sigs-append, words-stay, types-stay, one-func, funcs-are, Judged, func-judged, typed-is}
+use Rattle.dsde_standing.proofs.Funcs.{Sig, sig, sigs_in, sigs-append, words-stay, types-stay, one-func, funcs-are, Judged, func-judged}
+use Rattle.dsde_typing.specs.Written.{written}
 
 -- the rules of a model in which nothing is wrong
 pub record Ruled (decls : List Decl) : Type 0 where
@@ -45,8 +47,8 @@ ruled-from : (model : Model) (found : Test) → rules model ≡ found → (elim 
 ruled-from model (Err first) is sound = absurd (cc)
 ruled-from model (Ok done) is sound =
     let one = went (apart_all [] model.decls) (λ _. decls_rule (known_of model.decls) model.decls >>= (λ _. top_rules model)) tt is in
-    let two = went (decls_rule (known_of model.decls) model.decls) (λ _. top_rules model) tt one.next-is in
-    record { file = record { apart = one.is; judged = two.is }; has_top = two.next-is }
+    let two = went (decls_rule (known_of model.decls) model.decls) (λ _. top_rules model) tt one.next in
+    record { file = record { apart = one.first; judged = two.first }; has_top = two.next }
 
 pub ruled : (model : Model) → IsRight model → RuledModel model
 ruled model right = ruled-from model (rules model) refl right.sound
@@ -153,7 +155,7 @@ module _ (decls : List Decl) (apart : apart_all [] decls ≡ Ok tt) where
   same-known : (names : List (List ℕ)) (known more : Known) (done : List Decl) (own : Decl) (test : Test) → (test >>= (λ _. Ok known)) ≡ Ok more → NextBehind names known done own → NextBehind names more done own
   same-known names known more done own test is next =
       let parts = went test (λ _. Ok known) more is in
-      subst (λ (k : Known). NextBehind names k done own) (ok-same known more parts.next-is) next
+      subst (λ (k : Known). NextBehind names k done own) (ok-is known more parts.next) next
 
   behind-next : (names : List (List ℕ)) (known more : Known) (done rest : List Decl) (own : Decl) → decls ≡ done ++ rest → BehindNames names known done → is_name names (own_name own).name ≡ false
       → decl_rule known own ≡ Ok more → NextBehind names more done own
@@ -164,13 +166,13 @@ module _ (decls : List Decl) (apart : apart_all [] decls ≡ Ok tt) where
   behind-next names known more done rest (decl.Func name params result stmts value) split behind new is =
       let own : Decl = decl.Func name params result stmts value in
       let parts = went (func_of known name params result stmts value) (λ func. Ok (behind_func known func)) more is in
-      let func : Func = parts.own in
-      let judged : Judged known name result func = func-judged known name params result stmts value func parts.is in
+      let func : Func = parts.value in
+      let judged : Judged known name result func = func-judged known name params result stmts value func parts.first in
       let typed : by_text words result ≡ func.result =
-      ap (λ (l : List TypeWord). by_text l result) (sym words-are) ∙ typed-is known whole (declared-here known done rest split behind.own) result judged.seen judged.typed ∙ sym judged.is in
+      ap (λ (l : List TypeWord). by_text l result) (sym words-are) ∙ written known whole (declared-here known done rest split behind.own) result judged.seen judged.typed ∙ sym judged.is in
       let one : sigs_in words (own ∷ []) ≡ sig func ∷ [] =
       (λ i. (let own : Sig = record { name = sym judged.named i; result = typed i } in own) ∷ []) in
-      subst (λ (k : Known). NextBehind names k done own) (ok-same (behind_func known func) more parts.next-is) (func-new names known done own func behind new refl judged.named one)
+      subst (λ (k : Known). NextBehind names k done own) (ok-is (behind_func known func) more parts.next) (func-new names known done own func behind new refl judged.named one)
   behind-next names known more done rest (decl.Atomic at name params body) split behind new is =
       same-known names known more done (decl.Atomic at name params body) (atomic_rule (around_with known (body_names params body)) at name params body) is (behind-same names known done (decl.Atomic at name params body) behind refl refl)
   behind-next names known more done rest (decl.Network at name params ports exec_at body items) split behind new is =
@@ -181,13 +183,13 @@ module _ (decls : List Decl) (apart : apart_all [] decls ≡ Ok tt) where
   behind-all : (before rest done : List Decl) (known last : Known) (names : List (List ℕ)) → decls ≡ done ++ (before ++ rest) → BehindNames names known done → apart_all names (before ++ rest) ≡ Ok tt
       → known_behind known before ≡ Ok last → Behind last (done ++ before)
   behind-all [] rest done known last names split behind differ is =
-      subst (λ (l : List Decl). Behind last l) (sym (append-nil done)) (subst (λ (k : Known). Behind k done) (ok-same known last is) behind.own)
+      subst (λ (l : List Decl). Behind last l) (sym (append-nil done)) (subst (λ (k : Known). Behind k done) (ok-is known last is) behind.own)
   behind-all (own ∷ before) rest done known last names split behind differ is =
       let parts = went (decl_rule known own) (λ more. known_behind more before) last is in
       let differs = apart-parts names own (before ++ rest) differ in
-      let next = behind-next names known parts.own done (own ∷ (before ++ rest)) own split behind differs.new parts.is in
+      let next = behind-next names known parts.value done (own ∷ (before ++ rest)) own split behind differs.new parts.first in
       subst (λ (l : List Decl). Behind last l) (append_assoc done (own ∷ []) before)
-      (behind-all before rest (done ++ own ∷ []) parts.own last (names ++ (own_name own).name ∷ []) (split ∙ sym (append_assoc done (own ∷ []) (before ++ rest))) next differs.rest parts.next-is)
+      (behind-all before rest (done ++ own ∷ []) parts.value last (names ++ (own_name own).name ∷ []) (split ∙ sym (append_assoc done (own ∷ []) (before ++ rest))) next differs.rest parts.next)
 
   first-names : BehindNames [] base []
   first-names = record {

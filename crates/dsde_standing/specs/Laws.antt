@@ -3,7 +3,7 @@ use Rattle.std.specs.Prelude.{ℕ, ◌<◌, length}
 use Rattle.dsde_syntax.specs.declared.decl.Model.{Model}
 use Rattle.dsde_rules.specs.declared.known.Known.{Known}
 use Rattle.dsde_nodes.specs.Models.{whole_of, infos_of, types_of}
-use Rattle.dsde_program.specs.Right.{IsRight}
+use Rattle.dsde_rules.specs.Right.{IsRight}
 use Rattle.dsde_meaning.specs.Scopes.{Within}
 use Rattle.dsde_standing.specs.Places.{KnownAt}
 use Rattle.dsde_standing.specs.Bodies.{Own, IsOwn, TopStands}

@@ -1,4 +1,5 @@
 pub mod Places
 pub mod Bodies
 pub mod Structures
+pub mod Conditions
 pub mod Laws

@@ -24,7 +24,7 @@ use Rattle.dsde_nodes.specs.Models.{whole_of, infos_of, place_of_items, resolved
 use Rattle.dsde_nodes.specs.Pieces.{Next, Piece}
 use Rattle.dsde_nodes.specs.Statements.{port_fields}
 use Rattle.dsde_nodes.specs.Typing.{with_slots}
-use Rattle.dsde_program.specs.Right.{IsRight}
+use Rattle.dsde_rules.specs.Right.{IsRight}
 use Rattle.dsde_meaning.specs.Scopes.{Stands, Sees}
 use Rattle.dsde_proper.specs.Items.{is_proper_item}
 use Rattle.dsde_standing.specs.Places.{KnownAt}

@@ -1,4 +1,4 @@
 pub mod Asks
-pub mod Fits
+pub mod Made
 pub mod Going
 pub mod Sending

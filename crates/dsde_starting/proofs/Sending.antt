@@ -13,7 +13,7 @@ use Rattle.dsde_faults.specs.declared.end.LeafEnd.{LeafEnd}
 use Rattle.dsde_nodes.specs.declared.ids.ModelId.{ModelId}
 use Rattle.dsde_nodes.specs.Models.{whole_of, types_of}
 use Rattle.dsde_nodes.specs.Statements.{port_fields}
-use Rattle.dsde_program.specs.Right.{IsRight}
+use Rattle.dsde_rules.specs.Right.{IsRight}
 use Rattle.dsde_formalism.specs.declared.leaf.Leaf.{Leaf}
 use Rattle.dsde_formalism.specs.System.{Ports}
 use Rattle.dsde_events.specs.declared.fault.TurnEnd.{TurnEnd}
@@ -35,7 +35,7 @@ use Rattle.dsde_tree.specs.Output.{by_port}
 use Rattle.dsde_tree.specs.Opened.{shape_in}
 use Rattle.dsde_starting.specs.Fitting.{FitsAtomic, FitsBodySent, FitsNet, FitsSent, FitsShape}
 use Rattle.dsde_starting.specs.Asking.{AreSources}
-use Rattle.dsde_starting.proofs.Fits.{net-shape}
+use Rattle.dsde_starting.specs.Fits.{net-shape}
 
 some-is : {A : Type 0} (o : Option A) (a b : A) → o ≡ Some a → o ≡ Some b → a ≡ b
 some-is o a b e h = cc

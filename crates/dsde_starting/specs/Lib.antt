@@ -1,3 +1,5 @@
 pub mod Fitting
+pub mod Fits
+pub mod Stood
 pub mod Asking
 pub mod Starting

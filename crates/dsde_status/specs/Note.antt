@@ -51,7 +51,6 @@ refusal_text refusal.BadNumber = codes "BadNumber"
 refusal_text refusal.Syntax = codes "Syntax"
 refusal_text refusal.Nested = codes "Nested"
 refusal_text (refusal.Check kind) = wrong_text kind
-refusal_text refusal.NotBuilt = codes "NotBuilt"
 
 -- what is read or written
 abbrev pub what_text : What → List ℕ

@@ -149,7 +149,6 @@ fn refusal_text(kind: Refusal) -> &'static str
         Refusal::Syntax => "Syntax",
         Refusal::Nested => "Nested",
         Refusal::Check(kind) => wrong_text(kind),
-        Refusal::NotBuilt => "NotBuilt",
     }
 }
 

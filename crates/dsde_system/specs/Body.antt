@@ -21,7 +21,7 @@ use Rattle.dsde_meaning.specs.Meaning.{Vars, Scene, scene, with_var}
 use Rattle.dsde_meaning.specs.Flow.{lifted}
 use Rattle.dsde_meaning.specs.Typed.{values_in}
 use Rattle.dsde_standing.specs.Bodies.{Own, body_ins, body_outs, param_slots, state_slots}
-use Rattle.dsde_eval.specs.Conditions.{mean_of, block_of}
+use Rattle.dsde_standing.specs.Conditions.{mean_of, block_of}
 use Rattle.dsde_formalism.specs.System.{State, Ports}
 use Rattle.dsde_formalism.specs.Leaf as formalism
 

@@ -25,7 +25,7 @@ use Rattle.dsde_structure.specs.Survival.{IsInOrder}
 use Rattle.dsde_meaning.specs.Typed.{Typed}
 use Rattle.dsde_standing.specs.Bodies.{Own, owns_of}
 use Rattle.dsde_standing.specs.Structures.{vias_of}
-use Rattle.dsde_eval.specs.Conditions.{IsVia}
+use Rattle.dsde_standing.specs.Conditions.{IsVia}
 use Rattle.dsde_system.specs.Fitting.{AreOf, FitsArgs}
 
 -- the out ports or the in ports of a model, as those see them that link to it, and those of its body

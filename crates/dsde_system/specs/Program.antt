@@ -20,7 +20,7 @@ use Rattle.dsde_plans.specs.Layout as layout
 use Rattle.dsde_standing.specs.Bodies.{Own, TopOf, owns_of, top_in, body_ins, body_outs}
 use Rattle.dsde_standing.specs.Structures.{structures_of, vias_of, first_via}
 use Rattle.dsde_formalism.specs.System.{State, Component, Network, System, Chosen}
-use Rattle.dsde_eval.specs.Conditions.{mean_of}
+use Rattle.dsde_standing.specs.Conditions.{mean_of}
 use Rattle.dsde_system.specs.Body.{at_site, inits_from, vars_of, body_vars, due, sends, internal, external, confluent}
 use Rattle.dsde_standing.specs.Bodies as bodies
 

@@ -2,6 +2,6 @@
 //! formalism; no code.
 #![tactic(auto)]
 
-mod tree;
+mod step;
 
-pub use tree::{Sim, Step};
+pub use step::{MOST_PARTS, Step};

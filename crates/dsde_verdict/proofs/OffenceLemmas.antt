@@ -117,28 +117,23 @@ no_offence one toks model refusal.Nested at sound offence = not_nested toks mode
 no_offence one toks model (refusal.Check kind) at sound offence = not_wrong one toks model kind at sound offence
 no_offence one toks model refusal.BadByte at sound offence = absurd offence
 no_offence one toks model refusal.BadNumber at sound offence = absurd offence
-no_offence one toks model refusal.NotBuilt at sound offence = absurd offence
 
 -- Tokens have one offence, at one place.
 pub one_offence : OneModel → (toks : Tokens) (this that : Refusal) (here there : ℕ) → Offends this toks here → Offends that toks there → (this ≡ that) × (here ≡ there)
 one_offence one toks refusal.BadByte that here there first other = absurd first
 one_offence one toks refusal.BadNumber that here there first other = absurd first
-one_offence one toks refusal.NotBuilt that here there first other = absurd first
 one_offence one toks refusal.Syntax refusal.Syntax here there first other = (refl, one_wrong toks here there first.0 other.0)
 one_offence one toks refusal.Syntax refusal.Nested here there first other = absurd (not_both toks here there first other)
 one_offence one toks refusal.Syntax (refusal.Check kind) here there first other = absurd (not_syntax toks other.model here other.gives first)
 one_offence one toks refusal.Syntax refusal.BadByte here there first other = absurd other
 one_offence one toks refusal.Syntax refusal.BadNumber here there first other = absurd other
-one_offence one toks refusal.Syntax refusal.NotBuilt here there first other = absurd other
 one_offence one toks refusal.Nested refusal.Syntax here there first other = absurd (not_both toks there here other first)
 one_offence one toks refusal.Nested refusal.Nested here there first other = (refl, one_deep toks here there first.0 other.0)
 one_offence one toks refusal.Nested (refusal.Check kind) here there first other = absurd (not_nested toks other.model here other.gives first)
 one_offence one toks refusal.Nested refusal.BadByte here there first other = absurd other
 one_offence one toks refusal.Nested refusal.BadNumber here there first other = absurd other
-one_offence one toks refusal.Nested refusal.NotBuilt here there first other = absurd other
 one_offence one toks (refusal.Check kind) refusal.Syntax here there first other = absurd (not_syntax toks first.model there first.gives other)
 one_offence one toks (refusal.Check kind) refusal.Nested here there first other = absurd (not_nested toks first.model there first.gives other)
 one_offence one toks (refusal.Check kind) (refusal.Check other_kind) here there first other = let same = one_first one toks kind other_kind here there first other in (ap refusal.Check same.0, same.1)
 one_offence one toks (refusal.Check kind) refusal.BadByte here there first other = absurd other
 one_offence one toks (refusal.Check kind) refusal.BadNumber here there first other = absurd other
-one_offence one toks (refusal.Check kind) refusal.NotBuilt here there first other = absurd other

@@ -118,7 +118,6 @@ cause bytes refusal.BadNumber line column is = number refl is
 cause bytes refusal.Syntax line column is = token is
 cause bytes refusal.Nested line column is = token is
 cause bytes (refusal.Check kind) line column is = token is
-cause bytes refusal.NotBuilt line column is = token is
 
 -- two verdicts of which each refuses the text
 same_refusal : (this that : Refusal) (line other_line column other_column : ℕ) → this ≡ that → line ≡ other_line → column ≡ other_column →

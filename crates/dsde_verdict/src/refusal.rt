@@ -16,8 +16,6 @@ pub enum Refusal {
     Nested,
     /// The first thing that is wrong in the model.
     Check(WrongKind),
-    /// The model is accepted, and none of those that are run today.
-    NotBuilt,
 }
 
 /// Why a text gives no model.

@@ -1,5 +1,5 @@
 use Rattle.dsde_cli.specs.Answer.{Answers, answer_of}
-use Rattle.dsde_cli.proofs.Loads.{answers-cut, check_cut, check_tells, check_unrefused, told_same}
+use Rattle.dsde_cli.proofs.Loads.{answers-cut, check_cut, check_unrefused, refusal_tells, told_same}
 use Rattle.dsde_cli.proofs.check.load_and_check.Goals as goal
 
 pub returns-in-Err-clause-checks : goal.returns-in-Err-clause-checks
@@ -15,4 +15,4 @@ returns-in-Ok-clause-refused g c = λ kind line column has.
 
 pub returns-in-Err-clause-refused : goal.returns-in-Err-clause-refused
 returns-in-Err-clause-refused g c = λ kind line column has.
-    check_tells c.one_verdict.ensures c.args.name.now (g.F.Shelf.held c.args.shelf.now) _ c.in-Err.status kind line column c.in-Err.ensures.none has
+    refusal_tells c.one_verdict.ensures c.args.name.now (g.F.Shelf.held c.args.shelf.now) _ c.in-Err.status kind line column c.in-Err.ensures.none has

@@ -3,7 +3,7 @@ use Rattle.std.specs.Prelude.{IfSome}
 use Rattle.dsde_run.specs.Reading.{Told, TakesWanted}
 use Rattle.dsde_run.specs.Run.{run, records_in}
 use Rattle.dsde_cli.specs.Outcome.{Comes, SaysEnd}
-use Rattle.dsde_cli.proofs.Loads.{comes-cut, run_cut, run_tells, run_unrefused, told_same}
+use Rattle.dsde_cli.proofs.Loads.{comes-cut, refusal_tells, run_cut, run_unrefused, told_same}
 use Rattle.dsde_cli.proofs.run.load_and_run.Goals as goal
 
 pub returns-in-Ok-clause-runs : goal.returns-in-Ok-clause-runs
@@ -33,7 +33,7 @@ returns-in-Ok-clause-refused g c = λ kind line column has.
 
 pub returns-in-Err-clause-refused : goal.returns-in-Err-clause-refused
 returns-in-Err-clause-refused g c = λ kind line column has.
-    run_tells c.one_verdict.ensures c.args.name.now (g.F.Shelf.held c.args.shelf.now) _ c.in-Err.status kind line column c.in-Err.ensures.none has
+    refusal_tells c.one_verdict.ensures c.args.name.now (g.F.Shelf.held c.args.shelf.now) _ c.in-Err.status kind line column c.in-Err.ensures.none has
 
 pub returns-in-Ok-clause-ends : goal.returns-in-Ok-clause-ends
 returns-in-Ok-clause-ends g c = λ own holds.

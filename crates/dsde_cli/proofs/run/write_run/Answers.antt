@@ -1,9 +1,10 @@
-use Rattle.std.proofs.Common.{[], subst}
+use Rattle.std.proofs.Common.{[], Ok, Err, ap, subst, sym, ◌∙◌}
 use Rattle.std.specs.Prelude.{IfSome}
-use Rattle.dsde_io.specs.Bytes.{GainsFront}
+use Rattle.dsde_io.specs.Bytes.{Gains, GainsFront}
 use Rattle.dsde_run.specs.Reading.{IsFront}
 use Rattle.dsde_run.specs.Run.{run, records_in, trace_text}
-use Rattle.dsde_cli.proofs.Outcomes.{comes-part, front-tells}
+use Rattle.dsde_cli.specs.Outcome.{Comes}
+use Rattle.dsde_cli.proofs.Outcomes.{comes-part, comes-told, comes-unread, front-tells}
 use Rattle.dsde_cli.proofs.run.write_run.Goals as goal
 use Rattle.dsde_cli.proofs.run.write_run.Goals.{in-Ok, in-Err-ReadFault}
 
@@ -34,3 +35,23 @@ returns-clause-comes g c =
     ] in
     comes-part own (λ records. run own records c.args.turns) c.run_model.new.text left (g.W.Sink.written c.args.out.now) (g.W.Sink.written c.write_all.new.sink)
     front (subst (GainsFront (g.W.Sink.written c.args.out.now) (g.W.Sink.written c.write_all.new.sink)) c.as_slice.ensures c.in-Err-Memory-write_all.ensures.front)
+
+pub returns-in-Ok-write_all-clause-comes : goal.returns-in-Ok-write_all-clause-comes
+returns-in-Ok-write_all-clause-comes g c =
+    let gained = subst (Gains (g.W.Sink.written c.args.out.now) (g.W.Sink.written c.write_all.new.sink)) c.as_slice.ensures c.in-Ok-write_all.ensures.gained in
+    elim c.match-run_model.branch [
+      | in-Ok w ↦
+          subst (λ status. IfSome (g.R.Source.left c.args.input.now) (λ bytes. IfSome (g.W.Sink.written c.args.out.now) (λ written.
+          Comes c.args.own.now (λ records. run c.args.own.now records c.args.turns) bytes (g.R.Source.left c.run_model.new.source) written (g.W.Sink.written c.write_all.new.sink) status)))
+          (sym (w.status-is ∙ w.status_of-status.ensures))
+          (comes-told c.args.own.now (λ records. run c.args.own.now records c.args.turns) (g.R.Source.left c.args.input.now) (g.R.Source.left c.run_model.new.source)
+          (g.W.Sink.written c.args.out.now) (g.W.Sink.written c.write_all.new.sink) c.new-text.result c.run_model.new.text w.in-Ok.end c.new-text.ensures w.in-Ok.ensures.tells gained
+          (λ is. c.run_model.ensures.quiet (w.in-Ok.is ∙ ap Ok is)))
+      | in-Err-ReadFault w ↦
+          subst (λ status. IfSome (g.R.Source.left c.args.input.now) (λ bytes. IfSome (g.W.Sink.written c.args.out.now) (λ written.
+          Comes c.args.own.now (λ records. run c.args.own.now records c.args.turns) bytes (g.R.Source.left c.run_model.new.source) written (g.W.Sink.written c.write_all.new.sink) status)))
+          (sym w.status-is)
+          (comes-unread c.args.own.now (λ records. run c.args.own.now records c.args.turns) (g.R.Source.left c.args.input.now) (g.R.Source.left c.run_model.new.source)
+          (g.W.Sink.written c.args.out.now) (g.W.Sink.written c.write_all.new.sink) c.new-text.result c.run_model.new.text c.new-text.ensures
+          (c.run_model.ensures.cut (w.in-Err-ReadFault.is ∙ ap Err w.in-Err-ReadFault.field-0-is)) w.in-Err-ReadFault.ensures.front gained)
+    ]

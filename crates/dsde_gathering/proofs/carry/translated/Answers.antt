@@ -1,6 +1,6 @@
 use Rattle.std.proofs.Common.{◌≡◌, Option, sym, subst}
 use Rattle.dsde_values.specs.declared.value.Value.{Value}
-use Rattle.dsde_eval.specs.Conditions.{CanTranslate, Translated}
+use Rattle.dsde_standing.specs.Conditions.{CanTranslate, Translated}
 use Rattle.dsde_system.specs.Program.{system}
 use Rattle.dsde_gathering.proofs.Adding.{if-ok}
 use Rattle.dsde_gathering.proofs.carry.translated.Goals as goal

@@ -15,11 +15,11 @@ use Rattle.dsde_tree.specs.Move.{move_leaf_at, boss_moves, after_kids, with_sour
 use Rattle.dsde_system.specs.Program.{system}
 use Rattle.dsde_starting.specs.Fitting.{FitsGot, FitsTree}
 use Rattle.dsde_moving.specs.Moving.{kid_with, kids_with}
-use Rattle.dsde_moving.proofs.Fits.{leaf-tree, net-tree, tree-leaf, tree-net}
+use Rattle.dsde_starting.specs.Fits.{leaf-tree, net-tree, tree-leaf, tree-net}
 use Rattle.dsde_moving.proofs.Made.{kid-made}
-use Rattle.dsde_moving.proofs.Opens.{as_leaf, as_net}
+use Rattle.dsde_tree.specs.Opened.{as_leaf, as_net}
 use Rattle.dsde_moving.proofs.Goes.{leaf-goes, net-goes, sources-go, kids-go, kid-goes, kids_behind}
-use Rattle.dsde_moving.proofs.Stood.{model-leaf, model-net}
+use Rattle.dsde_starting.specs.Stood.{model-leaf, model-net}
 use Rattle.dsde_moving.proofs.Turns.{ended, entries-ended, few-here, fewer-here, got-here, inside-here}
 use Rattle.dsde_moving.proofs.walk.+moving.Goals as goal
 

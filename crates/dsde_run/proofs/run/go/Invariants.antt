@@ -1,5 +1,5 @@
 use Rattle.std.proofs.Common.{◌≡◌, ◌≤◌, ◌+◌, ◌-◌, ◌<◌, ◌^◌, true, false, []}
-use Rattle.std.specs.Prelude.{IfSome}
+use Rattle.std.specs.Prelude.{is_some, IfSome}
 use Rattle.dsde_run.specs.Heads.{Comes, IsReady, behind_head}
 use Rattle.dsde_run.specs.Reading.{Told}
 use Rattle.dsde_run.specs.Run.{go}
@@ -19,7 +19,7 @@ invariant-loop-turn g l = record {
   types : l.heads.types ≡ l.initial.heads.types;
   model : l.plain.program ≡ l.own.model;
   root : IsRoot l.own l.plain.engine;
-  fresh : l.plain.engine.spent ≡ false;
+  fresh : is_some l.plain.engine.tree ≡ true;
   bounded : l.plain.engine.turn + (l.turns - l._turn) < 2 ^ 63;
   counted : g.R.Source.faults l.initial.source ≤ g.R.Source.faults l.source;
   idle : l._turn ≡ 0 → l.source ≡ l.initial.source;

@@ -3,7 +3,7 @@ use Rattle.dsde_syntax.specs.declared.decl.Model.{Model}
 use Rattle.dsde_system.specs.Program.{system}
 use Rattle.dsde_events.specs.Told as step
 use Rattle.dsde_turns.specs.Turn as turning
-use Rattle.std.proofs.Common.{◌≡◌, ◌++◌, ap, subst, sym, ◌∙◌}
+use Rattle.std.proofs.Common.{◌≡◌, ◌++◌, ap, subst, sym, ◌∙◌, arith}
 use Rattle.std.specs.Prelude.{IfSome}
 use Rattle.std.proofs.lemmas.Result.{IfOk-weaker}
 use Rattle.dsde_events.specs.declared.event.Finish.TheVariants as how
@@ -20,59 +20,67 @@ use Rattle.dsde_run.proofs.Fronts.{OnErr-always, IsFront-all, IsFront-behind, Is
 use Rattle.dsde_run.proofs.Quiet.{fault-not_quiet}
 use Rattle.dsde_run.proofs.RunLemmas.{Tells-behind, Tells-faulted, run-faulted}
 use Rattle.dsde_run.proofs.Standing.{Told-weaker}
-use Rattle.dsde_run.proofs.Starting.{GoesOn-start, IsCutShort-behind, TakesWanted-behind, IfSome-told, IfSome-always}
+use Rattle.dsde_run.proofs.Starting.{is_begun, GoesOn-start, IsCutShort-behind, TakesWanted-behind, IfSome-told, IfSome-always}
 use Rattle.dsde_run.proofs.run.run_model.Goals as goal
+
+pub go-requires-clause-fresh : goal.go-requires-clause-fresh
+go-requires-clause-fresh g c = (is_begun (system c.program.result.now) c.in-Ok.plain.engine c.in-Ok.ensures.ok.1).has_tree
+
+pub go-requires-clause-bounded : goal.go-requires-clause-bounded
+go-requires-clause-bounded g c =
+    let begun = is_begun (system c.program.result.now) c.in-Ok.plain.engine c.in-Ok.ensures.ok.1 in
+    omega (arith, begun.none_done, c.requires.turns)
 
 pub returns-in-Ok-clause-tells : goal.returns-in-Ok-clause-tells
 returns-in-Ok-clause-tells g c =
     let written = c.in_ok-write_events.ensures.ok ∙ ap (λ events. c.args.text.now ++ trace_text c.args.own.now events) c.as_slice.ensures in
-    IfOk-weaker c.go.result _ _
+    IfOk-weaker c.go-in-Ok.result _ _
     (λ answer told.
-    IfSome-told (g.R.Source.left c.args.source.now) (g.R.Source.left c.go.new.source) told
+    IfSome-told (g.R.Source.left c.args.source.now) (g.R.Source.left c.go-in-Ok.new.source) told
     (λ before after tells.
     Tells-behind c.args.own.now (run c.args.own.now (records_in c.args.own.now before) c.args.turns)
-    (go c.args.own.now c.args.turns (records_in c.args.own.now before) c.in-Ok.plain.engine) answer c.args.text.now c.write_events.new.text c.go.new.text
+    (go c.args.own.now c.args.turns (records_in c.args.own.now before) c.in-Ok.plain.engine) answer c.args.text.now c.write_events.new.text c.go-in-Ok.new.text
     (GoesOn-start c.args.own.now c.args.turns c.in-Ok.plain.engine c.new-events.result c.start-started.new.events c.args.text.now c.write_events.new.text
     c.new-events.ensures (subst (λ (m : Model). step.Tells (turning.start (system m)) c.new-events.result c.start-started.new.events (Ok c.in-Ok.plain.engine)) c.program.ensures c.in-Ok.ensures.ok) written (records_in c.args.own.now before))
-    (subst (λ heads. Tells c.args.own.now (go c.args.own.now c.args.turns (behind_head heads before) c.in-Ok.plain.engine) c.write_events.new.text c.go.new.text answer)
+    (subst (λ heads. Tells c.args.own.now (go c.args.own.now c.args.turns (behind_head heads before) c.in-Ok.plain.engine) c.write_events.new.text c.go-in-Ok.new.text answer)
     (c.in_ok-new-in-Ok.ensures ∙ ap (λ ins. fresh_heads ins c.types.result.now) c.ins.ensures.value ∙ ap (fresh_heads (info_of c.args.own.now.model).ins) c.types.ensures.value) tells)))
-    c.go.ensures.tells
+    c.go-in-Ok.ensures.tells
 
 pub returns-in-Ok-clause-cut : goal.returns-in-Ok-clause-cut
 returns-in-Ok-clause-cut g c = λ is.
     let written = c.in_ok-write_events.ensures.ok ∙ ap (λ events. c.args.text.now ++ trace_text c.args.own.now events) c.as_slice.ensures in
-    Told-weaker (g.R.Source.left c.args.source.now) (g.R.Source.left c.go.new.source) (c.go.ensures.cut is)
+    Told-weaker (g.R.Source.left c.args.source.now) (g.R.Source.left c.go-in-Ok.new.source) (c.go-in-Ok.ensures.cut is)
     (λ before after short.
     IsCutShort-behind c.args.own.now (λ records. run c.args.own.now records c.args.turns) (λ records. go c.args.own.now c.args.turns records c.in-Ok.plain.engine)
-    (records_in c.args.own.now before) c.args.text.now c.write_events.new.text c.go.new.text before after
+    (records_in c.args.own.now before) c.args.text.now c.write_events.new.text c.go-in-Ok.new.text before after
     (GoesOn-start c.args.own.now c.args.turns c.in-Ok.plain.engine c.new-events.result c.start-started.new.events c.args.text.now c.write_events.new.text
     c.new-events.ensures (subst (λ (m : Model). step.Tells (turning.start (system m)) c.new-events.result c.start-started.new.events (Ok c.in-Ok.plain.engine)) c.program.ensures c.in-Ok.ensures.ok) written)
-    (subst (λ heads. IsCutShort c.args.own.now (λ records. go c.args.own.now c.args.turns records c.in-Ok.plain.engine) (behind_head heads before) c.write_events.new.text c.go.new.text before after)
+    (subst (λ heads. IsCutShort c.args.own.now (λ records. go c.args.own.now c.args.turns records c.in-Ok.plain.engine) (behind_head heads before) c.write_events.new.text c.go-in-Ok.new.text before after)
     (c.in_ok-new-in-Ok.ensures ∙ ap (λ ins. fresh_heads ins c.types.result.now) c.ins.ensures.value ∙ ap (fresh_heads (info_of c.args.own.now.model).ins) c.types.ensures.value) short))
 
 pub returns-in-Ok-clause-front : goal.returns-in-Ok-clause-front
 returns-in-Ok-clause-front g c =
     let written = c.in_ok-write_events.ensures.ok ∙ ap (λ events. c.args.text.now ++ trace_text c.args.own.now events) c.as_slice.ensures in
-    front_either c.go.result (g.R.Source.left c.args.source.now)
-    (λ bytes. IsFront c.args.text.now c.go.new.text (trace_text c.args.own.now (run c.args.own.now (records_in c.args.own.now bytes) c.args.turns).events))
+    front_either c.go-in-Ok.result (g.R.Source.left c.args.source.now)
+    (λ bytes. IsFront c.args.text.now c.go-in-Ok.new.text (trace_text c.args.own.now (run c.args.own.now (records_in c.args.own.now bytes) c.args.turns).events))
     (λ is.
-    IfSome-told (g.R.Source.left c.args.source.now) (g.R.Source.left c.go.new.source) (c.go.ensures.cut is)
+    IfSome-told (g.R.Source.left c.args.source.now) (g.R.Source.left c.go-in-Ok.new.source) (c.go-in-Ok.ensures.cut is)
     (λ before after short.
-    IsFront-cut c.args.own.now c.args.turns (records_in c.args.own.now before) c.args.text.now c.go.new.text before after
+    IsFront-cut c.args.own.now c.args.turns (records_in c.args.own.now before) c.args.text.now c.go-in-Ok.new.text before after
     (IsCutShort-behind c.args.own.now (λ records. run c.args.own.now records c.args.turns) (λ records. go c.args.own.now c.args.turns records c.in-Ok.plain.engine)
-    (records_in c.args.own.now before) c.args.text.now c.write_events.new.text c.go.new.text before after
+    (records_in c.args.own.now before) c.args.text.now c.write_events.new.text c.go-in-Ok.new.text before after
     (GoesOn-start c.args.own.now c.args.turns c.in-Ok.plain.engine c.new-events.result c.start-started.new.events c.args.text.now c.write_events.new.text
     c.new-events.ensures (subst (λ (m : Model). step.Tells (turning.start (system m)) c.new-events.result c.start-started.new.events (Ok c.in-Ok.plain.engine)) c.program.ensures c.in-Ok.ensures.ok) written)
-    (subst (λ heads. IsCutShort c.args.own.now (λ records. go c.args.own.now c.args.turns records c.in-Ok.plain.engine) (behind_head heads before) c.write_events.new.text c.go.new.text before after)
+    (subst (λ heads. IsCutShort c.args.own.now (λ records. go c.args.own.now c.args.turns records c.in-Ok.plain.engine) (behind_head heads before) c.write_events.new.text c.go-in-Ok.new.text before after)
     (c.in_ok-new-in-Ok.ensures ∙ ap (λ ins. fresh_heads ins c.types.result.now) c.ins.ensures.value ∙ ap (fresh_heads (info_of c.args.own.now.model).ins) c.types.ensures.value) short))))
     (λ is.
-    IfSome-told (g.R.Source.left c.args.source.now) (g.R.Source.left c.go.new.source) (c.go.ensures.front is)
+    IfSome-told (g.R.Source.left c.args.source.now) (g.R.Source.left c.go-in-Ok.new.source) (c.go-in-Ok.ensures.front is)
     (λ before after front.
     IsFront-behind c.args.own.now (run c.args.own.now (records_in c.args.own.now before) c.args.turns) (go c.args.own.now c.args.turns (records_in c.args.own.now before) c.in-Ok.plain.engine)
-    c.args.text.now c.write_events.new.text c.go.new.text
+    c.args.text.now c.write_events.new.text c.go-in-Ok.new.text
     (GoesOn-start c.args.own.now c.args.turns c.in-Ok.plain.engine c.new-events.result c.start-started.new.events c.args.text.now c.write_events.new.text
     c.new-events.ensures (subst (λ (m : Model). step.Tells (turning.start (system m)) c.new-events.result c.start-started.new.events (Ok c.in-Ok.plain.engine)) c.program.ensures c.in-Ok.ensures.ok) written (records_in c.args.own.now before))
-    (subst (λ heads. IsFront c.write_events.new.text c.go.new.text (trace_text c.args.own.now (go c.args.own.now c.args.turns (behind_head heads before) c.in-Ok.plain.engine).events))
+    (subst (λ heads. IsFront c.write_events.new.text c.go-in-Ok.new.text (trace_text c.args.own.now (go c.args.own.now c.args.turns (behind_head heads before) c.in-Ok.plain.engine).events))
     (c.in_ok-new-in-Ok.ensures ∙ ap (λ ins. fresh_heads ins c.types.result.now) c.ins.ensures.value ∙ ap (fresh_heads (info_of c.args.own.now.model).ins) c.types.ensures.value) front)))
 
 pub returns-in_err-write_events-clause-front : goal.returns-in_err-write_events-clause-front
@@ -123,7 +131,7 @@ returns-in_err-finish-in-Err-clause-front g c =
     (c.in_err-finish-in-Err.ensures.err ∙ c.in_ok-write_events.ensures.ok ∙ ap (λ events. c.args.text.now ++ trace_text c.args.own.now events) c.as_slice.ensures))))
 
 pub returns-in-Ok-clause-quiet : goal.returns-in-Ok-clause-quiet
-returns-in-Ok-clause-quiet g c = λ is. c.go.ensures.quiet (ap (λ heads. heads.reader.ended) c.in_ok-new-in-Ok.ensures) is
+returns-in-Ok-clause-quiet g c = λ is. c.go-in-Ok.ensures.quiet (ap (λ heads. heads.reader.ended) c.in_ok-new-in-Ok.ensures) is
 
 pub returns-clause-quiet : goal.returns-clause-quiet
 returns-clause-quiet g c = λ is.
@@ -134,7 +142,7 @@ returns-clause-quiet g c = λ is.
 pub returns-in-Ok-clause-taken : goal.returns-in-Ok-clause-taken
 returns-in-Ok-clause-taken g c =
     let written = c.in_ok-write_events.ensures.ok ∙ ap (λ events. c.args.text.now ++ trace_text c.args.own.now events) c.as_slice.ensures in
-    Told-weaker (g.R.Source.left c.args.source.now) (g.R.Source.left c.go.new.source) c.go.ensures.taken
+    Told-weaker (g.R.Source.left c.args.source.now) (g.R.Source.left c.go-in-Ok.new.source) c.go-in-Ok.ensures.taken
     (λ before after takes.
     TakesWanted-behind c.args.own.now (λ records. run c.args.own.now records c.args.turns) (λ records. go c.args.own.now c.args.turns records c.in-Ok.plain.engine)
     (records_in c.args.own.now before) c.args.text.now c.write_events.new.text before after

@@ -1,9 +1,10 @@
-use Rattle.std.proofs.Common.{Ok, Err}
+use Rattle.std.proofs.Common.{Ok, Err, refl, rules}
 use Rattle.std.specs.Prelude.{IfOk, IfErr}
 use Rattle.dsde_syntax.specs.declared.decl.Model.{Model}
 use Rattle.dsde_system.specs.Program.{system}
 use Rattle.dsde_events.specs.Told as step
 use Rattle.dsde_turns.specs.Turn as turning
+use Rattle.dsde_turns.specs.declared.step.Step.TheVariants.{Turned}
 use Rattle.dsde_turns.specs.Engine.{next_of}
 use Rattle.std.proofs.Common.{◌≡◌, Bool, ◌+◌, ◌++◌, unwrap_or, ◌∙◌, ap, sym, subst}
 use Rattle.std.specs.Option.{option_copied}
@@ -15,19 +16,27 @@ use Rattle.dsde_run.specs.Reading.{IsFront}
 use Rattle.dsde_turns.specs.Engine.{Engine}
 use Rattle.dsde_runs.specs.Run.{Run, ended}
 use Rattle.dsde_run.specs.Run.{turn_on}
-use Rattle.dsde_run.proofs.RunLemmas.{Tells-faulted, turn_on-faulted}
+use Rattle.dsde_run.proofs.RunLemmas.{GoesOn-turned, Tells-faulted, turn_on-faulted}
 use Rattle.dsde_run.proofs.Fronts.{OnErr-always, IsFront-all, IsFront-turn}
 use Rattle.dsde_run.proofs.run.turn.Goals as goal
+
+pub returns-in-Ok-Turned-clause-turns : goal.returns-in-Ok-Turned-clause-turns
+returns-in-Ok-Turned-clause-turns c =
+    let is : c.advance-step.result ≡ Ok (Turned c.in-Ok-Turned.took_input) = search rules in
+    GoesOn-turned c.args.own.now c.args.plain.now.engine c.advance-step.new.self.engine (option_copied c.args.head) c.advance-step.result (Turned c.in-Ok-Turned.took_input) c.in-Ok-Turned.took_input
+    c.args.events.now c.advance-step.new.events c.args.text.now c.write_events.new.text c.requires.empty is refl
+    (subst (λ (m : Model). IfOk c.advance-step.result (λ found. step.Tells (turning.advance (system m) c.args.plain.now.engine (option_copied c.args.head)) c.args.events.now c.advance-step.new.events (Ok (found, c.advance-step.new.self.engine)))) c.requires.model c.advance-step.ensures.ok)
+    (c.in_ok-write_events.ensures.ok ∙ ap (λ events. c.args.text.now ++ trace_text c.args.own.now events) c.as_slice.ensures)
 
 pub returns-in_ok-finish-in-Err-clause-turns : goal.returns-in_ok-finish-in-Err-clause-turns
 returns-in_ok-finish-in-Err-clause-turns c = λ later.
     let finished = c.in_ok-finish-in-Err.ensures.ok in
     let head = option_copied c.args.head in
     let turns = c.args.plain.now.engine.turn + 1 in
-    let time = unwrap_or (turn_time (next_of c.args.plain.now.engine.tree) (option_copied c.args.head)) c.args.plain.now.engine.time in
-    let at_time : c.unwrap_or-time.result ≡ unwrap_or (turn_time (next_of c.args.plain.now.engine.tree) (option_copied c.args.head)) c.args.plain.now.engine.time =
+    let time = unwrap_or (turn_time (next_of c.args.plain.now.engine) (option_copied c.args.head)) c.args.plain.now.engine.time in
+    let at_time : c.unwrap_or-time.result ≡ unwrap_or (turn_time (next_of c.args.plain.now.engine) (option_copied c.args.head)) c.args.plain.now.engine.time =
     c.unwrap_or-time.ensures ∙ ap (λ time. unwrap_or time c.time-last.result) c.turn_time.ensures
-    ∙ ap (unwrap_or (turn_time (next_of c.args.plain.now.engine.tree) (option_copied c.args.head))) c.time-last.ensures in
+    ∙ ap (unwrap_or (turn_time (next_of c.args.plain.now.engine) (option_copied c.args.head))) c.time-last.ensures in
     Tells-faulted c.args.own.now (advance c.args.own.now c.args.plain.now.engine head) (turn_on c.args.own.now c.args.plain.now.engine head later) c.in-Err.end c.in_ok-finish-in-Err.field-0
     turns time
     c.args.events.now c.advance-step.new.events c.args.text.now c.write_events.new.text c.finish-in-Err.new.text

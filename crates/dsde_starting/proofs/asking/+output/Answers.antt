@@ -6,7 +6,7 @@ use Rattle.dsde_system.specs.Program.{system}
 use Rattle.dsde_tree.specs.declared.sim.Sim.TheViews.{out-Kid}
 use Rattle.dsde_tree.specs.Output.{output}
 use Rattle.dsde_starting.specs.Fitting.{FitsTree}
-use Rattle.dsde_starting.proofs.Fits.{leaf-tree}
+use Rattle.dsde_starting.specs.Fits.{leaf-tree}
 use Rattle.dsde_starting.proofs.Asks.{answers}
 use Rattle.dsde_starting.proofs.asking.+output.Goals as goal
 

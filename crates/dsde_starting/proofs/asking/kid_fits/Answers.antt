@@ -1,4 +1,4 @@
-use Rattle.dsde_starting.proofs.Fits.{kid-tree}
+use Rattle.dsde_starting.specs.Fits.{kid-tree}
 use Rattle.dsde_starting.proofs.asking.kid_fits.Goals as goal
 
 pub returns : goal.returns

@@ -1,4 +1,4 @@
-use Rattle.dsde_starting.proofs.Fits.{net-tree}
+use Rattle.dsde_starting.specs.Fits.{net-tree}
 use Rattle.dsde_starting.proofs.asking.net_fits.Goals as goal
 
 pub returns : goal.returns

@@ -1,4 +1,4 @@
-use Rattle.dsde_starting.proofs.Fits.{net-kids, net-shape}
+use Rattle.dsde_starting.specs.Fits.{net-kids, net-shape}
 use Rattle.dsde_starting.proofs.asking.parts_fit.Goals as goal
 
 pub returns-clause-kids : goal.returns-clause-kids

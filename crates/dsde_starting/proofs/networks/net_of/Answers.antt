@@ -1,4 +1,4 @@
-use Rattle.dsde_starting.proofs.Fits.{net-of-fits-ok}
+use Rattle.dsde_starting.proofs.Made.{net-of-fits-ok}
 use Rattle.dsde_starting.proofs.networks.net_of.Goals as goal
 
 pub returns-clause-fits : goal.returns-clause-fits

@@ -7,7 +7,8 @@ use Rattle.dsde_telling.specs.GoingOn.{goes-step, goes-end, stops, lacks, tail}
 use Rattle.dsde_tree.specs.Tree.{entry_of}
 use Rattle.dsde_tree.specs.Start.{start_leaf_at, start, starts, started_kid, with_boss}
 use Rattle.dsde_starting.specs.Fitting.{FitsLinks}
-use Rattle.dsde_starting.proofs.Fits.{tree-net, kid-of-fits, plan-links}
+use Rattle.dsde_starting.specs.Fits.{tree-net}
+use Rattle.dsde_starting.proofs.Made.{kid-of-fits, plan-links}
 use Rattle.dsde_starting.proofs.Going.{start-goes, start_inner, as_part, net-told, net-boss, net_whole, goes-here, goes-on, start-one, starts_behind}
 use Rattle.dsde_starting.proofs.parts.+start.Goals as goal
 

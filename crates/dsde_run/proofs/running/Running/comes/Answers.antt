@@ -7,5 +7,5 @@ use Rattle.dsde_run.proofs.running.Running.comes.Goals as goal
 pub returns : goal.returns
 returns c =
     subst ItemsCome c.self.view_is
-    (items-come c.tops_stand.ensures c.bodies_stand.ensures c.top_is_declared.ensures
-    (running c.self.inside.program.now c.self.inside.places.now) c.self.invariant.0 c.self.invariant.1)
+    (items-come c.bodies_stand.ensures c.top_is_declared.ensures
+    (running c.self.inside.program.now c.self.inside.places.now) c.self.invariant.0)

@@ -1,0 +1,18 @@
+-- A tree that fits a program has the components of each network in the order of their names.
+use Rattle.std.proofs.Common.{List, [], ◌∷◌, Option, Some, None, IfSome, inl, inr}
+use Rattle.std.specs.List.{AllByRecursion}
+use Rattle.dsde_syntax.specs.declared.decl.Model.{Model}
+use Rattle.dsde_tree.specs.declared.sim.Sim.{Sim}
+use Rattle.dsde_tree.specs.Spots.{Spot, spots}
+use Rattle.dsde_delivery.specs.Places.{HasOrder, IsInOrder}
+use Rattle.dsde_moving.specs.Fitting.{FitsSpot}
+use Rattle.dsde_sim.specs.Working.{StandsIf}
+
+all-in-order : (model : Model) (own : List Spot) → AllByRecursion (FitsSpot model) own → AllByRecursion HasOrder own
+all-in-order model [] fits = tt
+all-in-order model (inl leaf ∷ own) fits = (tt, all-in-order model own fits.1)
+all-in-order model (inr shape ∷ own) fits = (fits.0.links.order, all-in-order model own fits.1)
+
+pub in-order : (model : Model) (own : Option Sim) → StandsIf model own → IfSome own IsInOrder
+in-order model (Some tree) stands = all-in-order model (spots tree) stands.fits.all
+in-order model None stands = tt

@@ -1,0 +1,104 @@
+//! One turn of a tree.
+
+ghost use Rattle.std.specs.Prelude.{◌≡◌, ◌<◌, ◌^◌, length, IfOk};
+ghost use Rattle.dsde_values.specs.When.{IsMoment};
+ghost use Rattle.dsde_values.specs.Path.{root};
+ghost use Rattle.dsde_events.specs.Told.{Comes, Tells};
+ghost use Rattle.dsde_system.specs.Program.{system};
+ghost use Rattle.dsde_tree.specs.Tree.{parts, model_of};
+ghost use Rattle.dsde_tree.specs.Output.{by_port, output};
+ghost use Rattle.dsde_tree.specs.Move.{ins_of};
+ghost use Rattle.dsde_turns.specs.Turn.{turn, move_phase};
+ghost use Rattle.dsde_moving.specs.Fitting.{FitsTree, FitsGot};
+ghost use Rattle.dsde_sim.specs.Working.{FitsItems, Stands};
+
+use dsde_carrying::sent_fits;
+use dsde_events::{Event, TurnEnd};
+use dsde_moving::{by_port, ins_of, move_sim, output, parts};
+use dsde_program::Program;
+use dsde_tables::narrow;
+use dsde_telling::tell_outs;
+use dsde_tree::Sim;
+use dsde_turns::MOST_PARTS;
+use dsde_values::{Item, Memory, Path, Seq, Values};
+use std::alloc::Global;
+
+/// What the whole model sends at this time.
+fn sent_by_root(
+    alloc: Global,
+    program: &Program,
+    tree: &Sim,
+    time: u64,
+) -> Result<Seq<Values>, TurnEnd>
+    requires { FitsTree program.now tree.now }
+    ensures comes { Comes (output (system program.now) tree.now root time) result }
+    ensures few { IfOk result (λ sent. length sent < 2 ^ 32) }
+{
+    let root = Path::root(alloc)?;
+    output(alloc, program, tree, &root, time)
+}
+
+/// What these items bring to the whole model.
+fn received(
+    alloc: Global,
+    program: &Program,
+    tree: &Sim,
+    items: &[Item],
+) -> Result<Seq<Values>, Memory>
+    requires tree { FitsTree program.now tree.now }
+    requires items { FitsItems program.now (model_of tree.now).0 items.now }
+    ensures value { IfOk result (λ got. got ≡ by_port (ins_of (system program.now) tree.now) items.now) }
+    ensures fits { IfOk result (λ got. FitsGot program.now (model_of tree.now).0 got) }
+{
+    sent_fits();
+    let ports = narrow(ins_of(program, tree))?;
+    by_port(alloc, ports, items)
+}
+
+/// Tells what the whole model sends, and takes its move phase.
+fn move_phase(
+    alloc: Global,
+    program: &Program,
+    tree: Sim,
+    time: u64,
+    got: Seq<Values>,
+    sent: Seq<Values>,
+    events: &mut Seq<Event>,
+) -> Result<Sim, TurnEnd>
+    requires moment { IsMoment time }
+    requires stands { Stands program.now tree }
+    requires got { FitsGot program.now (model_of tree).0 got }
+    requires few { length sent < 2 ^ 32 }
+    ensures told { Tells (move_phase (system program.now) tree time got sent) events.old events.new result }
+    ensures stands { IfOk result (Stands program.now) }
+    ensures model { IfOk result (λ after. model_of after ≡ model_of tree) }
+{
+    tell_outs(alloc, sent.as_slice(), events)?;
+    let root = Path::root(alloc)?;
+    let room = MOST_PARTS - parts(&tree);
+    let (tree, _room) = move_sim(alloc, program, tree, &root, time, got, room, events)?;
+    Ok(tree)
+}
+
+/// Takes one turn with these items of input, and tells it.
+pub(crate) fn turn(
+    alloc: Global,
+    program: &Program,
+    tree: Sim,
+    number: u64,
+    time: u64,
+    items: &[Item],
+    events: &mut Seq<Event>,
+) -> Result<Sim, TurnEnd>
+    requires moment { IsMoment time }
+    requires stands { Stands program.now tree }
+    requires items { FitsItems program.now (model_of tree).0 items.now }
+    ensures told { Tells (turn (system program.now) tree number time items.now) events.old events.new result }
+    ensures stands { IfOk result (Stands program.now) }
+    ensures model { IfOk result (λ after. model_of after ≡ model_of tree) }
+{
+    events.push(Event::Turn { number, time })?;
+    let sent = sent_by_root(alloc, program, &tree, time)?;
+    let got = received(alloc, program, &tree, items)?;
+    move_phase(alloc, program, tree, time, got, sent, events)
+}

@@ -1,0 +1,23 @@
+-- Outcomes that hold what is asked of them, step by step.
+use Rattle.std.proofs.Common.{◌≡◌, Bool, true, false, if◌then◌else◌, Ok, Err, refl, ◌∙◌, ap}
+use Rattle.dsde_meaning.specs.Outcome.{Fault, Stuck, Outcome, ◌>>=◌}
+use Rattle.dsde_meaning.specs.Typed.{Sound}
+
+-- nothing is asked of a value
+abbrev pub Any : {A : Type 0} → A → Type 0
+Any value = Unit {0}
+
+-- a step on what holds
+pub sound-then : {A B : Type 0} (total : Bool) (P : A → Type 0) (Q : B → Type 0) (x : Outcome A) (f : A → Outcome B) → Sound total P x → ((a : A) → P a → Sound total Q (f a)) → Sound total Q (x >>= f)
+sound-then total P Q (Ok a) f h next = next a h
+sound-then total P Q (Err (Fault kind at)) f h next = h
+sound-then total P Q (Err Stuck) f h next = h
+
+pub sound-if : {A : Type 0} (total : Bool) (P : A → Type 0) (b : Bool) (x y : Outcome A) → (b ≡ true → Sound total P x) → (b ≡ false → Sound total P y) → Sound total P (if b then x else y)
+sound-if total P true x y h k = h refl
+sound-if total P false x y h k = k refl
+
+-- the same value, where what comes first holds what the steps behind it ask
+pub same-then : {A B : Type 0} (total : Bool) (P : A → Type 0) (x y : Outcome A) (f g : A → Outcome B) → y ≡ x → Sound total P x → ((a : A) → P a → g a ≡ f a) → (y >>= g) ≡ (x >>= f)
+same-then total P (Ok a) y f g e h next = ap (λ o. o >>= g) e ∙ next a h
+same-then total P (Err halt) y f g e h next = ap (λ o. o >>= g) e
