@@ -13,7 +13,7 @@ use Rattle.dsde_rules.specs.declared.seen.Seen.{Seen}
 use Rattle.dsde_rules.specs.Steps.{above}
 use Rattle.dsde_rules.specs.Types.{wanted}
 use Rattle.dsde_rules.specs.Judge as rules
-use Rattle.dsde_rules.specs.Judge.{Scope, Judge, Guarded, guarded, test_of, judge_step, if_of, seen_as}
+use Rattle.dsde_rules.specs.Judge.{Scope, Judge, Guarded, guarded, test_of, judge_step}
 use Rattle.dsde_nodes.specs.declared.ids.ExprId.{ExprId}
 use Rattle.dsde_nodes.specs.declared.node.Node.{Node}
 use Rattle.dsde_nodes.specs.declared.node.Node.TheVariants as node

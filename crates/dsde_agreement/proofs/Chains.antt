@@ -13,7 +13,7 @@ use Rattle.dsde_rules.specs.declared.known.Known.{Known}
 use Rattle.dsde_rules.specs.declared.seen.Seen.{Seen}
 use Rattle.dsde_rules.specs.Types.{wanted, item_type, held_type}
 use Rattle.dsde_rules.specs.Judge as rules
-use Rattle.dsde_rules.specs.Judge.{Scope, Judge, chain, links_from, operand, total, sign_may_fault, seen_as, made, field_of, fields_at}
+use Rattle.dsde_rules.specs.Judge.{Scope, Judge, chain, links_from, operand, total, sign_may_fault, field_of, fields_at}
 use Rattle.dsde_nodes.specs.declared.node.Binary.{Binary}
 use Rattle.dsde_nodes.specs.declared.node.Binary.TheVariants as binary
 use Rattle.dsde_nodes.specs.declared.node.Node.TheVariants as node

@@ -10,7 +10,7 @@ use dsde_faults::{EvalEnd, LeafEnd, Site};
 use dsde_lists::Memory;
 use dsde_nodes::{Code, ModelId};
 use dsde_program::Program;
-use dsde_values::{Seq, Value, Values, copy_value};
+use dsde_values::{Seq, Values, copy_values};
 use std::alloc::Global;
 
 /// The body of the atomic model with a number, or of the network's executive.
@@ -31,17 +31,6 @@ pub(crate) fn at_site(site: Site, end: EvalEnd) -> LeafEnd
         EvalEnd::Fault(kind, at) => LeafEnd::Fault(site, kind, at),
         EvalEnd::Memory => LeafEnd::Memory,
     }
-}
-
-/// A copy of values.
-pub(crate) fn copied(alloc: Global, values: &[Value]) -> Result<Values, Memory>
-    ensures { IfOk result (λ copies. copies ≡ values.now) }
-{
-    let mut copies = Seq::new(alloc);
-    for value in values {
-        copies.push(copy_value(alloc, value)?)?;
-    }
-    Ok(copies)
 }
 
 /// Values with others behind them.
@@ -73,6 +62,6 @@ pub(crate) fn slots_of(alloc: Global, args: &Values, state: Values) -> Result<Va
     if args.len() == 0 {
         return Ok(state);
     }
-    let args = copied(alloc, args.as_slice())?;
+    let args = copy_values(alloc, args.as_slice())?;
     joined(args, state)
 }

@@ -1,17 +1,17 @@
 //! The first values of state variables.
 
-ghost use Rattle.std.specs.Prelude.{◌≡◌, IfOk};
+ghost use Rattle.std.specs.Prelude.{IfOk};
 ghost use Rattle.dsde_formalism.specs.Leaf.{Gives};
 ghost use Rattle.dsde_system.specs.Program.{system};
 ghost use Rattle.dsde_system.specs.Fitting.{FitsArgs, FitsState};
 ghost use Rattle.dsde_atomic.specs.Steps.{Begins};
 
-use crate::body::{at_site, behind, code_of, copied};
+use crate::body::{at_site, behind, code_of};
 use dsde_eval::{Env, eval};
 use dsde_faults::{EvalEnd, LeafEnd, Site};
 use dsde_nodes::ModelId;
 use dsde_program::Program;
-use dsde_values::Values;
+use dsde_values::{Values, copy_values};
 use std::alloc::Global;
 
 /// The initial state: the first value of each state variable, in their order.
@@ -25,7 +25,7 @@ pub(crate) fn init(
     ensures gives { Gives ((system program.now).component model args.now).init result }
     ensures fits { IfOk result (λ state. FitsState program.now model.0 state) }
 {
-    let slots = copied(alloc, args.as_slice())?;
+    let slots = copy_values(alloc, args.as_slice())?;
     let mut env = Env { slots };
     match begin(alloc, program, model, &mut env) {
         Ok(()) => Ok(behind(env.slots, args.len())),

@@ -6,7 +6,7 @@ ghost use Rattle.dsde_formalism.specs.Leaf.{Gives, settled, start_leaf, output_l
 ghost use Rattle.dsde_system.specs.Program.{system};
 ghost use Rattle.dsde_system.specs.Fitting.{FitsArgs, FitsInputs, FitsLeaf, FitsSends, FitsState};
 
-use crate::body::{at_site, behind, code_of, copied, slots_of};
+use crate::body::{at_site, behind, code_of, slots_of};
 use crate::due::due;
 use crate::init::init;
 use crate::moves::transition;
@@ -15,7 +15,7 @@ use dsde_faults::{LeafEnd, Site};
 use dsde_formalism::{Inputs, Leaf, MoveKind};
 use dsde_nodes::ModelId;
 use dsde_program::Program;
-use dsde_values::{Item, Seq, Values};
+use dsde_values::{Item, Seq, Values, copy_values};
 use std::alloc::Global;
 
 /// A component of the model with these arguments that starts at `time`: an atomic model's, or the
@@ -83,7 +83,7 @@ pub fn output_leaf(alloc: Global, program: &Program, leaf: &Leaf) -> Result<Seq<
         Some(block) => block,
         None => return Ok(sends),
     };
-    let state = copied(alloc, leaf.state.as_slice())?;
+    let state = copy_values(alloc, leaf.state.as_slice())?;
     let slots = slots_of(alloc, &leaf.args, state)?;
     let mut env = Env { slots };
     match run_block(alloc, program, block, &mut env, &mut sends) {
@@ -109,11 +109,11 @@ pub fn move_leaf(
     ensures model { IfOk result (λ moved. moved.model ≡ leaf.now.model) }
     ensures args { IfOk result (λ moved. moved.args ≡ leaf.now.args) }
 {
-    let state = copied(alloc, leaf.state.as_slice())?;
+    let state = copy_values(alloc, leaf.state.as_slice())?;
     let elapsed = time.saturating_sub(leaf.last);
     let moved = transition(
         alloc, program, leaf.model, &leaf.args, state, kind, elapsed, got,
     )?;
-    let args = copied(alloc, leaf.args.as_slice())?;
+    let args = copy_values(alloc, leaf.args.as_slice())?;
     settled(alloc, program, leaf.model, leaf.boss, args, moved, time)
 }

@@ -1,6 +1,6 @@
 //! Bodies of atomic models and of executives.
 
-ghost use Rattle.std.specs.Prelude.{◌≡◌, false, not, length, map, take, OnOk};
+ghost use Rattle.std.specs.Prelude.{◌≡◌, false, not, map, OnOk};
 ghost use Rattle.std.specs.List.{list_any};
 ghost use Rattle.dsde_names.specs.Table.{is_among};
 ghost use Rattle.dsde_syntax.specs.declared.decl.PortDecl.{PortDecl};

@@ -1,6 +1,6 @@
 //! Functions.
 
-ghost use Rattle.std.specs.Prelude.{◌≡◌, [], map};
+ghost use Rattle.std.specs.Prelude.{[], map};
 ghost use Rattle.dsde_rules.specs.Judge.{judge};
 ghost use Rattle.dsde_rules.specs.Blocks.{func_height, func_in, func_of, return_of, walk, walk_all};
 ghost use Rattle.dsde_scope.specs.Says.{Says, Walks};

@@ -3,9 +3,9 @@
 ghost use Rattle.dsde_carrying.specs.Carrying.{GatheredFit, MayTranslate, ReachCovers, SentFit, TranslatesExactly, WiringCarries};
 
 use dsde_agreement::expressions_agree;
-use dsde_equality::one_name;
 use dsde_functions::functions_agree;
 use dsde_standing::known_is_within;
+use dsde_values::one_name;
 
 /// A law: what is gathered over links that fit, from sources that fit, has the types of the ports
 /// where it comes, a list for each.

@@ -1,5 +1,5 @@
 -- Parts of the rules of models that have a function of their own.
-use Rattle.std.specs.Prelude.{ℕ, max, List, [], ◌∷◌}
+use Rattle.std.specs.Prelude.{ℕ, max, List, []}
 use Rattle.dsde_syntax.specs.declared.id.Id.{Id}
 use Rattle.dsde_syntax.specs.declared.decl.Body.{Body}
 use Rattle.dsde_syntax.specs.declared.decl.PortDecl.{PortDecl}

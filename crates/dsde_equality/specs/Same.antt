@@ -1,4 +1,4 @@
--- Equality of values and of names, as tests.
+-- Equality of values, as tests.
 use Rattle.std.specs.Prelude.{◌==◌, Bool, true, false, ◌&&◌, not, List, [], ◌∷◌, map}
 use Rattle.std.specs.Ordering.{int_eq}
 use Rattle.dsde_values.specs.declared.value.Value.{Value, Value-F, fold-Value, out-Value}

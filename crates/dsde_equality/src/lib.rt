@@ -1,9 +1,9 @@
-//! Equality as a test that definitions take, of names and of values, with the laws that it is true
-//! exactly where both are equal.
+//! Equality of values, and of lists of them, as tests that definitions take, with the law that they
+//! are true exactly at equal ones.
 #![tactic(auto)]
 
 mod laws;
 mod same;
 
-pub use laws::{one_name, same_values_are_equal};
+pub use laws::same_values_are_equal;
 pub use same::are_same;

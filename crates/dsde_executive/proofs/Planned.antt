@@ -1,5 +1,5 @@
 -- The plan of tables is the plan of the program.
-use Rattle.std.proofs.Common.{◌≡◌, ◌≢◌, ℕ, ◌≤◌, true, List, [], ◌++◌, Option, Some, Result, Ok, Err, IfOk, slice_get, unwrap_or, refl, sym, ◌∙◌, ap, subst, arith}
+use Rattle.std.proofs.Common.{◌≡◌, ◌≢◌, ℕ, true, List, [], ◌++◌, Option, Some, Result, Ok, Err, IfOk, slice_get, unwrap_or, refl, sym, ◌∙◌, ap, subst, arith}
 use Rattle.dsde_syntax.specs.declared.decl.Model.{Model}
 use Rattle.dsde_syntax.specs.declared.item.Item.{Item}
 use Rattle.dsde_values.specs.declared.value.Value.{Value}
@@ -13,21 +13,19 @@ use Rattle.dsde_rules.specs.Right.{IsRight}
 use Rattle.dsde_structure.specs.declared.plan.Plan.{Plan}
 use Rattle.dsde_meaning.specs.Outcome.{Stuck, Outcome, Gives}
 use Rattle.dsde_meaning.specs.Meaning.{Vars}
-use Rattle.dsde_meaning.specs.Tables.{Part, Coded, means_in}
-use Rattle.dsde_meaning.specs.Typed.{values_in}
+use Rattle.dsde_meaning.specs.Tables.{Coded, means_in}
 use Rattle.dsde_plans.specs.Drafts.{planned}
 use Rattle.dsde_evaluator.specs.Evaluating as evaluating
 use Rattle.dsde_planner.specs.declared.planner.Planner.{Planner}
 use Rattle.dsde_planner.specs.Drawing.{part_in}
 use Rattle.dsde_functions.specs.Coded.{coded_of}
-use Rattle.dsde_standing.specs.Bodies.{Own, owns_of, param_slots, state_slots}
+use Rattle.dsde_standing.specs.Bodies.{Own, owns_of, state_slots}
 use Rattle.dsde_standing.specs.Structures.{HasStructure, StructuresStand, structures_of, first_via}
-use Rattle.dsde_layouts.specs.Agreement.{StructureAgrees, StructuresAgree, structure_of}
+use Rattle.dsde_layouts.specs.Agreement.{StructureAgrees, StructuresAgree}
 use Rattle.dsde_formalism.specs.Leaf as formalism
 use Rattle.dsde_system.specs.Body.{at_site, body_vars}
 use Rattle.dsde_system.specs.Program.{system, network_at, plan_at}
 use Rattle.dsde_system.specs.Fitting.{Fill, FitsArgs, FitsState}
-use Rattle.dsde_system.specs.Plans.{FitsPlan}
 use Rattle.dsde_executive.specs.Structure.{in_structure, IsPlan}
 use Rattle.dsde_executive.proofs.Seeing.{some-is, body-fits, body-are}
 

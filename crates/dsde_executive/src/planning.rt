@@ -91,7 +91,7 @@ pub fn structure(
 {
     laws();
     program.right();
-    let mut slots = slots_of(alloc, args, state)?;
+    let slots = slots_of(alloc, args, state)?;
     let makes = program.makes(model);
-    planner(alloc, program).plan(makes.as_slice(), &mut slots)
+    planner(alloc, program).plan(makes.as_slice(), slots)
 }

@@ -10,9 +10,9 @@ use Rattle.dsde_rules.specs.Blocks as rule_blocks
 use Rattle.dsde_nodes.specs.declared.act.Act.{Act}
 use Rattle.dsde_nodes.specs.Pieces.{Block, Next, Piece, Step, all, behind}
 use Rattle.dsde_meaning.specs.Meaning as meaning
-use Rattle.dsde_meaning.specs.Meaning.{Scene, Walk, walk_all, bound, cut_vars, for_one, for_walk}
+use Rattle.dsde_meaning.specs.Meaning.{Scene, Walk, walk_all, bound, for_one, for_walk}
 use Rattle.dsde_meaning.specs.Tables as tables
-use Rattle.dsde_meaning.specs.Tables.{Coded, State, state_of, means_in, act_flow, acts_flow, block_at, braced_at, once, for_each, cut}
+use Rattle.dsde_meaning.specs.Tables.{Coded, State, state_of, means_in, act_flow, acts_flow, block_at, braced_at, once, for_each}
 use Rattle.dsde_meaning.specs.Proper.{all_so}
 use Rattle.dsde_meaning.specs.Typed.{Typed, Fits, AllSent, shown}
 use Rattle.dsde_meaning.specs.Scopes.{Sees}

@@ -25,7 +25,7 @@ use Rattle.dsde_nodes.specs.Pieces.{Block, Next, Piece, Step, all}
 use Rattle.dsde_nodes.specs.Statements as said
 use Rattle.dsde_meaning.specs.Outcome.{Outcome, ◌>>=◌, items_of}
 use Rattle.dsde_meaning.specs.Meaning as meaning
-use Rattle.dsde_meaning.specs.Meaning.{Function, Scene, Walk, mean, walk_all, for_walk}
+use Rattle.dsde_meaning.specs.Meaning.{Function, Walk, mean, walk_all, for_walk}
 use Rattle.dsde_meaning.specs.Tables.{Coded, means_in, act_flow, for_each}
 use Rattle.dsde_meaning.specs.Proper as proper
 use Rattle.dsde_meaning.specs.Proper.{is_plain, is_proper, all_so}

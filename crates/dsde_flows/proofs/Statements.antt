@@ -31,9 +31,9 @@ use Rattle.dsde_nodes.specs.Statements as said
 use Rattle.dsde_meaning.specs.Outcome.{Stuck}
 use Rattle.dsde_meaning.specs.Flow.{stopped}
 use Rattle.dsde_meaning.specs.Meaning as meaning
-use Rattle.dsde_meaning.specs.Meaning.{Function, Scene, Walk, ArmWalk, mean, bound, var_name, set_at, set_var}
+use Rattle.dsde_meaning.specs.Meaning.{Function, Scene, bound, var_name, set_at, set_var}
 use Rattle.dsde_meaning.specs.Tables as tables
-use Rattle.dsde_meaning.specs.Tables.{Coded, State, state_of, act_flow, set_slot}
+use Rattle.dsde_meaning.specs.Tables.{Coded, state_of, act_flow, set_slot}
 use Rattle.dsde_meaning.specs.Proper as proper
 use Rattle.dsde_meaning.specs.Proper.{is_plain, is_proper}
 use Rattle.dsde_meaning.specs.Typed.{Typed, Fits, AllSent, IsSent, values_in, shown}

@@ -11,7 +11,6 @@ use Rattle.dsde_values.specs.declared.types.Types.{Types}
 use Rattle.dsde_rules.specs.declared.known.Around.{Around}
 use Rattle.dsde_rules.specs.declared.known.Known.{Known}
 use Rattle.dsde_rules.specs.declared.signatures.Port.{Port}
-use Rattle.dsde_rules.specs.Blocks.{Passed}
 use Rattle.dsde_rules.specs.Blocks as rule_blocks
 use Rattle.dsde_nodes.specs.declared.act.Act.{Act}
 use Rattle.dsde_nodes.specs.declared.act.ActArm.{ActArm}

@@ -1,7 +1,7 @@
 //! What comes to the parts of a network, and what it sends.
 
 ghost use Rattle.std.specs.Prelude.{◌≡◌, map, IfOk, OnOk};
-ghost use Rattle.std.specs.List.{All, AllByRecursion};
+ghost use Rattle.std.specs.List.{AllByRecursion};
 ghost use Rattle.dsde_structure.specs.declared.plan.Part.TheVariants as part;
 ghost use Rattle.dsde_structure.specs.Gather.{carried, gathered};
 ghost use Rattle.dsde_system.specs.Program.{system};
@@ -15,11 +15,10 @@ use crate::carry::carry_to;
 use crate::names::place_of_kid;
 use crate::ports::{empty_ports, ins_of};
 use dsde_carrying::wiring_carries;
-use dsde_equality::one_name;
 use dsde_program::Program;
 use dsde_structure::{Link, Part, Sources, links_carry_in_order};
 use dsde_tree::Kid;
-use dsde_values::{Memory, Seq, Values};
+use dsde_values::{Memory, Seq, Values, one_name};
 use std::alloc::Global;
 
 /// What comes to the parts inside a network at one time, each a list of values for each in port.

@@ -6,10 +6,9 @@ ghost use Rattle.dsde_structure.specs.Survival.{AreInOrder};
 ghost use Rattle.dsde_gathering.specs.Boxes.{name_of, place_of};
 ghost use Rattle.dsde_gathering.specs.Passing.{AreSortedKids};
 
-use dsde_equality::one_name;
 use dsde_structure::Given;
 use dsde_tree::Kid;
-use dsde_values::{Name, Values, compare_names};
+use dsde_values::{Name, Values, compare_names, one_name};
 
 /// The index of what the component of a name sends, if it is one of these.
 fn place_of_given(kids: &[Given], name: &Name) -> Option<usize>

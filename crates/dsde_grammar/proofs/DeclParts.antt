@@ -19,7 +19,6 @@ use Rattle.dsde_syntax.specs.declared.decl.Body.{Body}
 use Rattle.dsde_syntax.specs.Grammar.{Tokens, word, mark, id_tokens, joined, commas, in_braces, type_tokens, expr_tokens, stmt_tokens, item_tokens, typed_tokens, port_tokens, state_tokens, phase_tokens, body_tokens, decl_tokens}
 use Rattle.dsde_syntax.specs.Grammar.{block as block_tokens}
 use Rattle.dsde_syntax.specs.Levels.{stands_at, level_of, is_expr, is_stmt, is_item, is_state, is_body, is_decl}
-use Rattle.dsde_grammar.specs.Want.{Want}
 use Rattle.dsde_grammar.specs.Want as want
 use Rattle.dsde_grammar.specs.Steps.{Wants, repeated, go_if, is_key, typed, body, block, decl_step, more_name_step, more_typed_step, params_rest_step, port_step, state_step}
 use Rattle.dsde_grammar.proofs.Values.{Good, Spelled, Value, spelled, Values, spells, Meets, commas_rest}

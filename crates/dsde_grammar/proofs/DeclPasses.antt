@@ -24,7 +24,6 @@ use Rattle.dsde_syntax.specs.Grammar.{Tokens, word, mark, id_tokens, joined, com
 use Rattle.dsde_syntax.specs.Levels.{is_expr, is_stmt, is_item, is_phase, is_state, is_body, is_decl, has_levels}
 use Rattle.dsde_grammar.proofs.ListReads.{and-true}
 use Rattle.dsde_grammar.proofs.StmtReads.{no_else, false-true}
-use Rattle.dsde_grammar.specs.Want.{Want}
 use Rattle.dsde_grammar.specs.Want as want
 use Rattle.dsde_grammar.specs.Steps.{Wants, stop, start, typed, params, block, body, executive, network_body, function_body}
 use Rattle.dsde_grammar.proofs.Leading.{any, Leads, AllLead, AllPass, nothing, take, takes, last, closed, pair, beside, fewer, turned, passed, ended, left, several, separated}

@@ -22,7 +22,6 @@ use Rattle.dsde_syntax.specs.declared.expr.Expr.TheViews.{roll-Suffix, roll-Sign
 use Rattle.dsde_syntax.specs.declared.expr.Expr.TheFolds.{map-Suffix}
 use Rattle.dsde_syntax.specs.Grammar.{Tokens, word, joined, suffix_step as suffix_tokens_step, type_step as type_tokens_step, type_tokens, expr_tokens, suffix_tokens, expr_arm_tokens, field_set_tokens, sign_tail_tokens, tail_tokens}
 use Rattle.dsde_syntax.specs.Levels.{suffix_level_step, stands_at, level_of, may_follow, is_comparison, is_sum_sign, is_mul_sign, is_expr_arm, is_field_set, is_suffix, sign_tail_level, tail_level}
-use Rattle.dsde_grammar.specs.Want.{Want}
 use Rattle.dsde_grammar.specs.Want as want
 use Rattle.dsde_grammar.specs.Steps.{repeated, type_step, neg_wants, mul_wants, sum_wants, negation_step, minus_step, suffix_step, factor_step, term_step, comparison_step, conjunct_step, disjunct_step, fallback_step}
 use Rattle.dsde_grammar.proofs.Layers.{type-tokens, suffix-tokens, suffix-level, sign_tail-tokens, sign_tail-level, tail-tokens, tail-level}

@@ -17,7 +17,6 @@ use Rattle.dsde_syntax.specs.declared.item.EndPart.TheVariants as end_part
 use Rattle.dsde_syntax.specs.Grammar.{id_tokens, in_parens, in_brackets, end_part_tokens, end_tokens, via_key_tokens, via_tokens, Tokens, word, mark, joined, if_tokens, expr_tokens, item_tokens, item_arm_tokens}
 use Rattle.dsde_syntax.specs.Grammar.{item_step as item_tokens_step, block as block_tokens, else_block}
 use Rattle.dsde_syntax.specs.Levels.{stands_at, level_of, is_end, is_expr, is_item, is_item_step, is_item_arm}
-use Rattle.dsde_grammar.specs.Want.{Want}
 use Rattle.dsde_grammar.specs.Want as want
 use Rattle.dsde_grammar.specs.Steps.{repeated, index_step, end_step, via_step, via_key_step, item_step, else_step, else_block_step, arm_rest}
 use Rattle.dsde_grammar.proofs.Layers.{item-tokens, item-level, item_arm-tokens, item_arm-level}

@@ -18,7 +18,6 @@ use Rattle.dsde_syntax.specs.declared.expr.Expr.TheOpen.{Expr-F, ExprArm-F, Fiel
 use Rattle.dsde_syntax.specs.declared.expr.Expr.TheViews.{roll-ExprArm, roll-FieldSet}
 use Rattle.dsde_syntax.specs.Grammar.{Tokens, word, mark, id_tokens, commas, elses, in_braces, expr_tokens, expr_arm_tokens, field_set_tokens}
 use Rattle.dsde_syntax.specs.Levels.{stands_at, level_of, is_expr, is_builtin, is_expr_arm, is_field_set}
-use Rattle.dsde_grammar.specs.Want.{Want}
 use Rattle.dsde_grammar.specs.Want as want
 use Rattle.dsde_grammar.specs.Steps.{Wants, repeated, followed, args, choice_rest, field_set, prim_key, prim_step, expr_step, after_name_step, args_rest_step, more_expr_step, more_field_step, row_rest_step, test_step, else_rest_step}
 use Rattle.dsde_grammar.proofs.Layers.{expr_arm-tokens, expr_arm-level, field_set-tokens, field_set-level}

@@ -18,7 +18,6 @@ use Rattle.dsde_syntax.specs.Grammar.{optional as optional_tokens}
 use Rattle.dsde_syntax.specs.Levels.{level_if, stands_at, has_first, all_hold, if_written, is_builtin, level_of, is_expr_arm, is_field_set}
 use Rattle.dsde_grammar.proofs.ExprReaders.{stops, begin_of, begins_expr, is_if}
 use Rattle.dsde_grammar.proofs.ListReads.{and-true}
-use Rattle.dsde_grammar.specs.Want.{Want}
 use Rattle.dsde_grammar.specs.Want as want
 use Rattle.dsde_grammar.specs.Steps.{Wants, stop, args, field_set}
 use Rattle.dsde_grammar.proofs.Leading.{any, Leads, AllFrom, AllPass, alternated, take, takes, last, lasts, closed, pair, beside, fewer, turned, ended, left, separated}

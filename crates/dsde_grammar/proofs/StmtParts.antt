@@ -14,7 +14,6 @@ use Rattle.dsde_syntax.specs.declared.stmt.Stmt.TheFolds.{map-Stmt}
 use Rattle.dsde_syntax.specs.Grammar.{Tokens, word, mark, joined, in_braces, if_tokens, expr_tokens, stmt_tokens, stmt_arm_tokens}
 use Rattle.dsde_syntax.specs.Grammar.{stmt_step as stmt_tokens_step, block as block_tokens, else_block}
 use Rattle.dsde_syntax.specs.Levels.{is_expr, is_stmt, is_stmt_step, is_stmt_arm}
-use Rattle.dsde_grammar.specs.Want.{Want}
 use Rattle.dsde_grammar.specs.Want as want
 use Rattle.dsde_grammar.specs.Steps.{repeated, stmt_step, else_step, else_block_step, arm_rest}
 use Rattle.dsde_grammar.proofs.Layers.{stmt-tokens, stmt-level, stmt_arm-tokens, stmt_arm-level}

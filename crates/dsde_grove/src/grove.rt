@@ -1,7 +1,7 @@
 //! A tree of live parts.
 
-ghost use Rattle.std.specs.Prelude.{◌≡◌, ◌+◌, ◌*◌, ◌^◌, ◌<◌, ◌≤◌, ◌↔◌, ◌∷◌, [], length, IfOk, IfErr, IfSome, OnErr, IsErrAnd, IsNone, IfNone, OnSome, OnOk, IsSome, is_some, unwrap_or, ◌≢◌};
-ghost use Rattle.std.specs.Option.{option_copied, option_copied_mut, option_map};
+ghost use Rattle.std.specs.Prelude.{◌≡◌, ◌+◌, ◌*◌, ◌^◌, ◌<◌, ◌≤◌, ◌↔◌, IfOk, IfErr, IfSome, OnErr, IsNone, IfNone, OnSome, IsSome, is_some, unwrap_or};
+ghost use Rattle.std.specs.Option.{option_copied, option_copied_mut};
 ghost use Rattle.std.specs.FinMap as map;
 ghost use Rattle.std.specs.Borrow.{Lends, LendsIf, sem};
 ghost use Rattle.dsde_bank.specs.declared.handle.Handle.{Handle};

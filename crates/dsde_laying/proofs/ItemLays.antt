@@ -29,8 +29,6 @@ use Rattle.dsde_nodes.specs.Items as said
 use Rattle.dsde_nodes.specs.Items.{Place, end_ports, model_id}
 use Rattle.dsde_laying.specs.Lay.{Laid, lay}
 use Rattle.dsde_laying.specs.LayPieces as step
-use Rattle.dsde_nodes.specs.declared.tables.Tables.{Tables}
-use Rattle.dsde_laying.specs.LayPieces.{LaidPiece}
 use Rattle.dsde_laying.specs.LayItems as laid
 use Rattle.dsde_laying.proofs.Lays as of_expr
 use Rattle.dsde_laying.proofs.PieceLays.{Lays, made, same-tables, give-lays, bound-lays, binding-lays, inside-lays, then-lays, maybe-lays, all-lays, map-same}

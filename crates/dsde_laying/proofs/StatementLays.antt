@@ -23,12 +23,10 @@ use Rattle.dsde_nodes.specs.declared.ids.ExprId.{ExprId}
 use Rattle.dsde_nodes.specs.Typing.{Scope, slot_of, with_slots, item_in}
 use Rattle.dsde_nodes.specs.Expressions.{resolve}
 use Rattle.dsde_nodes.specs.Pieces as piece
-use Rattle.dsde_nodes.specs.Pieces.{Block}
 use Rattle.dsde_nodes.specs.Statements as said
 use Rattle.dsde_nodes.specs.Statements.{FuncParts, Blocks, typed_fields, port_fields, input_fields, body_scope, phase_at}
 use Rattle.dsde_laying.specs.Lay.{lay}
 use Rattle.dsde_laying.specs.LayPieces as step
-use Rattle.dsde_nodes.specs.declared.tables.Tables.{Tables}
 use Rattle.dsde_laying.specs.LayPieces.{LaidPiece}
 use Rattle.dsde_laying.specs.LayStatements as laid
 use Rattle.dsde_laying.specs.LaidIs.{next_of}

@@ -18,7 +18,7 @@ use Rattle.dsde_meaning.specs.Typed.{Typed, Fits, values_in}
 use Rattle.dsde_meaning.specs.Scopes.{Stands, Sees}
 use Rattle.dsde_plans.specs.Layout.{Layout, Lay, lay_all, braced, for_one, for_lay}
 use Rattle.dsde_plans.specs.Drafts as over_slots
-use Rattle.dsde_plans.specs.Drafts.{Draft, draft_of, draw, for_draw}
+use Rattle.dsde_plans.specs.Drafts.{Draft, draft_of, for_draw}
 use Rattle.dsde_typing.specs.Values.{AllHave, all-cons}
 use Rattle.dsde_typing.specs.Steps.{went, ok-is}
 use Rattle.dsde_typing.specs.Truths.{and-left, and-right}

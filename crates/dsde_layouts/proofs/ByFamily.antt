@@ -15,7 +15,7 @@ use Rattle.dsde_structure.specs.declared.plan.End.{End}
 use Rattle.dsde_structure.specs.declared.plan.Entry.{Entry}
 use Rattle.dsde_structure.specs.declared.plan.Part.{Part}
 use Rattle.dsde_structure.specs.declared.plan.Part.TheVariants as part
-use Rattle.dsde_plans.specs.declared.laid.Laid.{Laid}
+use Rattle.dsde_plans.specs.declared.placed.PlacedLink.{PlacedLink}
 use Rattle.dsde_standing.specs.Bodies.{Own, owns_of}
 use Rattle.dsde_system.specs.Plans.{ways, body_ways, HasPort, Joins, IsThrough, FitsEntry}
 use Rattle.dsde_typing.specs.Places.{Placed, placed}
@@ -62,13 +62,13 @@ module _ (model : Model) (own : Own) (families : List Family) where
     pub has : HasPort ports end.port ty
 
   -- a link, whose components need not be there
-  pub record LinkBy (laid : Laid) : Type 0 where
+  pub record LinkBy (placed : PlacedLink) : Type 0 where
     pub source : Ty
-    pub from : EndBy true laid.link.from source
+    pub from : EndBy true placed.link.from source
     pub target : Ty
-    pub to : EndBy false laid.link.to target
-    pub joins : Joins model laid.link.via source target
-    pub not_through : IsThrough laid.link.from.part laid.link.to.part → ⊥
+    pub to : EndBy false placed.link.to target
+    pub joins : Joins model placed.link.via source target
+    pub not_through : IsThrough placed.link.from.part placed.link.to.part → ⊥
 
   -- a component, of the model that its identifier has
   pub record EntryBy (entry : Entry) : Type 0 where

@@ -17,7 +17,7 @@ use Rattle.dsde_rules.specs.declared.wrong.WrongKind.TheVariants.{Unknown, Mixed
 use Rattle.dsde_rules.specs.Steps.{◌>>=◌, wrong, unless}
 use Rattle.dsde_rules.specs.Tables.{added, family_name, model_name}
 use Rattle.dsde_rules.specs.Structures as rules
-use Rattle.dsde_rules.specs.Structures.{Enter, family_named, enter, enter_all, enter_last, enter_step, enter_arm_step, with_comp, comp_family}
+use Rattle.dsde_rules.specs.Structures.{Enter, family_named, enter, enter_all, enter_step, enter_arm_step, with_comp, comp_family}
 use Rattle.dsde_nodes.specs.Items.{Kin, kin_all, kin_of, kin_step, kin_arm_step}
 use Rattle.dsde_nodes.specs.Items as nodes
 use Rattle.dsde_typing.specs.Steps.{went, ok-is, unless-is}

@@ -18,7 +18,7 @@ use Rattle.dsde_meaning.specs.Tables.{Coded, Part, means_in}
 use Rattle.dsde_meaning.specs.Proper.{is_proper}
 use Rattle.dsde_meaning.specs.Typed.{Sound, Fits, values_in}
 use Rattle.dsde_meaning.specs.Agreement.{Agrees}
-use Rattle.dsde_plans.specs.declared.laid.Laid.{Laid}
+use Rattle.dsde_plans.specs.declared.placed.PlacedLink.{PlacedLink}
 use Rattle.dsde_plans.specs.Layout.{Layout}
 use Rattle.dsde_plans.specs.Drafts.{Draft, Draw, draft_of}
 use Rattle.dsde_layouts.proofs.Gets.{Gets}
@@ -37,7 +37,7 @@ pub record Ground : Type 1 where
   pub depth : ℕ
   pub deep : 512 ≤ depth
   pub entry_is : Entry → Type 0
-  pub link_is : Laid → Type 0
+  pub link_is : PlacedLink → Type 0
   pub exprs : (e : Expr) → is_proper e ≡ true
       → Agrees types coded site.around.has_elapsed site.around.is_total (judge site.around e) (resolve place.known e) (mean place.known functions e)
 

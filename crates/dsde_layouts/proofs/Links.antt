@@ -17,7 +17,7 @@ use Rattle.dsde_rules.specs.Structures as rule_structures
 use Rattle.dsde_rules.specs.Structures.{through}
 use Rattle.dsde_nodes.specs.declared.code.ViaCode.{ViaCode}
 use Rattle.dsde_nodes.specs.Items as nodes
-use Rattle.dsde_nodes.specs.Items.{end_ports, resolve_end, resolve_part, maybe_via, via_by}
+use Rattle.dsde_nodes.specs.Items.{end_ports, resolve_end, maybe_via, via_by}
 use Rattle.dsde_nodes.specs.Models.{types_of, resolved}
 use Rattle.dsde_nodes.specs.Pieces.{Next, behind}
 use Rattle.dsde_nodes.specs.Typing.{slot_type}
@@ -30,7 +30,7 @@ use Rattle.dsde_proper.specs.Items as proper
 use Rattle.dsde_standing.specs.Bodies.{Own}
 use Rattle.dsde_standing.specs.Places.{KnownAt}
 use Rattle.dsde_standing.specs.Structures.{vias_of, vias_there}
-use Rattle.dsde_plans.specs.declared.laid.Laid.{Laid}
+use Rattle.dsde_plans.specs.declared.placed.PlacedLink.{PlacedLink}
 use Rattle.dsde_plans.specs.Layout.{most, vias_in, with_link, end_of, via_of, item_step}
 use Rattle.dsde_plans.specs.Drafts.{end_at, via_at}
 use Rattle.dsde_system.specs.Plans.{Joins}
@@ -46,17 +46,17 @@ use Rattle.dsde_layouts.proofs.Ends.{PlaceIs, EndIs, end-at, end-gets, part-scop
 use Rattle.dsde_layouts.proofs.Vias.{via-gets}
 use Rattle.dsde_layouts.proofs.Items.{LinksDo}
 
-module _ (Is : Laid → Type 0) where
-  links-snoc : (links : List Laid) (own : Laid) → AllByRecursion Is links → Is own → AllByRecursion Is (links ++ own ∷ [])
+module _ (Is : PlacedLink → Type 0) where
+  links-snoc : (links : List PlacedLink) (own : PlacedLink) → AllByRecursion Is links → Is own → AllByRecursion Is (links ++ own ∷ [])
   links-snoc [] own all is = (is, tt)
   links-snoc (first ∷ links) own all is = (all.0, links-snoc links own all.1 is)
 
-  link-if : (room : Bool) (at : ℕ) (links : List Laid) → AllByRecursion Is links → Sound false (AllByRecursion Is) (if room then Ok links else Err (Fault TooManyLinks at))
+  link-if : (room : Bool) (at : ℕ) (links : List PlacedLink) → AllByRecursion Is links → Sound false (AllByRecursion Is) (if room then Ok links else Err (Fault TooManyLinks at))
   link-if true at links all = all
   link-if false at links all = refl
 
   -- one more link
-  with-link-sound : (at : ℕ) (link : Link) (links : List Laid) → Is (record { at = at; link = link }) → AllByRecursion Is links → Sound false (AllByRecursion Is) (with_link at link links)
+  with-link-sound : (at : ℕ) (link : Link) (links : List PlacedLink) → Is (record { at = at; link = link }) → AllByRecursion Is links → Sound false (AllByRecursion Is) (with_link at link links)
   with-link-sound at link links is all = link-if (nat_lt (length links) most) at (links ++ record { at = at; link = link } ∷ []) (links-snoc links (record { at = at; link = link }) all is)
 
 -- what an end and a translation leave
@@ -94,7 +94,7 @@ via-told (Some via) = refl
 
 module _ (m : Model) (own : Own) (g : Ground) (is : PlaceIs m own g.site g.place) (known : KnownAt m g.site.around.known)
     (nodes_are : g.coded.nodes ≡ (resolved m).nodes) (codes_are : g.codes ≡ (resolved m).vias) (written_are : g.written ≡ vias_of m) (types_are : g.types ≡ types_of m)
-    (are : (laid : Laid) → LinkBy m own g.site.families laid → g.link_is laid) where
+    (are : (placed : PlacedLink) → LinkBy m own g.site.families placed → g.link_is placed) where
   abbrev E : Bool
   E = g.site.around.has_elapsed
 
@@ -175,8 +175,8 @@ module _ (m : Model) (own : Own) (g : Ground) (is : PlaceIs m own g.site g.place
               (subst (λ (n : ℕ). Stands g.written n (vias_there via)) (sym number) ready.words) (omega (arith, low))))
               (λ own_via joins.
               let link : Link = record { from = one_end; to = two_end; via = own_via } in
-              let laid : Laid = record { at = at; link = link } in
-              let link_is : g.link_is laid = are laid (record {
+              let placed : PlacedLink = record { at = at; link = link } in
+              let link_is : g.link_is placed = are placed (record {
                 source = w1.value.ty;
                 from = one_is.by;
                 target = w2.value.ty;

@@ -20,7 +20,7 @@ use Rattle.dsde_structure.specs.Gather.{is_same_name}
 use Rattle.dsde_faults.specs.declared.kind.FaultKind.TheVariants.{DanglingLink}
 use Rattle.dsde_meaning.specs.Outcome.{Fault, Outcome}
 use Rattle.dsde_meaning.specs.Typed.{Sound}
-use Rattle.dsde_plans.specs.declared.laid.Laid.{Laid}
+use Rattle.dsde_plans.specs.declared.placed.PlacedLink.{PlacedLink}
 use Rattle.dsde_plans.specs.Layout.{is_there, has_part, tied}
 use Rattle.dsde_standing.specs.Bodies.{Own}
 use Rattle.dsde_system.specs.Plans.{ArePortsOf, HasKid, FitsLink, FitsEntry}
@@ -85,38 +85,38 @@ module _ (Is : Entry → Type 0) where
       there-at first entries name (is_same_name first.name name) refl h all (there-is entries name)
 
 -- Both ends of a link are there.
-pub record TiedBy (entries : List Entry) (laid : Laid) : Type 0 where
-  pub from : has_part entries laid.link.from.part ≡ true
-  pub to : has_part entries laid.link.to.part ≡ true
+pub record TiedBy (entries : List Entry) (placed : PlacedLink) : Type 0 where
+  pub from : has_part entries placed.link.from.part ≡ true
+  pub to : has_part entries placed.link.to.part ≡ true
 
-abbrev tied_if : Bool → List Entry → List Laid → ℕ → Outcome (Unit {0})
+abbrev tied_if : Bool → List Entry → List PlacedLink → ℕ → Outcome (Unit {0})
 tied_if b entries later at = if b then tied entries later else Err (Fault DanglingLink at)
 
-tied-if : (b : Bool) (entries : List Entry) (later : List Laid) (at : ℕ) (u : Unit {0}) → tied_if b entries later at ≡ Ok u → b ≡ true
+tied-if : (b : Bool) (entries : List Entry) (later : List PlacedLink) (at : ℕ) (u : Unit {0}) → tied_if b entries later at ≡ Ok u → b ≡ true
 tied-if true entries later at u h = refl
 tied-if false entries later at u h = absurd (cc h)
 
-tied-later : (b : Bool) (entries : List Entry) (later : List Laid) (at : ℕ) (u : Unit {0}) → tied_if b entries later at ≡ Ok u → tied entries later ≡ Ok u
+tied-later : (b : Bool) (entries : List Entry) (later : List PlacedLink) (at : ℕ) (u : Unit {0}) → tied_if b entries later at ≡ Ok u → tied entries later ≡ Ok u
 tied-later true entries later at u h = h
 tied-later false entries later at u h = absurd (cc h)
 
-pub tied-all : (entries : List Entry) (links : List Laid) (u : Unit {0}) → tied entries links ≡ Ok u → AllByRecursion (TiedBy entries) links
+pub tied-all : (entries : List Entry) (links : List PlacedLink) (u : Unit {0}) → tied entries links ≡ Ok u → AllByRecursion (TiedBy entries) links
 tied-all entries [] u h = tt
-tied-all entries (laid ∷ later) u h =
-    let from : Bool = has_part entries laid.link.from.part in
-    let to : Bool = has_part entries laid.link.to.part in
-    let both : (from && to) ≡ true = tied-if (from && to) entries later laid.at u h in
-    (record { from = and-left from to both; to = and-right from to both }, tied-all entries later u (tied-later (from && to) entries later laid.at u h))
+tied-all entries (placed ∷ later) u h =
+    let from : Bool = has_part entries placed.link.from.part in
+    let to : Bool = has_part entries placed.link.to.part in
+    let both : (from && to) ≡ true = tied-if (from && to) entries later placed.at u h in
+    (record { from = and-left from to both; to = and-right from to both }, tied-all entries later u (tied-later (from && to) entries later placed.at u h))
 
 -- Links are tied or the first that is not says so; they are never stuck.
-tied-if-sure : (b : Bool) (entries : List Entry) (later : List Laid) (at : ℕ) → Sound false (λ (u : Unit {0}). Unit {0}) (tied entries later) → Sound false (λ (u : Unit {0}). Unit {0}) (tied_if b entries later at)
+tied-if-sure : (b : Bool) (entries : List Entry) (later : List PlacedLink) (at : ℕ) → Sound false (λ (u : Unit {0}). Unit {0}) (tied entries later) → Sound false (λ (u : Unit {0}). Unit {0}) (tied_if b entries later at)
 tied-if-sure true entries later at h = h
 tied-if-sure false entries later at h = refl
 
-pub tied-sure : (entries : List Entry) (links : List Laid) → Sound false (λ (u : Unit {0}). Unit {0}) (tied entries links)
+pub tied-sure : (entries : List Entry) (links : List PlacedLink) → Sound false (λ (u : Unit {0}). Unit {0}) (tied entries links)
 tied-sure entries [] = tt
-tied-sure entries (laid ∷ later) =
-    tied-if-sure (has_part entries laid.link.from.part && has_part entries laid.link.to.part) entries later laid.at (tied-sure entries later)
+tied-sure entries (placed ∷ later) =
+    tied-if-sure (has_part entries placed.link.from.part && has_part entries placed.link.to.part) entries later placed.at (tied-sure entries later)
 
 module _ (m : Model) (own : Own) (families : List Family) where
   abbrev Entries : List Entry → Type 0
@@ -147,17 +147,17 @@ module _ (m : Model) (own : Own) (families : List Family) where
     part-fits is_source part.Boss ports h by = by
     part-fits is_source (part.Kid name) ports h by = kid-fits name is_source ports h by
 
-    link-fits : (laid : Laid) → LinkBy m own families laid → TiedBy entries laid → FitsLink m own entries laid.link
-    link-fits laid by both = record {
+    link-fits : (placed : PlacedLink) → LinkBy m own families placed → TiedBy entries placed → FitsLink m own entries placed.link
+    link-fits placed by both = record {
       source = by.source;
-      from = record { ports = by.from.ports; are = part-fits true laid.link.from.part by.from.ports both.from by.from.are; has = by.from.has };
+      from = record { ports = by.from.ports; are = part-fits true placed.link.from.part by.from.ports both.from by.from.are; has = by.from.has };
       target = by.target;
-      to = record { ports = by.to.ports; are = part-fits false laid.link.to.part by.to.ports both.to by.to.are; has = by.to.has };
+      to = record { ports = by.to.ports; are = part-fits false placed.link.to.part by.to.ports both.to by.to.are; has = by.to.has };
       joins = by.joins;
       not_through = by.not_through;
     }
 
-    pub links-fit : (links : List Laid) → AllByRecursion (LinkBy m own families) links → AllByRecursion (TiedBy entries) links
-        → AllByRecursion (FitsLink m own entries) (map (λ (laid : Laid). laid.link) links)
+    pub links-fit : (links : List PlacedLink) → AllByRecursion (LinkBy m own families) links → AllByRecursion (TiedBy entries) links
+        → AllByRecursion (FitsLink m own entries) (map (λ (placed : PlacedLink). placed.link) links)
     links-fit [] by both = tt
-    links-fit (laid ∷ links) by both = (link-fits laid by.0 both.0, links-fit links by.1 both.1)
+    links-fit (placed ∷ links) by both = (link-fits placed by.0 both.0, links-fit links by.1 both.1)

@@ -28,7 +28,7 @@ use Rattle.dsde_functions.specs.Coded.{FunctionsAgree, coded_of}
 use Rattle.dsde_standing.specs.Bodies.{Own, owns_of, body_slots}
 use Rattle.dsde_standing.specs.Laws.{KnownIsWithin}
 use Rattle.dsde_standing.specs.Structures.{IsStructure, ModelsAre, ModelsAreKnown, PortsApart, vias_in, vias_of}
-use Rattle.dsde_plans.specs.declared.laid.Laid.{Laid}
+use Rattle.dsde_plans.specs.declared.placed.PlacedLink.{PlacedLink}
 use Rattle.dsde_plans.specs.Layout.{Layout, lay, lay_all, tied, plan_of, structure}
 use Rattle.dsde_plans.specs.Drafts.{Draft, draws, draft_of}
 use Rattle.dsde_system.specs.Plans.{FitsPlan}
@@ -75,7 +75,7 @@ tied-then (Err Stuck) plan h = h
 
 -- the plan of a layout is never stuck
 plan-sure : (P : Layout → Type 0) (x : Outcome Layout) → Sound false P x → Sound false (λ (p : Plan). Unit {0}) (x >>= plan_in)
-plan-sure P (Ok after) h = tied-then (tied after.entries after.links) (record { entries = after.entries; links = map (λ (laid : Laid). laid.link) after.links }) (tied-sure after.entries after.links)
+plan-sure P (Ok after) h = tied-then (tied after.entries after.links) (record { entries = after.entries; links = map (λ (placed : PlacedLink). placed.link) after.links }) (tied-sure after.entries after.links)
 plan-sure P (Err (Fault kind at)) h = refl
 plan-sure P (Err Stuck) h = h
 
@@ -90,12 +90,12 @@ module _ (model : Model) (own : Own) (families : List Family) where
     pub entries : AllByRecursion (EntryBy model own families) layout.entries
     pub links : AllByRecursion (LinkBy model own families) layout.links
 
-  plan-tied : (entries : List Entry) (links : List Laid) (found : Outcome (Unit {0})) → tied entries links ≡ found → (plan : Plan)
+  plan-tied : (entries : List Entry) (links : List PlacedLink) (found : Outcome (Unit {0})) → tied entries links ≡ found → (plan : Plan)
       → AllByRecursion (EntryBy model own families) entries → AllByRecursion (LinkBy model own families) links
-      → (found >>= (λ _. Ok (record { entries = entries; links = map (λ (laid : Laid). laid.link) links }))) ≡ Ok plan → IsInOrder plan.entries → FitsPlan model own plan
+      → (found >>= (λ _. Ok (record { entries = entries; links = map (λ (placed : PlacedLink). placed.link) links }))) ≡ Ok plan → IsInOrder plan.entries → FitsPlan model own plan
   plan-tied entries links (Err halt) is plan all by h order = absurd (cc h)
   plan-tied entries links (Ok u) is plan all by h order =
-      let own_plan : Plan = record { entries = entries; links = map (λ (laid : Laid). laid.link) links } in
+      let own_plan : Plan = record { entries = entries; links = map (λ (placed : PlacedLink). placed.link) links } in
       let same : own_plan ≡ plan = cc h in
       subst (FitsPlan model own) same (record {
         order = subst (λ (p : Plan). IsInOrder p.entries) (sym same) order;
@@ -161,7 +161,7 @@ module _ (agree : ExpressionsAgree) (functions : FunctionsAgree) (within : Known
         execs = is.exec_ports;
       } in
       let comps = comps-do g (entry-by model own is.families is.around.known all same) in
-      let links = links-do model own g place is.known refl refl refl refl (λ laid by. by) in
+      let links = links-do model own g place is.known refl refl refl refl (λ placed by. by) in
       let w1 = went (walk_all (map (item_walk g.site) items) 0 is.scope) _ is.height is.judged in
       let high : w1.value.height ≡ is.height = ok-is w1.value.height is.height w1.next in
       let done = (items-do g comps links items).does (list_all-map (λ (own : Bool). own) is_proper_item items ∙ is.proper)

@@ -1,6 +1,6 @@
 //! The models of the components of a structure, found before its items are looked at.
 
-ghost use Rattle.std.specs.Prelude.{◌≡◌, ◌==◌, map, not};
+ghost use Rattle.std.specs.Prelude.{◌==◌, map, not};
 ghost use Rattle.dsde_rules.specs.declared.wrong.WrongKind.TheVariants.{MixedFamily};
 ghost use Rattle.dsde_rules.specs.Steps.{unless};
 ghost use Rattle.dsde_rules.specs.Structures.{with_comp, comp_family, enter, enter_all};

@@ -1,6 +1,6 @@
 //! Structures.
 
-ghost use Rattle.std.specs.Prelude.{◌≡◌, [], map};
+ghost use Rattle.std.specs.Prelude.{[], map};
 ghost use Rattle.dsde_rules.specs.Blocks.{inner};
 ghost use Rattle.dsde_rules.specs.Structures.{enter, enter_all, item_walk, structure_of};
 ghost use Rattle.dsde_scope.specs.Says.{Says};

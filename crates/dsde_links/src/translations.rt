@@ -1,6 +1,6 @@
 //! The translations of links.
 
-ghost use Rattle.std.specs.Prelude.{◌≡◌, [], ◌∷◌, ◌++◌, false, not, IfOk, OnOk};
+ghost use Rattle.std.specs.Prelude.{◌≡◌, [], ◌∷◌, ◌++◌, false, IfOk, OnOk};
 ghost use Rattle.dsde_names.specs.Table.{is_among};
 ghost use Rattle.dsde_values.specs.declared.types.Ty.TheVariants as ty;
 ghost use Rattle.dsde_rules.specs.Tables.{binding_name};

@@ -1,13 +1,10 @@
 -- That an expression in which nothing is wrong has its type, and means in tables what it means over names.
-use Rattle.std.specs.Prelude.{◌≡◌, ℕ, ◌≤◌, ◌++◌, Bool, true, List, ◌∷◌, map, Result, Ok, Err}
+use Rattle.std.specs.Prelude.{◌≡◌, ℕ, ◌≤◌, ◌++◌, Bool, true, List, map, Ok}
 use Rattle.std.specs.List.{list_all}
 use Rattle.dsde_syntax.specs.declared.expr.Expr.{Expr}
 use Rattle.dsde_syntax.specs.declared.stmt.Stmt.{Stmt}
-use Rattle.dsde_values.specs.declared.arrival.Item.{Item}
 use Rattle.dsde_values.specs.declared.types.Field.{Field}
-use Rattle.dsde_values.specs.declared.types.Ty.{Ty}
 use Rattle.dsde_values.specs.declared.types.Types.{Types}
-use Rattle.dsde_values.specs.declared.value.Value.{Value}
 use Rattle.dsde_rules.specs.declared.known.Around.{Around}
 use Rattle.dsde_rules.specs.declared.known.Known.{Known}
 use Rattle.dsde_rules.specs.declared.seen.Seen.{Seen}
@@ -19,7 +16,6 @@ use Rattle.dsde_rules.specs.Blocks as rule_blocks
 use Rattle.dsde_nodes.specs.Expressions.{Resolved, resolve, expr_id}
 use Rattle.dsde_nodes.specs.Pieces.{Block, Next, Piece}
 use Rattle.dsde_nodes.specs.Statements.{resolve_stmts}
-use Rattle.dsde_meaning.specs.Outcome.{Outcome}
 use Rattle.dsde_meaning.specs.Meaning.{Vars, Mean, Function, Scene, Walk, mean, block}
 use Rattle.dsde_meaning.specs.Tables.{Coded, means_in, acts_flow}
 use Rattle.dsde_meaning.specs.Proper.{is_proper, is_proper_stmt}

@@ -1,5 +1,5 @@
 -- The functions of a model.
-use Rattle.std.specs.Prelude.{ℕ, ◌==◌, if◌then◌else◌, List, [], ◌∷◌, ◌++◌, length, Result, Ok, Err}
+use Rattle.std.specs.Prelude.{◌==◌, if◌then◌else◌, List, [], ◌∷◌, ◌++◌, length, Err}
 use Rattle.dsde_syntax.specs.declared.expr.Expr.{Expr}
 use Rattle.dsde_syntax.specs.declared.stmt.Stmt.{Stmt}
 use Rattle.dsde_syntax.specs.declared.decl.Decl.{Decl}
@@ -11,7 +11,7 @@ use Rattle.dsde_rules.specs.declared.known.Known.{Known}
 use Rattle.dsde_nodes.specs.Models.{whole_of}
 use Rattle.dsde_meaning.specs.Outcome.{Outcome, Stuck, ◌>>=◌}
 use Rattle.dsde_meaning.specs.Flow.{lifted}
-use Rattle.dsde_meaning.specs.Meaning.{Var, Vars, Function, mean, block, scene}
+use Rattle.dsde_meaning.specs.Meaning.{Vars, Function, mean, block, scene}
 
 -- parameters with their values
 abbrev pub bound_params : List Typed → List Value → Vars

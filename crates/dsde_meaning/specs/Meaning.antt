@@ -1,5 +1,5 @@
 -- What expressions and statements mean, over the names that they see.
-use Rattle.std.specs.Prelude.{◌≡◌, ℕ, ℤ, pos, Bool, true, if◌then◌else◌, List, [], ◌∷◌, ◌++◌, length, map, take, Option, Some, None, unwrap_or, Result, Ok, Err, slice_get, slice_set}
+use Rattle.std.specs.Prelude.{ℕ, pos, Bool, true, if◌then◌else◌, List, [], ◌∷◌, ◌++◌, length, map, take, Option, Some, None, unwrap_or, Ok, Err, slice_get, slice_set}
 use Rattle.std.specs.Option.{option_map}
 use Rattle.dsde_names.specs.Table.{place_of, named}
 use Rattle.dsde_words.specs.declared.key.Key.{Key}
@@ -13,7 +13,7 @@ use Rattle.dsde_syntax.specs.declared.stmt.Stmt.TheFolds.{fold-Stmt, fold-StmtAr
 use Rattle.dsde_syntax.specs.declared.stmt.StmtArm.{StmtArm}
 use Rattle.dsde_values.specs.declared.arrival.Item.{Item}
 use Rattle.dsde_values.specs.declared.types.Field.{Field}
-use Rattle.dsde_values.specs.declared.value.Value.{Value, Value-F, out-Value}
+use Rattle.dsde_values.specs.declared.value.Value.{Value, out-Value}
 use Rattle.dsde_values.specs.declared.value.Value.TheOpen as layer
 use Rattle.dsde_values.specs.declared.value.Value.TheVariants as value
 use Rattle.dsde_rules.specs.declared.known.Known.{Known}
@@ -24,7 +24,7 @@ use Rattle.dsde_nodes.specs.declared.node.Binary.TheVariants as binary
 use Rattle.dsde_nodes.specs.Typing.{elapsed_name, slot_of, type_number, variant_number}
 use Rattle.dsde_nodes.specs.Expressions.{nested, sign_binary, builtin_of}
 use Rattle.dsde_meaning.specs.Outcome.{Outcome, Stuck, ◌>>=◌, present, truth_of, items_of}
-use Rattle.dsde_meaning.specs.Operators.{combined, operated, denied, negated, or_else, unwrapped, indexed, listed, of_one, of_two, of_three}
+use Rattle.dsde_meaning.specs.Operators.{combined, denied, negated, or_else, unwrapped, indexed, listed, of_one, of_two, of_three}
 use Rattle.dsde_meaning.specs.Flow.{Flow, stopped, over, inside}
 
 -- a name and its value; `elapsed` is one of them, under its word

@@ -1,6 +1,6 @@
 -- What an expression comes to: a value, or the first fault with its place.
 use Rattle.std.specs.Prelude.{◌≡◌, ℕ, ℤ, Bool, List, Option, Some, None, Result, Ok, Err}
-use Rattle.dsde_values.specs.declared.value.Value.{Value, Value-F, out-Value}
+use Rattle.dsde_values.specs.declared.value.Value.{Value, out-Value}
 use Rattle.dsde_values.specs.declared.value.Value.TheOpen as layer
 use Rattle.dsde_faults.specs.declared.kind.FaultKind.{FaultKind}
 use Rattle.dsde_faults.specs.declared.end.EvalEnd.{EvalEnd}

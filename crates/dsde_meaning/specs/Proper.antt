@@ -1,6 +1,6 @@
 -- What the grammar and the tokens of a text grant: numbers are of 63 bits, each sign and each builtin
 -- is one of its level, an `if` has an arm, and no name is the word `elapsed`.
-use Rattle.std.specs.Prelude.{ℕ, ◌^◌, nat_lt, Bool, true, ◌&&◌, not, List, Option}
+use Rattle.std.specs.Prelude.{◌^◌, nat_lt, Bool, true, ◌&&◌, not, List, Option}
 use Rattle.std.specs.List.{list_all}
 use Rattle.std.specs.Option.{option_map_or}
 use Rattle.std.specs.Str.{bytes_eq}

@@ -1,6 +1,6 @@
 -- How the names that the rules see stand to slots, and what is known at a place to what is known of
 -- the whole file.
-use Rattle.std.specs.Prelude.{◌≡◌, ◌≢◌, ℕ, ◌^◌, ◌≤◌, Bool, true, false, List, ◌++◌, length, Option, Some, None, slice_get}
+use Rattle.std.specs.Prelude.{◌≡◌, ◌≢◌, ℕ, ◌^◌, ◌≤◌, Bool, true, false, List, ◌++◌, length, Some, slice_get}
 use Rattle.dsde_names.specs.Table.{place_of, named, is_among}
 use Rattle.dsde_values.specs.declared.types.Field.{Field}
 use Rattle.dsde_values.specs.declared.types.Ty.{Ty}
@@ -16,7 +16,7 @@ use Rattle.dsde_rules.specs.Tables.{binding_name, field_name, func_name, port_na
 use Rattle.dsde_rules.specs.Judge.{bound_to, declared_type, type_at, fields_at, variants_at}
 use Rattle.dsde_rules.specs.Judge as rules
 use Rattle.dsde_nodes.specs.Typing.{elapsed_name, func_number, func_type}
-use Rattle.dsde_meaning.specs.Meaning.{Function, function_name, called}
+use Rattle.dsde_meaning.specs.Meaning.{Function, called}
 use Rattle.dsde_meaning.specs.Tables.{Coded, means_in, called_at}
 use Rattle.dsde_meaning.specs.Typed.{Typed, Sound, AllTyped}
 

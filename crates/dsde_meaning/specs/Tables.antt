@@ -1,5 +1,5 @@
 -- What the expressions and the blocks of tables mean, over slots and to a depth.
-use Rattle.std.specs.Prelude.{◌≡◌, ℕ, zero, suc, nat_lt, ℤ, Bool, true, if◌then◌else◌, List, [], ◌∷◌, ◌++◌, length, take, Option, Some, None, Result, Ok, Err, slice_get, slice_set}
+use Rattle.std.specs.Prelude.{◌≡◌, ℕ, zero, suc, nat_lt, Bool, true, if◌then◌else◌, List, [], ◌∷◌, ◌++◌, length, take, Option, Some, None, Result, Ok, Err, slice_get, slice_set}
 use Rattle.dsde_values.specs.declared.arrival.Item.{Item}
 use Rattle.dsde_values.specs.declared.value.Value.{Value}
 use Rattle.dsde_values.specs.declared.value.Value.TheVariants as value
@@ -16,9 +16,9 @@ use Rattle.dsde_nodes.specs.declared.node.Node.{Node}
 use Rattle.dsde_nodes.specs.declared.node.Node.TheVariants as node
 use Rattle.dsde_nodes.specs.declared.node.NodeArm.{NodeArm}
 use Rattle.dsde_nodes.specs.Pieces.{Block}
-use Rattle.dsde_meaning.specs.Outcome.{Halt, Fault, Stuck, Outcome, ◌>>=◌, present, truth_of, items_of, parts_of}
+use Rattle.dsde_meaning.specs.Outcome.{Fault, Stuck, Outcome, ◌>>=◌, present, truth_of, items_of, parts_of}
 use Rattle.dsde_meaning.specs.Operators.{combined, denied, negated, or_else, unwrapped, indexed, listed, of_one, of_two, of_three}
-use Rattle.dsde_meaning.specs.Flow.{Flow, Stopped, stopped, over, inside, lifted}
+use Rattle.dsde_meaning.specs.Flow.{Flow, stopped, over, inside, lifted}
 
 -- the tables of expressions, of blocks and of functions
 pub record Coded : Type 0 where

@@ -1,5 +1,5 @@
 -- Values that have a type, and outcomes that no model meets in which nothing is wrong.
-use Rattle.std.specs.Prelude.{◌≡◌, ℕ, Bool, true, false, List, [], ◌∷◌, map, Some, Result, Ok, Err, slice_get}
+use Rattle.std.specs.Prelude.{◌≡◌, Bool, true, false, List, [], ◌∷◌, map, Some, Ok, Err, slice_get}
 use Rattle.dsde_values.specs.declared.arrival.Item.{Item}
 use Rattle.dsde_values.specs.declared.types.Field.{Field}
 use Rattle.dsde_values.specs.declared.types.Ty.{Ty}
@@ -7,7 +7,7 @@ use Rattle.dsde_values.specs.declared.types.Types.{Types}
 use Rattle.dsde_values.specs.declared.value.Value.{Value}
 use Rattle.dsde_values.specs.Value.{has_type}
 use Rattle.dsde_meaning.specs.Outcome.{Halt, Fault, Stuck, Outcome}
-use Rattle.dsde_meaning.specs.Flow.{Flow, Stopped, stopped}
+use Rattle.dsde_meaning.specs.Flow.{Flow, stopped}
 use Rattle.dsde_meaning.specs.Meaning.{Var, Vars, Scene}
 use Rattle.dsde_meaning.specs.Tables.{State, state_of}
 

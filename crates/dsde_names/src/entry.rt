@@ -1,6 +1,6 @@
 //! Items of a table, which are equal where their names are.
 
-ghost use Rattle.std.specs.Prelude.{◌≡◌, ℕ, List, [], ◌∷◌};
+ghost use Rattle.std.specs.Prelude.{◌≡◌, [], ◌∷◌};
 ghost use Rattle.std.proofs.Common.{sym};
 ghost use Rattle.std.specs.Str.{bytes_eq};
 ghost use Rattle.dsde_names.specs.Alike.{names_equivalence, names_partial, one_write, as_found};

@@ -1,6 +1,6 @@
 //! Tables of items that are found by name.
 
-ghost use Rattle.std.specs.Prelude.{◌≡◌, ◌<◌, [], ◌∷◌, ◌++◌, not, false, if◌then◌else◌, is_some, length, take, slice_get, IfOk, IfSome, OnOk, OnErr};
+ghost use Rattle.std.specs.Prelude.{◌≡◌, ◌<◌, [], ◌∷◌, ◌++◌, not, false, if◌then◌else◌, is_some, length, take, slice_get, IfOk, OnOk, OnErr};
 ghost use Rattle.std.specs.Option.{option_copied, option_map};
 ghost use Rattle.dsde_names.specs.Table.{place_of, named, is_among};
 

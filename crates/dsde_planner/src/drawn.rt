@@ -8,7 +8,7 @@ ghost use Rattle.dsde_planner.specs.Drawing.{Becomes};
 use crate::entries::Entries;
 use dsde_faults::{EvalEnd, FaultKind};
 use dsde_lists::Memory;
-use dsde_plans::Laid;
+use dsde_plans::PlacedLink;
 use dsde_structure::{Entry, Link, Part, Plan};
 use dsde_values::Seq;
 use std::alloc::Global;
@@ -20,7 +20,7 @@ const MOST: usize = 65_536;
 #[derive(Drop)]
 pub(crate) struct Drawn {
     pub entries: Entries,
-    pub links: Seq<Laid>,
+    pub links: Seq<PlacedLink>,
 }
 
 impl Drawn {
@@ -59,7 +59,7 @@ impl Drawn {
         if self.links.len() >= MOST {
             return Err(EvalEnd::Fault(FaultKind::TooManyLinks, at));
         }
-        self.links.push(Laid { at, link })?;
+        self.links.push(PlacedLink { at, link })?;
         Ok(())
     }
 
@@ -89,24 +89,24 @@ fn has_part(entries: &Entries, part: &Part) -> bool
 }
 
 /// Finds the first link of which an end is not there.
-fn tied(entries: &Entries, links: &[Laid]) -> Result<(), EvalEnd>
+fn tied(entries: &Entries, links: &[PlacedLink]) -> Result<(), EvalEnd>
     ensures { Gives (tied entries.now links.now) result }
 {
-    for laid in links {
-        let link = &laid.link;
+    for placed in links {
+        let link = &placed.link;
         if !has_part(entries, &link.from.part) || !has_part(entries, &link.to.part) {
-            return Err(EvalEnd::Fault(FaultKind::DanglingLink, laid.at));
+            return Err(EvalEnd::Fault(FaultKind::DanglingLink, placed.at));
         }
     }
     Ok(())
 }
 
 /// The links without their places.
-fn bare(alloc: Global, laid: Seq<Laid>) -> Result<Seq<Link>, Memory>
-    ensures { IfOk result (λ links. links ≡ map (λ own. own.link) laid) }
+fn bare(alloc: Global, placed: Seq<PlacedLink>) -> Result<Seq<Link>, Memory>
+    ensures { IfOk result (λ links. links ≡ map (λ own. own.link) placed) }
 {
     let mut links = Seq::new(alloc);
-    for Laid { at: _, link } in laid.into_vec() {
+    for PlacedLink { at: _, link } in placed.into_vec() {
         links.push(link)?;
     }
     Ok(links)

@@ -1,6 +1,6 @@
 //! The planner of tables.
 
-ghost use Rattle.std.specs.Prelude.{◌≡◌, ◌≢◌, ◌++◌, ◌∷◌, [], false, Some, Ok, Err, IfOk, map};
+ghost use Rattle.std.specs.Prelude.{◌≡◌, ◌≢◌, [], false, Some, Ok, Err, IfOk, map};
 ghost use Rattle.dsde_meaning.specs.Outcome.{Stuck, Gives};
 ghost use Rattle.dsde_meaning.specs.Tables.{values_from, holds_at};
 ghost use Rattle.dsde_plans.specs.Layout.{natural};
@@ -48,13 +48,14 @@ fn natural(at: u32, number: i64) -> Result<Option<u64>, EvalEnd>
 impl Planner<'_> {
     /// The plan that the items of a structure give over slots, where that is a plan or a fault: its
     /// components in the order of their names and its links in the order in which they came, or the
-    /// first fault with its place. `Memory` where memory runs out. Nothing is said of the slots.
-    pub fn plan(&self, makes: &[Make], slots: &mut Seq<Value>) -> Result<Plan, EvalEnd>
-        requires { planned (part_in self.now) makes.now slots.old ≢ Err Stuck }
-        ensures { Gives (planned (part_in self.now) makes.now slots.old) result }
+    /// first fault with its place. `Memory` where memory runs out.
+    pub fn plan(&self, makes: &[Make], slots: Seq<Value>) -> Result<Plan, EvalEnd>
+        requires { planned (part_in self.now) makes.now slots ≢ Err Stuck }
+        ensures { Gives (planned (part_in self.now) makes.now slots) result }
     {
+        let mut slots = slots;
         let mut drawn = Drawn::new(self.evaluator.alloc);
-        self.makes(makes, slots, &mut drawn)?;
+        self.makes(makes, &mut slots, &mut drawn)?;
         drawn.plan(self.evaluator.alloc)
     }
 

@@ -23,7 +23,7 @@ use Rattle.dsde_structure.specs.declared.plan.Plan.{Plan}
 use Rattle.dsde_structure.specs.declared.plan.Via.{Via}
 use Rattle.dsde_meaning.specs.Outcome.{Fault, Outcome, ◌>>=◌, int_of, truth_of, items_of}
 use Rattle.dsde_meaning.specs.Tables.{Part, values_from}
-use Rattle.dsde_plans.specs.declared.laid.Laid.{Laid}
+use Rattle.dsde_plans.specs.declared.placed.PlacedLink.{PlacedLink}
 use Rattle.dsde_plans.specs.Layout.{natural, with_entry, with_link, plan_of}
 
 -- the slots that items see, the components so far in the order of their names, and the links so far
@@ -31,7 +31,7 @@ use Rattle.dsde_plans.specs.Layout.{natural, with_entry, with_link, plan_of}
 pub record Draft : Type 0 where
   pub slots : List Value
   pub entries : List Entry
-  pub links : List Laid
+  pub links : List PlacedLink
 
 -- what an item does
 abbrev pub Draw : Type 0
@@ -137,7 +137,7 @@ draw part = fold-Make Draw ArmDraw (make_step part) make_arm_step
 abbrev pub draw_arm : Part → MakeArm → ArmDraw
 draw_arm part = fold-MakeArm Draw ArmDraw (make_step part) make_arm_step
 
-abbrev pub draft_of : List Value → List Entry → List Laid → Draft
+abbrev pub draft_of : List Value → List Entry → List PlacedLink → Draft
 draft_of slots entries links = record { slots = slots; entries = entries; links = links }
 
 -- what the items of a structure do
@@ -145,13 +145,13 @@ abbrev pub draws : Part → List Make → Draw
 draws part makes = draw_all (map (draw part) makes)
 
 -- The draft is what is meant, or the answer says why not.
-abbrev pub Draws : Outcome Draft → Result (Unit {0}) EvalEnd → List Value → List Entry → List Laid → Type 0
+abbrev pub Draws : Outcome Draft → Result (Unit {0}) EvalEnd → List Value → List Entry → List PlacedLink → Type 0
 Draws meant (Ok _) slots entries links = meant ≡ Ok (draft_of slots entries links)
 Draws meant (Err (end_of.Fault kind at)) slots entries links = meant ≡ Err (Fault kind at)
 Draws meant (Err end_of.Memory) slots entries links = Unit {0}
 
 -- One of the braces was taken and left this draft, or none was, or the answer says why not.
-abbrev pub Takes : Outcome (Option Draft) → Result Bool EvalEnd → List Value → List Entry → List Laid → Type 0
+abbrev pub Takes : Outcome (Option Draft) → Result Bool EvalEnd → List Value → List Entry → List PlacedLink → Type 0
 Takes meant (Ok true) slots entries links = meant ≡ Ok (Some (draft_of slots entries links))
 Takes meant (Ok false) slots entries links = meant ≡ Ok None
 Takes meant (Err (end_of.Fault kind at)) slots entries links = meant ≡ Err (Fault kind at)

@@ -29,7 +29,7 @@ use Rattle.dsde_structure.specs.declared.plan.Part.TheVariants as part
 use Rattle.dsde_structure.specs.declared.plan.Plan.{Plan}
 use Rattle.dsde_structure.specs.declared.plan.Via.{Via}
 use Rattle.dsde_structure.specs.Gather.{is_same_name}
-use Rattle.dsde_plans.specs.declared.laid.Laid.{Laid}
+use Rattle.dsde_plans.specs.declared.placed.PlacedLink.{PlacedLink}
 use Rattle.dsde_meaning.specs.Outcome.{Fault, Outcome, ◌>>=◌, int_of, truth_of, items_of}
 use Rattle.dsde_meaning.specs.Meaning.{Mean, Vars, Function, mean, values_of, with_var}
 
@@ -38,7 +38,7 @@ use Rattle.dsde_meaning.specs.Meaning.{Mean, Vars, Function, mean, values_of, wi
 pub record Layout : Type 0 where
   pub vars : Vars
   pub entries : List Entry
-  pub links : List Laid
+  pub links : List PlacedLink
 
 -- what an item does where its translations are numbered from a number on, and how many it has
 pub record Lay : Type 0 where
@@ -73,7 +73,7 @@ with_entry at entry entries =
     if is_there entry.name entries then Err (Fault DuplicateComponent at)
     else if nat_lt (length entries) most then Ok (inserted entry entries) else Err (Fault Crowded at)
 
-abbrev pub with_link : ℕ → Link → List Laid → Outcome (List Laid)
+abbrev pub with_link : ℕ → Link → List PlacedLink → Outcome (List PlacedLink)
 with_link at link links =
     if nat_lt (length links) most then Ok (links ++ record { at = at; link = link } ∷ []) else Err (Fault TooManyLinks at)
 
@@ -193,14 +193,14 @@ has_part entries (part.Kid name) = is_there name entries
 has_part entries _ = true
 
 -- Both ends of each link are there, or the place of the first one of which one is not.
-abbrev pub tied : List Entry → List Laid → Outcome (Unit {0})
+abbrev pub tied : List Entry → List PlacedLink → Outcome (Unit {0})
 tied entries [] = Ok tt
 tied entries (laid ∷ later) =
     if has_part entries laid.link.from.part && has_part entries laid.link.to.part
     then tied entries later else Err (Fault DanglingLink laid.at)
 
 -- the plan of these components and links, where no link dangles
-abbrev pub plan_of : List Entry → List Laid → Outcome Plan
+abbrev pub plan_of : List Entry → List PlacedLink → Outcome Plan
 plan_of entries links =
     tied entries links >>= (λ _. Ok (record { entries = entries; links = map (λ laid. laid.link) links }))
 

@@ -2,8 +2,8 @@
 //! Types, definitions and their laws; no code.
 #![tactic(auto)]
 
-mod laid;
 mod laws;
+mod placed;
 
-pub use laid::Laid;
 pub use laws::plans_are_in_order;
+pub use placed::PlacedLink;

@@ -1,6 +1,6 @@
 //! Steps that keep pairs as a heap, in which no pair comes before its parent.
 
-ghost use Rattle.std.specs.Prelude.{◌≡◌, ◌+◌, ◌*◌, ◌<◌, ◌≤◌, length};
+ghost use Rattle.std.specs.Prelude.{◌+◌, ◌*◌, ◌<◌, ◌≤◌, length};
 ghost use Rattle.std.specs.List.Sorted.{IsPermutation};
 ghost use Rattle.dsde_queue.specs.Heap.{IsHeap, IsHeapFrom, IsHeapBut, IsFirstChild, ComesBeforeAt};
 

@@ -1,6 +1,6 @@
 //! A schedule: pairs of a time and a handle, the least first.
 
-ghost use Rattle.std.specs.Prelude.{◌≡◌, ◌≢◌, ◌+◌, ◌<◌, ◌≤◌, [], ◌∷◌, ◌++◌, length, map, filter, All, AllPairs, IfSome, IsNone, MatchOption, OnOk, ◌↔◌};
+ghost use Rattle.std.specs.Prelude.{◌≡◌, ◌≢◌, ◌+◌, ◌<◌, ◌≤◌, [], ◌++◌, length, map, filter, All, AllPairs, IfSome, MatchOption, OnOk};
 ghost use Rattle.std.specs.Option.{option_map};
 ghost use Rattle.std.specs.List.{dedup};
 ghost use Rattle.dsde_queue.specs.Queue.{put, IsOrdered, first_of, due_of, later_than_due, handles, time_of, TakesFirst, IsNotFirst, is_same, Admits};

@@ -22,7 +22,7 @@ use Rattle.dsde_values.proofs.Fronts.{and_false, stops, truth_word, truth_ends}
 use Rattle.dsde_values.proofs.Layers.{typed-Int, typed-Bool, typed-Rec, typed-List, typed-Nothing, typed-Some, spelling-Int, spelling-Enum, spelling-Rec, spelling-List, spelling-Nothing, spelling-Some}
 use Rattle.dsde_values.proofs.ListReading.{both}
 use Rattle.dsde_values.proofs.ValueKinds.{of_Int, of_Bool, of_Enum, of_Rec, of_List, of_Opt, not_close}
-use Rattle.dsde_values.proofs.ValueReading.{none_or_some, some_text, part_ends, truth_spelled}
+use Rattle.dsde_values.proofs.ValueReading.{none_or_some, part_ends, truth_spelled}
 use Rattle.dsde_values.proofs.ValueReading as values
 use Rattle.dsde_records.specs.Reading.{Read, made, followed_by, behind, closed, meant, truth_of, nothing_of, read_fields, read_list, read_layer}
 use Rattle.dsde_records.proofs.Fronts.{followed, made_of, next_of, behind-front, behind-text, behind-none, closed-front, closed-text, meant-front, meant-text}

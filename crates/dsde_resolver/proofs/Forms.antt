@@ -1,5 +1,5 @@
 -- What is laid for an expression, by its form.
-use Rattle.std.proofs.Common.{◌≡◌, ℕ, List, length, Result, sym, ap, subst, ◌∙◌}
+use Rattle.std.proofs.Common.{◌≡◌, List, length, Result, sym, ap, subst, ◌∙◌}
 use Rattle.std.specs.Prelude.{IfOk, OnOk}
 use Rattle.dsde_syntax.specs.declared.expr.Expr.{Expr}
 use Rattle.dsde_syntax.specs.declared.expr.Suffix.{Suffix}

@@ -2,9 +2,7 @@
 
 ghost use Rattle.std.specs.Prelude.{ℕ, ◌≡◌, ◌+◌, ◌<◌, ◌≤◌, ◌^◌, [], ◌++◌, Bool, true, false, is_some, unwrap_or, OnOk, IfOk, OnErr, IfSome, IsErrOf};
 ghost use Rattle.std.specs.Option.{option_copied};
-ghost use Rattle.dsde_values.specs.Value.{IsLawful};
 ghost use Rattle.dsde_io.specs.Fault.{Rose};
-ghost use Rattle.dsde_records.specs.Record.{ArePorts};
 ghost use Rattle.dsde_sim.specs.Working.{HeadComes};
 ghost use Rattle.dsde_trace.specs.Text.{end_text};
 ghost use Rattle.dsde_turns.specs.Engine.{Engine};

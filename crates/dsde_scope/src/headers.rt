@@ -1,8 +1,8 @@
 //! What stands at the head of a declaration: fields, parameters and ports, and the names of a body.
 
-ghost use Rattle.std.specs.Prelude.{◌≡◌, ◌++◌, ◌∷◌, [], false, IfOk, OnOk};
+ghost use Rattle.std.specs.Prelude.{◌≡◌, [], false, IfOk, OnOk};
 ghost use Rattle.dsde_names.specs.Table.{is_among};
-ghost use Rattle.dsde_rules.specs.Tables.{field_name, port_name, with_name};
+ghost use Rattle.dsde_rules.specs.Tables.{field_name, port_name};
 ghost use Rattle.dsde_rules.specs.Blocks.{new_field, fields_all, params_all, ports_all, new_port, with_params, with_ports, with_states, body_names};
 ghost use Rattle.dsde_scope.specs.Says.{Says, Leaves};
 

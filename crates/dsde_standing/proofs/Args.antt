@@ -21,7 +21,7 @@ use Rattle.dsde_nodes.specs.Expressions.{resolve, expr_id}
 use Rattle.dsde_nodes.specs.Items.{resolve_all}
 use Rattle.dsde_nodes.specs.Models.{whole_of, resolved}
 use Rattle.dsde_nodes.specs.Pieces as piece
-use Rattle.dsde_nodes.specs.Pieces.{Block, Next, Piece, Step}
+use Rattle.dsde_nodes.specs.Pieces.{Block, Next, Step}
 use Rattle.dsde_nodes.specs.Statements.{typed_fields}
 use Rattle.dsde_meaning.specs.Proper.{is_proper}
 use Rattle.dsde_standing.specs.Places.{KnownAt}

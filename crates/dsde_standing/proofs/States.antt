@@ -31,7 +31,7 @@ use Rattle.dsde_nodes.specs.declared.node.Node.{Node}
 use Rattle.dsde_nodes.specs.Expressions.{resolve, expr_id}
 use Rattle.dsde_nodes.specs.Models.{whole_of, resolved}
 use Rattle.dsde_nodes.specs.Pieces as piece
-use Rattle.dsde_nodes.specs.Pieces.{Block, Next, Piece, Step}
+use Rattle.dsde_nodes.specs.Pieces.{Block, Next, Step}
 use Rattle.dsde_nodes.specs.Statements.{state_fields, resolve_states, resolve_stmts, resolve_phase}
 use Rattle.dsde_nodes.specs.Typing.{with_slot}
 use Rattle.dsde_meaning.specs.Proper.{is_plain, is_proper, is_proper_phase}

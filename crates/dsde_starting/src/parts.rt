@@ -24,9 +24,9 @@ use dsde_lists::Boxed;
 use dsde_nodes::ModelId;
 use dsde_program::Program;
 use dsde_structure::{Entry, Plan};
-use dsde_telling::{at, below, boss_of, copy_values, tell_leaf, tell_net};
+use dsde_telling::{at, below, boss_of, tell_leaf, tell_net};
 use dsde_tree::{Kid, Net, Sim};
-use dsde_values::{Path, Seq, Values};
+use dsde_values::{Path, Seq, Values, copy_values};
 use std::alloc::Global;
 
 /// The room that is left where a part may start, of a model whose word is at a place.

@@ -4,7 +4,7 @@ ghost use Rattle.std.specs.Prelude.{◌≡◌, IfOk};
 
 use dsde_lists::Memory;
 use dsde_nodes::{ModelId, ViaId};
-use dsde_values::{Name, Seq, Value, Values, copy_value};
+use dsde_values::{Name, Seq, Value, Values, copy_values};
 use std::alloc::Global;
 
 /// A component of a network: its name, its model, and the model's arguments in the order of its
@@ -24,20 +24,9 @@ impl Entry {
         Ok(Entry {
             name: self.name.copy(alloc)?,
             model: self.model,
-            args: copied(alloc, self.args.as_slice())?,
+            args: copy_values(alloc, self.args.as_slice())?,
         })
     }
-}
-
-/// A list equal to this one.
-fn copied(alloc: Global, values: &[Value]) -> Result<Values, Memory>
-    ensures { IfOk result (λ copies. copies ≡ values.now) }
-{
-    let mut copies = Seq::new(alloc);
-    for value in values {
-        copies.push(copy_value(alloc, value)?)?;
-    }
-    Ok(copies)
 }
 
 /// Whose port an end of a link is: the network's own, its executive's, or a component's.

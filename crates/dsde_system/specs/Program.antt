@@ -1,5 +1,5 @@
 -- The meaning of a program: a tuple for each of its models and arguments.
-use Rattle.std.specs.Prelude.{ℕ, Bool, true, false, List, [], ◌∷◌, ◌++◌, length, Option, Some, None, Result, Ok, Err, slice_get, unwrap_or}
+use Rattle.std.specs.Prelude.{ℕ, true, false, List, [], ◌∷◌, ◌++◌, length, Option, Some, None, Ok, Err, slice_get, unwrap_or}
 use Rattle.std.specs.Option.{option_map_or}
 use Rattle.dsde_syntax.specs.declared.expr.Expr.{Expr}
 use Rattle.dsde_syntax.specs.declared.decl.Model.{Model}
@@ -17,7 +17,7 @@ use Rattle.dsde_meaning.specs.Functions.{functions_of}
 use Rattle.dsde_meaning.specs.Meaning.{Vars}
 use Rattle.dsde_meaning.specs.Outcome.{Outcome, ◌>>=◌, option_of, present}
 use Rattle.dsde_plans.specs.Layout as layout
-use Rattle.dsde_standing.specs.Bodies.{Own, TopOf, owns_of, top_in, body_ins, body_outs}
+use Rattle.dsde_standing.specs.Bodies.{Own, owns_of, top_in, body_ins, body_outs}
 use Rattle.dsde_standing.specs.Structures.{structures_of, vias_of, first_via}
 use Rattle.dsde_formalism.specs.System.{State, Component, Network, System, Chosen}
 use Rattle.dsde_standing.specs.Conditions.{mean_of}

@@ -5,7 +5,7 @@ ghost use Rattle.dsde_events.specs.Told.{EXEC, at, below, to_boss, Comes};
 
 use dsde_events::TurnEnd;
 use dsde_faults::LeafEnd;
-use dsde_values::{Memory, Name, Path, Seq, Text, Value, Values, copy_value};
+use dsde_values::{Memory, Name, Path, Seq, Text};
 use std::alloc::Global;
 
 /// A path equal to this one.
@@ -61,15 +61,4 @@ pub fn at<T>(alloc: Global, path: &Path, outcome: Result<T, LeafEnd>) -> Result<
             at,
         }),
     }
-}
-
-/// A list equal to this one.
-pub fn copy_values(alloc: Global, values: &[Value]) -> Result<Values, Memory>
-    ensures { IfOk result (λ copies. copies ≡ values.now) }
-{
-    let mut copies = Seq::new(alloc);
-    for value in values {
-        copies.push(copy_value(alloc, value)?)?;
-    }
-    Ok(copies)
 }

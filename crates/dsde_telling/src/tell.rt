@@ -6,11 +6,11 @@ ghost use Rattle.dsde_events.specs.Told.{IsCut, below};
 ghost use Rattle.dsde_tree.specs.Move.{gets_at, gets_from};
 ghost use Rattle.dsde_tree.specs.Output.{outs_at, outs_from};
 
-use crate::paths::{below, copy_path, copy_values};
+use crate::paths::{below, copy_path};
 use dsde_events::Event;
 use dsde_formalism::{Leaf, MoveKind};
 use dsde_nodes::ModelId;
-use dsde_values::{Memory, Name, Path, Seq, Value, Values, copy_value};
+use dsde_values::{Memory, Name, Path, Seq, Value, Values, copy_value, copy_values};
 use std::alloc::Global;
 
 /// Tells that a network starts.

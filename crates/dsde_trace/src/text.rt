@@ -1,6 +1,6 @@
 //! The lines of a trace.
 
-ghost use Rattle.std.specs.Prelude.{◌≡◌, ◌++◌, [], ◌∷◌, length, map, take, codes, decimal, option_copied, OnOk, OnErr};
+ghost use Rattle.std.specs.Prelude.{◌≡◌, ◌++◌, length, map, take, codes, decimal, option_copied, OnOk, OnErr};
 ghost use Rattle.dsde_values.specs.Path.{path_text};
 ghost use Rattle.dsde_values.specs.Value.{spelling, joined, field_texts};
 ghost use Rattle.dsde_events.specs.declared.event.Event.TheVariants as event;
@@ -12,7 +12,9 @@ use dsde_formalism::MoveKind;
 use dsde_lists::append_decimal;
 use dsde_nodes::{Info, ModelId};
 use dsde_program::Program;
-use dsde_values::{Field, Memory, Path, Text, Types, Value, When, write_path, write_value};
+use dsde_values::{
+    Field, Memory, Path, Text, Types, Value, When, write_fields, write_path, write_value,
+};
 
 /// Appends the line of an event of a run of the program, and a line feed. Without memory the text
 /// stays as it was.
@@ -306,32 +308,7 @@ fn append_bindings(
     ensures ok { OnOk result (text.new ≡ text.old ++ joined (field_texts states.now (map (spelling types.now) state.now))) }
     ensures grows { take (length text.old) text.new ≡ text.old }
 {
-    let Some((first, other_fields)) = states.split_first() else {
-        return Ok(());
-    };
-    let Some((first_value, others)) = state.split_first() else {
-        return Ok(());
-    };
-    append_binding(first, first_value, types, text)?;
-    for (field, value) in other_fields.iter().zip(others) {
-        text.extend_from_slice(b", ")?;
-        append_binding(field, value, types, text)?;
-    }
-    Ok(())
-}
-
-fn append_binding(
-    field: &Field,
-    value: &Value,
-    types: &Types,
-    text: &mut Text,
-) -> Result<(), Memory>
-    ensures ok { OnOk result (text.new ≡ text.old ++ field.now.name ++ codes ": " ++ spelling types.now value.now) }
-    ensures grows { take (length text.old) text.new ≡ text.old }
-{
-    text.extend_from_slice(field.name.as_slice())?;
-    text.extend_from_slice(b": ")?;
-    append_value(value, types, text)
+    write_fields(states, state, types, text)
 }
 
 fn append_end(how: &Finish, turns: u64, time: u64, text: &mut Text) -> Result<(), Memory>

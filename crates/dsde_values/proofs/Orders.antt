@@ -50,6 +50,10 @@ pub exact_paths : (path other : Path) → path_cmp path other ≡ Equal → path
 exact_paths path other h = let names = exact_lists name_cmp exact_names path.names other.names h in
     λ i. record { names = names i }
 
+pub one-name : (name other : Name) → (name_cmp name other ≡ Equal) ↔ (name ≡ other)
+one-name name other =
+    (λ e. exact_names name other e, λ same. subst (λ (n : Name). name_cmp name n ≡ Equal) same (tied_itself name_cmp_total name))
+
 -- an answer of the order of names, and of that of paths
 pub equal_names : (order : Ordering) (name other : Name) → order ≡ name_cmp name other → (order ≡ Equal) ↔ (name ≡ other)
 equal_names order name other is =

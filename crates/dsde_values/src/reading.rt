@@ -1,6 +1,6 @@
 //! Values, read from their spelling.
 
-ghost use Rattle.std.specs.Prelude.{◌≡◌, ◌≢◌, ◌≤◌, ◌<◌, ◌^◌, ◌++◌, ◌⊎◌, ℤ, ℕ, true, false, List, [], length, FitsSigned, slice_get, slice_index_or, IfOk, IsErrOf, IfSome, IfNone, MatchResult, MatchBool, Some};
+ghost use Rattle.std.specs.Prelude.{◌≡◌, ◌≢◌, ◌≤◌, ◌<◌, ◌^◌, ◌++◌, ◌⊎◌, ℤ, ℕ, true, false, List, length, FitsSigned, slice_get, IfOk, IsErrOf, IfSome, IfNone, MatchResult, MatchBool, Some};
 ghost use Rattle.std.specs.Int.{w64};
 ghost use Rattle.std.specs.Fmt.{signed_decimal};
 ghost use Rattle.std.specs.List.{list_all, position};
@@ -9,8 +9,8 @@ ghost use Rattle.dsde_values.specs.declared.reading.ReadValue.TheVariants as rea
 ghost use Rattle.dsde_values.specs.declared.value.Value.{Value};
 ghost use Rattle.dsde_words.specs.Words.{is_word_byte, begins_word};
 ghost use Rattle.dsde_values.specs.Word.{Begins};
-ghost use Rattle.dsde_values.specs.Value.{HasType, IsLawful, spelling, number_size, fields_at, fill};
-ghost use Rattle.dsde_values.specs.Reading.{Takes, Reads, Anything, ReadsInt, ReadsTruth, ReadsVariant, ReadsValue, ReadsField, ReadsFields, ReadsRecord, ReadsList};
+ghost use Rattle.dsde_values.specs.Value.{HasType, IsLawful, spelling, number_size, fields_at};
+ghost use Rattle.dsde_values.specs.Reading.{Takes, ReadsInt, ReadsTruth, ReadsVariant, ReadsValue, ReadsField, ReadsFields, ReadsRecord, ReadsList};
 
 use crate::decimal::signed_decimal_of;
 use crate::typing::{LONGEST_LIST, fields_at, name_at, variants_at};

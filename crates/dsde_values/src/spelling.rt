@@ -20,6 +20,22 @@ pub fn write_value(value: &Value, types: &Types, text: &mut Text) -> Result<(), 
     text.whole_or_none(start, written)
 }
 
+/// Appends fields and their values, as many as there are of both: `f: v, g: w`.
+/// Without memory the text stays as it was.
+pub fn write_fields(
+    fields: &[Field],
+    values: &[Value],
+    types: &Types,
+    text: &mut Text,
+) -> Result<(), Memory>
+    ensures ok { OnOk result (text.new ≡ text.old ++ joined (field_texts fields.now (map (spelling types.now) values.now))) }
+    ensures err { OnErr result (text.new ≡ text.old) }
+{
+    let start = text.len();
+    let written = append_fields(fields, values, types, text);
+    text.whole_or_none(start, written)
+}
+
 #[cycle(writing)]
 #[tactic(auto, unfolding(crate::specs::Value::spelling))]
 fn append_value(value: &Value, types: &Types, text: &mut Text) -> Result<(), Memory>

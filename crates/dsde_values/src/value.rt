@@ -47,7 +47,7 @@ pub fn equal(value: &Value, other: &Value) -> bool
 
 /// Whether two lists of values are equal.
 #[cycle(equality)]
-fn are_equal(values: &[Value], others: &[Value]) -> bool
+pub fn are_equal(values: &[Value], others: &[Value]) -> bool
     ensures { IsTrue result ↔ (values.now ≡ others.now) }
 {
     if values.len() != others.len() {
@@ -79,7 +79,7 @@ pub fn copy_value(alloc: Global, value: &Value) -> Result<Value, Memory>
 
 /// A list equal to this one.
 #[cycle(copying)]
-fn copy_values(alloc: Global, values: &[Value]) -> Result<Values, Memory>
+pub fn copy_values(alloc: Global, values: &[Value]) -> Result<Values, Memory>
     ensures { IfOk result (λ copies. copies ≡ values.now) }
 {
     let mut copies = Seq::new(alloc);

@@ -1,7 +1,7 @@
 //! The tokens of declarations.
 
 ghost use Rattle.std.specs.Prelude.{◌≡◌, ◌++◌, map, OnOk};
-ghost use Rattle.dsde_syntax.specs.Grammar.{joined, commas, in_parens, in_braces, id_tokens, typed_tokens, params_tokens, port_tokens, state_tokens, phase_tokens, phases_tokens, body_tokens, result_tokens, exec_tokens, decl_tokens};
+ghost use Rattle.dsde_syntax.specs.Grammar.{joined, commas, in_braces, id_tokens, typed_tokens, params_tokens, port_tokens, state_tokens, phase_tokens, phases_tokens, body_tokens, result_tokens, exec_tokens, decl_tokens};
 
 use super::Writer;
 use crate::{

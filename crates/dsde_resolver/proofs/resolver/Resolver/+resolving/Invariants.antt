@@ -1,5 +1,5 @@
 -- What the rest lays behind what was laid so far is what all lay.
-use Rattle.std.proofs.Common.{◌≡◌, ◌+◌, ◌++◌, map, drop, length, None}
+use Rattle.std.proofs.Common.{◌≡◌, ◌+◌, ◌++◌, map, drop, None}
 use Rattle.dsde_laying.specs.Lay.{lay, lay_set, lay_arm, lay_tail, lay_sign_tail, lay_suffix, lay_all, lay_arms, lay_links, numbers, arm_numbers, head_from, words_of, roomy}
 use Rattle.dsde_resolver.proofs.resolver.Resolver.+resolving.Given as goal
 

@@ -1,10 +1,10 @@
-//! Links as they are laid.
+//! Links with their places.
 
 use dsde_structure::Link;
 
 /// A link, with the place of its word `link`.
 #[derive(Debug, Drop)]
-pub struct Laid {
+pub struct PlacedLink {
     pub at: u32,
     pub link: Link,
 }
