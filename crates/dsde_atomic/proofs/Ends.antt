@@ -1,5 +1,5 @@
 -- Ends of steps, and what stands at a number.
-use Rattle.std.proofs.Common.{◌≡◌, ◌≢◌, ℕ, ◌<◌, Bool, List, length, Option, Some, Result, Ok, Err, slice_get, refl, sym, ap, subst}
+use Rattle.std.proofs.Common.{◌≡◌, ℕ, ◌<◌, List, length, Option, Some, Result, Ok, Err, slice_get, refl, sym, ap, subst}
 use Rattle.dsde_syntax.specs.declared.decl.Model.{Model}
 use Rattle.dsde_values.specs.declared.value.Value.{Value}
 use Rattle.dsde_faults.specs.declared.kind.Site.{Site}
@@ -11,9 +11,8 @@ use Rattle.dsde_nodes.specs.declared.code.Code.{Code}
 use Rattle.dsde_nodes.specs.declared.ids.ModelId.{ModelId}
 use Rattle.dsde_nodes.specs.Models.{infos_of, resolved}
 use Rattle.dsde_rules.specs.Right.{IsRight}
-use Rattle.dsde_meaning.specs.Outcome.{Fault, Stuck, Outcome, Gives}
+use Rattle.dsde_meaning.specs.Outcome.{Fault, Outcome, Gives}
 use Rattle.dsde_meaning.specs.Outcome as outcome
-use Rattle.dsde_meaning.specs.Typed.{Sound}
 use Rattle.dsde_standing.specs.Bodies.{Own, BodyStands}
 use Rattle.dsde_standing.specs.Laws.{HasOwn, BodiesStand}
 use Rattle.dsde_formalism.specs.Leaf as formalism
@@ -23,22 +22,6 @@ use Rattle.dsde_atomic.specs.Steps.{own_at, sited}
 
 pub some-is : {A : Type 0} (o : Option A) (a b : A) → o ≡ Some a → o ≡ Some b → a ≡ b
 some-is o a b e h = cc
-
-abbrev well : {A : Type 0} → A → Outcome A
-well a = Ok a
-
-ok-is : {A : Type 0} (a b : A) → well a ≡ well b → a ≡ b
-ok-is a b e = cc
-
--- What is sound is not stuck, and holds of a value.
-pub sound-stuck : {A : Type 0} (total : Bool) (P : A → Type 0) (x : Outcome A) → Sound total P x → x ≢ Err Stuck
-sound-stuck total P (Ok a) h = λ e. cc
-sound-stuck total P (Err (Fault kind at)) h = λ e. cc
-sound-stuck total P (Err Stuck) h = absurd h
-
-pub sound-given : {A : Type 0} (total : Bool) (P : A → Type 0) (x : Outcome A) (a : A) → Sound total P x → x ≡ Ok a → P a
-sound-given total P (Ok b) a h e = subst P (ok-is b a e) h
-sound-given total P (Err halt) a h e = cc
 
 -- An end of an outcome is the end of the part in which it stands.
 pub site-end : {A : Type 0} (site : Site) (meant : Outcome A) (end : EvalEnd) → Gives meant (let r : Result A EvalEnd = Err end in r) → formalism.Gives (at_site site meant) (let r : Result A LeafEnd = Err (sited site end) in r)

@@ -21,7 +21,8 @@ use Rattle.dsde_standing.specs.Conditions.{mean_of, CanEval, Came}
 use Rattle.dsde_system.specs.Program.{system, args_from, top_of}
 use Rattle.dsde_system.specs.Fitting.{Fill, FitsArgs, Topped}
 use Rattle.dsde_atomic.specs.Steps.{sited}
-use Rattle.dsde_atomic.proofs.Ends.{sound-given, then-end}
+use Rattle.dsde_typing.specs.Outcomes.{sound-given}
+use Rattle.dsde_atomic.proofs.Ends.{then-end}
 use Rattle.dsde_atomic.proofs.Filling.{fill-append, drop-at, drop-over}
 use Rattle.dsde_atomic.proofs.Infos.{infos-by, info_by}
 

@@ -4,12 +4,12 @@ use Rattle.dsde_syntax.specs.declared.decl.Model.{Model}
 use Rattle.dsde_syntax.specs.declared.item.ViaKey.{ViaKey}
 use Rattle.dsde_syntax.specs.declared.item.ViaPart.{ViaPart}
 use Rattle.dsde_values.specs.declared.types.Field.{Field}
-use Rattle.dsde_values.specs.declared.types.Ty.{Ty, Ty-F, out-Ty}
+use Rattle.dsde_values.specs.declared.types.Ty.{Ty}
 use Rattle.dsde_values.specs.declared.types.Ty.TheOpen as open_ty
 use Rattle.dsde_values.specs.declared.types.Ty.TheVariants as ty
 use Rattle.dsde_values.specs.declared.types.Ty.TheViews.{outs-Opt as ty_Opt}
 use Rattle.dsde_values.specs.declared.types.Types.{Types}
-use Rattle.dsde_values.specs.declared.value.Value.{Value, Value-F, out-Value, fold_out-Value, map-Value}
+use Rattle.dsde_values.specs.declared.value.Value.{Value, Value-F, out-Value, map-Value}
 use Rattle.dsde_values.specs.declared.value.Value.TheOpen as layer
 use Rattle.dsde_values.specs.declared.value.Value.TheViews.{outs-Nothing, outs-Some}
 use Rattle.dsde_values.specs.Value.{type_step, has_type}
@@ -27,6 +27,7 @@ use Rattle.dsde_standing.specs.Places.{IsExpr}
 use Rattle.dsde_standing.specs.Laws.{KnownIsWithin}
 use Rattle.dsde_functions.specs.Coded.{coded_of, FuncsAgree, FunctionsAgree}
 use Rattle.dsde_standing.specs.Conditions.{mean_of, CanTranslate, Translated, via_values, option_value}
+use Rattle.dsde_typing.specs.Values.{by_layer}
 use Rattle.dsde_system.specs.Plans.{IsKey, Takes, via_slots}
 use Rattle.dsde_system.specs.Program.{system, translated, held_in, key_vars, via_vars}
 
@@ -45,15 +46,6 @@ are-key types text key_ty own None (Some value) is = absurd is
 are-key types text key_ty own (Some key) None is = absurd is
 
 module _ (types : Types) where
-  abbrev step : Value-F (Ty → Bool) → Ty → Bool
-  step parts own = type_step types parts (out-Ty own)
-
-  by_layer : (v : Value) (t : Ty) (u : Ty-F Ty) → out-Ty t ≡ u → has_type types v t ≡ type_step types (map-Value Value (Ty → Bool) (has_type types) (out-Value v)) u
-  unfolding has_type
-  by_layer v t u seen =
-      ap (λ (g : Ty → Bool). g t) (fold_out-Value (Ty → Bool) step v)
-      ∙ ap (λ (x : Ty-F Ty). type_step types (map-Value Value (Ty → Bool) (has_type types) (out-Value v)) x) seen
-
   -- what an option holds has the option's inner type
   held-layer : (t : Ty) (w : Value-F Value) (inner : Value) → type_step types (map-Value Value (Ty → Bool) (has_type types) w) (open_ty.Opt t) ≡ true
       → (let seen : Outcome (Option Value) = elim w [ layer.Nothing ↦ Ok None | layer.Some inner ↦ Ok (Some inner) | _ ↦ Err Stuck ] in
@@ -70,7 +62,7 @@ module _ (types : Types) where
       subst (λ (v : Value). has_type types v t ≡ true) same has
 
   held-typed : (t : Ty) (x : Outcome Value) (inner : Value) → Sound true (Typed types (ty.Opt t)) x → held_in x ≡ Some inner → Typed types t inner
-  held-typed t (Ok w) inner sound is = record { has = held-layer t (out-Value w) inner (sym (by_layer w (ty.Opt t) (open_ty.Opt t) (ty_Opt t)) ∙ sound.has) is }
+  held-typed t (Ok w) inner sound is = record { has = held-layer t (out-Value w) inner (sym (by_layer types w (ty.Opt t) (out-Value w) (open_ty.Opt t) refl (ty_Opt t)) ∙ sound.has) is }
   held-typed t (Err halt) inner sound is = absurd (let e : (let r : Option Value = None in r) ≡ Some inner = is in cc)
 
 abbrev opened : Value-F Value → Option Value

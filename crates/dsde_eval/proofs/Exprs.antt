@@ -20,7 +20,7 @@ use Rattle.dsde_standing.specs.Places.{IsExpr}
 use Rattle.dsde_standing.specs.Laws.{KnownIsWithin}
 use Rattle.dsde_functions.specs.Coded.{coded_of, FuncsAgree, FunctionsAgree}
 use Rattle.dsde_standing.specs.Conditions.{mean_of, CanEval, Came}
-use Rattle.dsde_eval.proofs.Typing.{sound-stuck}
+use Rattle.dsde_typing.specs.Outcomes.{sound-stuck}
 
 module _ (model : Model) (right : IsRight model) (agree : ExpressionsAgree) (within : KnownIsWithin) (functions : FunctionsAgree) where
   module _ (total : Bool) (slots : List Field) (number : ℕ) (expr : Expr) (t : Ty) (is : IsExpr model total slots number expr t) where

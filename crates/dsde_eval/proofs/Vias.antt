@@ -16,7 +16,8 @@ use Rattle.dsde_meaning.specs.Outcome.{Stuck, Outcome, Gives, option_of}
 use Rattle.dsde_meaning.specs.Typed.{Typed, Sound}
 use Rattle.dsde_standing.specs.Places.{IsExpr}
 use Rattle.dsde_standing.specs.Conditions.{mean_of, CanEval, Came, IsVia, CanTranslate, Translated, via_values, option_value}
-use Rattle.dsde_eval.proofs.Typing.{is-option, sound-given, total-ok}
+use Rattle.dsde_typing.specs.Outcomes.{sound-given}
+use Rattle.dsde_eval.proofs.Typing.{is-option, total-ok}
 
 some-is : (a b : ViaCode) → (let r : Option ViaCode = Some a in r) ≡ Some b → a ≡ b
 some-is a b e = cc

@@ -1,6 +1,6 @@
 //! Translations of what goes along a link.
 
-ghost use Rattle.std.specs.Prelude.{◌≡◌, ◌<◌, Some, option_copied, IfOk};
+ghost use Rattle.std.specs.Prelude.{◌≡◌, Some, option_copied, IfOk};
 ghost use Rattle.dsde_standing.specs.Conditions.{CanTranslate, Translated, via_values, option_value, IsOption};
 
 use crate::env::{Env, eval};

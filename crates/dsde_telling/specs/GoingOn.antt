@@ -1,5 +1,5 @@
 -- Steps one after another, as code takes them: what follows of the definitions of steps that tell events.
-use Rattle.std.proofs.Common.{◌≡◌, ◌+◌, ◌-◌, ◌≤◌, List, [], ◌++◌, length, take, refl, sym, ap, subst, ◌∙◌, arith, append_assoc, append-nil, Result, Ok, Err}
+use Rattle.std.proofs.Common.{◌≡◌, ◌≤◌, List, [], ◌++◌, length, take, refl, sym, ap, subst, ◌∙◌, arith, append_assoc, append-nil, Result, Ok, Err}
 use Rattle.std.proofs.lemmas.List.{take-append-le, take-take, length-take}
 use Rattle.std.proofs.Math.Seq.{take-append_seam}
 use Rattle.dsde_events.specs.declared.event.Event.{Event}

@@ -1,11 +1,28 @@
 -- Outcomes that hold what is asked of them, step by step.
-use Rattle.std.proofs.Common.{◌≡◌, Bool, true, false, if◌then◌else◌, Ok, Err, refl, ◌∙◌, ap}
+use Rattle.std.proofs.Common.{◌≡◌, ◌≢◌, Bool, true, false, if◌then◌else◌, Ok, Err, refl, ◌∙◌, ap, subst}
 use Rattle.dsde_meaning.specs.Outcome.{Fault, Stuck, Outcome, ◌>>=◌}
 use Rattle.dsde_meaning.specs.Typed.{Sound}
 
 -- nothing is asked of a value
 abbrev pub Any : {A : Type 0} → A → Type 0
 Any value = Unit {0}
+
+-- what is sound is not stuck
+pub sound-stuck : {A : Type 0} (total : Bool) (P : A → Type 0) (x : Outcome A) → Sound total P x → x ≢ Err Stuck
+sound-stuck total P (Ok a) h = λ e. cc
+sound-stuck total P (Err (Fault kind at)) h = λ e. cc
+sound-stuck total P (Err Stuck) h = absurd h
+
+abbrev well : {A : Type 0} → A → Outcome A
+well a = Ok a
+
+given-is : {A : Type 0} (a b : A) → well a ≡ well b → a ≡ b
+given-is a b e = cc
+
+-- a value that is given has what holds of each value
+pub sound-given : {A : Type 0} (total : Bool) (P : A → Type 0) (x : Outcome A) (a : A) → Sound total P x → x ≡ Ok a → P a
+sound-given total P (Ok b) a h e = subst P (given-is b a e) h
+sound-given total P (Err halt) a h e = cc
 
 -- a step on what holds
 pub sound-then : {A B : Type 0} (total : Bool) (P : A → Type 0) (Q : B → Type 0) (x : Outcome A) (f : A → Outcome B) → Sound total P x → ((a : A) → P a → Sound total Q (f a)) → Sound total Q (x >>= f)

@@ -1,6 +1,6 @@
 //! Models read from their texts.
 
-ghost use Rattle.std.specs.Prelude.{◌≡◌, ◌≢◌, ◌≤◌, ◌<◌, ◌⊎◌, length, All, Ok, Err, IfOk, IfErr, Result};
+ghost use Rattle.std.specs.Prelude.{◌≡◌, ◌≢◌, ◌≤◌, ◌⊎◌, length, All, Ok, Err, IfOk, IfErr, Result};
 ghost use Rattle.dsde_syntax.specs.declared.decl.Model.{Model};
 ghost use Rattle.dsde_syntax.specs.Spelling.{HasToken};
 ghost use Rattle.dsde_lexer.specs.Lines.{place_of};
