@@ -6,7 +6,7 @@
 
 ghost use Rattle.std.specs.Prelude.{◌≡◌};
 ghost use Rattle.std.specs.Process.{exit_status};
-ghost use Rattle.dsde_status.specs.Note.{number_of};
+ghost use Rattle.dsde_cli_status.specs.Note.{number_of};
 
 use dsde_cli::{Status, dsde, report};
 use dsde_io::{FileShelf, StreamSink, StreamSource};

@@ -7,20 +7,20 @@ use Rattle.dsde_values.specs.declared.when.When.{When}
 use Rattle.dsde_faults.specs.declared.kind.Site.TheVariants as site
 use Rattle.dsde_faults.specs.declared.end.EvalEnd.{EvalEnd}
 use Rattle.dsde_faults.specs.declared.end.LeafEnd.{LeafEnd}
-use Rattle.dsde_nodes.specs.declared.code.Code.{Code}
-use Rattle.dsde_nodes.specs.declared.ids.ModelId.{ModelId}
-use Rattle.dsde_nodes.specs.Models.{types_of}
-use Rattle.dsde_meaning.specs.Outcome.{Stuck, Outcome, ◌>>=◌, Gives}
-use Rattle.dsde_meaning.specs.Typed.{Typed, Fits, values_in}
-use Rattle.dsde_standing.specs.Bodies.{Own, BodyStands, body_slots, param_slots, state_slots}
+use Rattle.dsde_program_nodes.specs.declared.code.Code.{Code}
+use Rattle.dsde_program_nodes.specs.declared.ids.ModelId.{ModelId}
+use Rattle.dsde_program_nodes.specs.Models.{types_of}
+use Rattle.dsde_eval_meaning.specs.Outcome.{Stuck, Outcome, ◌>>=◌, Gives}
+use Rattle.dsde_eval_meaning.specs.Typed.{Typed, Fits, values_in}
+use Rattle.dsde_sound_places.specs.Bodies.{Own, BodyStands, body_slots, param_slots, state_slots}
 use Rattle.dsde_formalism.specs.Leaf as formalism
 use Rattle.dsde_formalism.specs.System.{Component}
-use Rattle.dsde_standing.specs.Conditions.{mean_of, CanEval, Came}
+use Rattle.dsde_sound_places.specs.Conditions.{mean_of, CanEval, Came}
 use Rattle.dsde_system.specs.Body.{vars_of, body_vars, at_site, due}
 use Rattle.dsde_system.specs.Program.{system, component}
 use Rattle.dsde_system.specs.Fitting.{Fill, FitsArgs, FitsState}
 use Rattle.dsde_atomic.specs.Steps.{own_at, sited, due_by, FitsBody}
-use Rattle.dsde_typing.specs.Outcomes.{sound-given}
+use Rattle.dsde_sound_typing.specs.Outcomes.{sound-given}
 use Rattle.dsde_atomic.proofs.Ends.{some-is, site-end, site-ok, then-end, component-is}
 use Rattle.dsde_atomic.proofs.Filling.{fits-vars, values-vars, fill-append, fits-append, values-append}
 use Rattle.dsde_atomic.proofs.Advances.{is-advance}

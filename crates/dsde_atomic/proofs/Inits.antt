@@ -5,29 +5,29 @@ use Rattle.dsde_syntax.specs.declared.decl.Model.{Model}
 use Rattle.dsde_syntax.specs.declared.decl.StateDecl.{StateDecl}
 use Rattle.dsde_values.specs.declared.types.Field.{Field}
 use Rattle.dsde_values.specs.declared.value.Value.{Value}
-use Rattle.dsde_rules.specs.Tables.{by_text}
+use Rattle.dsde_check_rules.specs.Tables.{by_text}
 use Rattle.dsde_faults.specs.declared.end.EvalEnd.{EvalEnd}
-use Rattle.dsde_nodes.specs.declared.code.Code.{Code}
-use Rattle.dsde_nodes.specs.declared.ids.ExprId.{ExprId}
-use Rattle.dsde_nodes.specs.Models.{whole_of, types_of}
-use Rattle.dsde_nodes.specs.Statements.{state_fields}
-use Rattle.dsde_meaning.specs.Outcome.{Outcome, ◌>>=◌, Gives}
-use Rattle.dsde_meaning.specs.Meaning.{Vars, with_var}
-use Rattle.dsde_meaning.specs.Typed.{Typed, Fits, values_in}
-use Rattle.dsde_standing.specs.Places.{IsExpr}
-use Rattle.dsde_standing.specs.Bodies.{Own, BodyStands, InitsStand, body_slots, param_slots, state_slots}
+use Rattle.dsde_program_nodes.specs.declared.code.Code.{Code}
+use Rattle.dsde_program_nodes.specs.declared.ids.ExprId.{ExprId}
+use Rattle.dsde_program_nodes.specs.Models.{whole_of, types_of}
+use Rattle.dsde_program_nodes.specs.Statements.{state_fields}
+use Rattle.dsde_eval_meaning.specs.Outcome.{Outcome, ◌>>=◌, Gives}
+use Rattle.dsde_eval_meaning.specs.Meaning.{Vars, with_var}
+use Rattle.dsde_eval_meaning.specs.Typed.{Typed, Fits, values_in}
+use Rattle.dsde_sound_places.specs.Places.{IsExpr}
+use Rattle.dsde_sound_places.specs.Bodies.{Own, BodyStands, InitsStand, body_slots, param_slots, state_slots}
 use Rattle.dsde_formalism.specs.System.{State}
-use Rattle.dsde_standing.specs.Conditions.{mean_of, CanEval, Came}
+use Rattle.dsde_sound_places.specs.Conditions.{mean_of, CanEval, Came}
 use Rattle.dsde_faults.specs.declared.kind.Site.TheVariants as site
 use Rattle.dsde_faults.specs.declared.end.LeafEnd.{LeafEnd}
-use Rattle.dsde_nodes.specs.declared.ids.ModelId.{ModelId}
+use Rattle.dsde_program_nodes.specs.declared.ids.ModelId.{ModelId}
 use Rattle.dsde_formalism.specs.System.{Component}
 use Rattle.dsde_formalism.specs.Leaf as formalism
 use Rattle.dsde_system.specs.Program.{system, component}
 use Rattle.dsde_system.specs.Body.{vars_of, inits_from}
 use Rattle.dsde_system.specs.Fitting.{Fill, FitsArgs, FitsState}
 use Rattle.dsde_atomic.specs.Steps.{own_at, sited, Begun, Begins}
-use Rattle.dsde_typing.specs.Outcomes.{sound-given}
+use Rattle.dsde_sound_typing.specs.Outcomes.{sound-given}
 use Rattle.dsde_atomic.proofs.Ends.{some-is, site-end, site-ok, then-end, component-is}
 use Rattle.std.proofs.Common.{slice_index_or}
 use Rattle.dsde_atomic.proofs.Filling.{drop-at, drop-over, fits-vars, values-vars, fill-length, fill-drop, fits-fill, fits-append, values-append, drop-past}

@@ -8,18 +8,18 @@ use Rattle.dsde_values.specs.declared.value.Value.{Value}
 use Rattle.dsde_faults.specs.declared.kind.Site.TheVariants as site
 use Rattle.dsde_faults.specs.declared.end.EvalEnd.{EvalEnd}
 use Rattle.dsde_faults.specs.declared.end.LeafEnd.{LeafEnd}
-use Rattle.dsde_nodes.specs.declared.code.Code.{Code}
-use Rattle.dsde_nodes.specs.declared.ids.BlockId.{BlockId}
-use Rattle.dsde_nodes.specs.declared.ids.ModelId.{ModelId}
-use Rattle.dsde_nodes.specs.Models.{types_of}
-use Rattle.dsde_meaning.specs.Outcome.{Outcome, ◌>>=◌, Gives}
-use Rattle.dsde_meaning.specs.Meaning.{scene}
-use Rattle.dsde_meaning.specs.Flow.{lifted}
-use Rattle.dsde_standing.specs.Places.{piece_of}
-use Rattle.dsde_standing.specs.Bodies.{Own, BodyStands, body_slots, body_outs, state_slots}
+use Rattle.dsde_program_nodes.specs.declared.code.Code.{Code}
+use Rattle.dsde_program_nodes.specs.declared.ids.BlockId.{BlockId}
+use Rattle.dsde_program_nodes.specs.declared.ids.ModelId.{ModelId}
+use Rattle.dsde_program_nodes.specs.Models.{types_of}
+use Rattle.dsde_eval_meaning.specs.Outcome.{Outcome, ◌>>=◌, Gives}
+use Rattle.dsde_eval_meaning.specs.Meaning.{scene}
+use Rattle.dsde_eval_meaning.specs.Flow.{lifted}
+use Rattle.dsde_sound_places.specs.Places.{piece_of}
+use Rattle.dsde_sound_places.specs.Bodies.{Own, BodyStands, body_slots, body_outs, state_slots}
 use Rattle.dsde_formalism.specs.System.{Component, State}
 use Rattle.dsde_formalism.specs.Leaf as formalism
-use Rattle.dsde_standing.specs.Conditions.{block_of, CanRun, Ran}
+use Rattle.dsde_sound_places.specs.Conditions.{block_of, CanRun, Ran}
 use Rattle.dsde_system.specs.Body.{at_site, body_vars, moved_by, internal, sends}
 use Rattle.dsde_system.specs.Program.{system, component}
 use Rattle.dsde_system.specs.Fitting.{Fill, FitsArgs, FitsState, FitsSends}

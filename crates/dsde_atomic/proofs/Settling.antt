@@ -4,15 +4,15 @@ use Rattle.dsde_values.specs.declared.value.Value.{Value}
 use Rattle.dsde_syntax.specs.declared.decl.Model.{Model}
 use Rattle.dsde_values.specs.declared.when.When.{When}
 use Rattle.dsde_values.specs.When.{IsMoment}
-use Rattle.dsde_nodes.specs.declared.ids.ModelId.{ModelId}
-use Rattle.dsde_nodes.specs.Models.{types_of}
-use Rattle.dsde_standing.specs.Bodies.{state_slots}
+use Rattle.dsde_program_nodes.specs.declared.ids.ModelId.{ModelId}
+use Rattle.dsde_program_nodes.specs.Models.{types_of}
+use Rattle.dsde_sound_places.specs.Bodies.{state_slots}
 use Rattle.dsde_formalism.specs.declared.leaf.Leaf.{Leaf}
 use Rattle.dsde_system.specs.Fitting.{Fill, FitsArgs, FitsState, FitsLeaf, IsInTime}
 use Rattle.dsde_atomic.proofs.Bodies.{state-fill}
 use Rattle.dsde_values.specs.declared.arrival.Item.{Item}
 use Rattle.dsde_faults.specs.declared.end.EvalEnd.{EvalEnd}
-use Rattle.dsde_standing.specs.Conditions.{Ran}
+use Rattle.dsde_sound_places.specs.Conditions.{Ran}
 use Rattle.dsde_atomic.proofs.Filling.{drop-past}
 
 -- The state stands behind the arguments.

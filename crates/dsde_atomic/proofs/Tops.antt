@@ -9,19 +9,19 @@ use Rattle.dsde_values.specs.declared.value.Value.{Value}
 use Rattle.dsde_faults.specs.declared.kind.Site.TheVariants as site
 use Rattle.dsde_faults.specs.declared.end.EvalEnd.{EvalEnd}
 use Rattle.dsde_faults.specs.declared.end.EvalEnd.TheVariants as eval_end
-use Rattle.dsde_nodes.specs.declared.info.Info.{Info}
-use Rattle.dsde_nodes.specs.declared.ids.ExprId.{ExprId}
-use Rattle.dsde_nodes.specs.Models.{whole_of, types_of, resolved}
-use Rattle.dsde_meaning.specs.Outcome.{Outcome, ◌>>=◌, Gives, present}
-use Rattle.dsde_meaning.specs.Typed.{Typed}
-use Rattle.dsde_standing.specs.Places.{IsExpr}
-use Rattle.dsde_standing.specs.Bodies.{Own, TopOf, TopStands, ArgsStand, owns_of, param_slots, top_in}
+use Rattle.dsde_program_nodes.specs.declared.info.Info.{Info}
+use Rattle.dsde_program_nodes.specs.declared.ids.ExprId.{ExprId}
+use Rattle.dsde_program_nodes.specs.Models.{whole_of, types_of, resolved}
+use Rattle.dsde_eval_meaning.specs.Outcome.{Outcome, ◌>>=◌, Gives, present}
+use Rattle.dsde_eval_meaning.specs.Typed.{Typed}
+use Rattle.dsde_sound_places.specs.Places.{IsExpr}
+use Rattle.dsde_sound_places.specs.Bodies.{Own, TopOf, TopStands, ArgsStand, owns_of, param_slots, top_in}
 use Rattle.dsde_formalism.specs.System.{Chosen}
-use Rattle.dsde_standing.specs.Conditions.{mean_of, CanEval, Came}
+use Rattle.dsde_sound_places.specs.Conditions.{mean_of, CanEval, Came}
 use Rattle.dsde_system.specs.Program.{system, args_from, top_of}
 use Rattle.dsde_system.specs.Fitting.{Fill, FitsArgs, Topped}
 use Rattle.dsde_atomic.specs.Steps.{sited}
-use Rattle.dsde_typing.specs.Outcomes.{sound-given}
+use Rattle.dsde_sound_typing.specs.Outcomes.{sound-given}
 use Rattle.dsde_atomic.proofs.Ends.{then-end}
 use Rattle.dsde_atomic.proofs.Filling.{fill-append, drop-at, drop-over}
 use Rattle.dsde_atomic.proofs.Infos.{infos-by, info_by}

@@ -3,9 +3,9 @@
 ghost use Rattle.std.specs.Prelude.{◌≡◌, ◌≢◌, ◌<◌, ◌++◌, List, length, Ok, Err, IfOk};
 ghost use Rattle.dsde_values.specs.declared.value.Value as values;
 ghost use Rattle.dsde_values.specs.When.{IsMoment};
-ghost use Rattle.dsde_nodes.specs.Models.{infos_of};
-ghost use Rattle.dsde_meaning.specs.Outcome as outcome;
-ghost use Rattle.dsde_meaning.specs.Outcome.{Stuck};
+ghost use Rattle.dsde_program_nodes.specs.Models.{infos_of};
+ghost use Rattle.dsde_eval_meaning.specs.Outcome as outcome;
+ghost use Rattle.dsde_eval_meaning.specs.Outcome.{Stuck};
 ghost use Rattle.dsde_formalism.specs.Leaf.{Gives};
 ghost use Rattle.dsde_system.specs.Body.{after};
 ghost use Rattle.dsde_system.specs.Program.{system};
@@ -15,8 +15,8 @@ ghost use Rattle.dsde_atomic.specs.Steps.{FitsBody, due_by};
 use crate::body::{at_site, code_of};
 use dsde_eval::{Env, eval};
 use dsde_faults::{EvalEnd, FaultKind, LeafEnd, Site};
-use dsde_nodes::ModelId;
 use dsde_program::Program;
+use dsde_program_nodes::ModelId;
 use dsde_values::{LAST_MOMENT, Value, When};
 use std::alloc::Global;
 

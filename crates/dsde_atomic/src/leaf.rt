@@ -13,8 +13,8 @@ use crate::moves::transition;
 use dsde_eval::{Env, run_block};
 use dsde_faults::{LeafEnd, Site};
 use dsde_formalism::{Inputs, Leaf, MoveKind};
-use dsde_nodes::ModelId;
 use dsde_program::Program;
+use dsde_program_nodes::ModelId;
 use dsde_values::{Item, Seq, Values, copy_values};
 use std::alloc::Global;
 

@@ -14,8 +14,8 @@ use dsde_eval::{Env, run_block};
 use dsde_faults::{EvalEnd, FaultKind, LeafEnd, Site};
 use dsde_formalism::{Inputs, MoveKind};
 use dsde_lists::Memory;
-use dsde_nodes::{BlockId, ModelId};
 use dsde_program::Program;
+use dsde_program_nodes::{BlockId, ModelId};
 use dsde_values::{Seq, Value, Values};
 use std::alloc::Global;
 

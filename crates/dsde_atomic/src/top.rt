@@ -1,7 +1,7 @@
 //! The model that runs.
 
 ghost use Rattle.std.specs.Prelude.{IfOk};
-ghost use Rattle.dsde_nodes.specs.Models.{resolved};
+ghost use Rattle.dsde_program_nodes.specs.Models.{resolved};
 ghost use Rattle.dsde_system.specs.Program.{system};
 ghost use Rattle.dsde_system.specs.Fitting.{FitsArgs, Topped};
 

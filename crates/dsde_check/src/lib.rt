@@ -5,5 +5,5 @@ mod declared;
 mod own;
 mod whole;
 
-pub use dsde_scope::CheckError;
+pub use dsde_check_scope::CheckError;
 pub use whole::check;

@@ -1,15 +1,15 @@
 //! The names that declarations take.
 
 ghost use Rattle.std.specs.Prelude.{◌≡◌, ◌++◌, ◌∷◌, [], OnOk};
-ghost use Rattle.dsde_rules.specs.Steps.{apart};
-ghost use Rattle.dsde_rules.specs.Rules.{own_name, apart_all, distinct};
-ghost use Rattle.dsde_scope.specs.Says.{Says};
+ghost use Rattle.dsde_check_rules.specs.Steps.{apart};
+ghost use Rattle.dsde_check_rules.specs.Rules.{own_name, apart_all, distinct};
+ghost use Rattle.dsde_check_scope.specs.Says.{Says};
 
 use crate::CheckError;
+use dsde_check_rules::WrongKind;
+use dsde_check_tables::Word;
 use dsde_names::Names;
-use dsde_rules::WrongKind;
 use dsde_syntax::{Decl, Id, Key};
-use dsde_tables::Word;
 use std::alloc::Global;
 
 /// The names of all declarations differ: `Duplicate` at the first that another one has before it.

@@ -2,17 +2,17 @@
 
 ghost use Rattle.std.specs.Prelude.{◌≡◌};
 ghost use Rattle.std.specs.List.{list_any};
-ghost use Rattle.dsde_rules.specs.Tables.{known_of};
-ghost use Rattle.dsde_rules.specs.Rules.{decls_rule, is_top, top_rules, rules, first_wrong};
-ghost use Rattle.dsde_scope.specs.Says.{Says, Tells};
+ghost use Rattle.dsde_check_rules.specs.Tables.{known_of};
+ghost use Rattle.dsde_check_rules.specs.Rules.{decls_rule, is_top, top_rules, rules, first_wrong};
+ghost use Rattle.dsde_check_scope.specs.Says.{Says, Tells};
 
 use crate::CheckError;
 use crate::declared::decl_rule;
 use crate::own::apart_all;
-use dsde_rules::WrongKind;
-use dsde_scope::narrow;
+use dsde_check_rules::WrongKind;
+use dsde_check_scope::narrow;
+use dsde_check_tables::Known;
 use dsde_syntax::{Decl, Model, tokens_of};
-use dsde_tables::Known;
 use std::alloc::Global;
 
 /// Whether nothing is wrong in a model. `Wrong` is exactly the first wrong thing, with its place.

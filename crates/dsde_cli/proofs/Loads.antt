@@ -3,18 +3,18 @@ use Rattle.std.proofs.Common.{◌≡◌, ℕ, ◌<◌, ◌⊎◌, inl, inr, List
 use Rattle.std.specs.Prelude.{Option, Some, None, ⊤, IfSome, IfOk, IsSomeAnd}
 use Rattle.std.proofs.lemmas.List.{append-nil}
 use Rattle.dsde_syntax.specs.declared.decl.Model.{Model}
-use Rattle.dsde_records.specs.Records.{Records}
-use Rattle.dsde_runs.specs.Run.{Run}
+use Rattle.dsde_input_records.specs.Records.{Records}
+use Rattle.dsde_run_meaning.specs.Run.{Run}
 use Rattle.dsde_io.specs.Held.{Bytes}
 use Rattle.dsde_run.specs.Run.{Running, records_in}
-use Rattle.dsde_verdict.specs.declared.refusal.Refusal.{Refusal}
-use Rattle.dsde_verdict.specs.declared.refusal.ReadModel.{ReadModel}
-use Rattle.dsde_verdict.specs.declared.refusal.ReadModel.TheVariants as read_model
-use Rattle.dsde_verdict.specs.Verdict.{Accepts, Refuses, IsVerdict}
-use Rattle.dsde_status.specs.declared.status.Status.{Status}
-use Rattle.dsde_status.specs.declared.status.Status.TheVariants.{Done, Refused, Usage, BadInput, ModelFault, Unread, Unwritten, Memory, BadSave}
-use Rattle.dsde_status.specs.declared.status.What.TheVariants as what
-use Rattle.dsde_status.specs.declared.status.Why.TheVariants as why
+use Rattle.dsde_cli_verdict.specs.declared.refusal.Refusal.{Refusal}
+use Rattle.dsde_cli_verdict.specs.declared.refusal.ReadModel.{ReadModel}
+use Rattle.dsde_cli_verdict.specs.declared.refusal.ReadModel.TheVariants as read_model
+use Rattle.dsde_cli_verdict.specs.Verdict.{Accepts, Refuses, IsVerdict}
+use Rattle.dsde_cli_status.specs.declared.status.Status.{Status}
+use Rattle.dsde_cli_status.specs.declared.status.Status.TheVariants.{Done, Refused, Usage, BadInput, ModelFault, Unread, Unwritten, Memory, BadSave}
+use Rattle.dsde_cli_status.specs.declared.status.What.TheVariants as what
+use Rattle.dsde_cli_status.specs.declared.status.Why.TheVariants as why
 use Rattle.dsde_cli.specs.Answer.{Answers}
 use Rattle.dsde_cli.specs.declared.load.Runnable.{Runnable}
 use Rattle.dsde_cli.specs.Loaded.{own_of}

@@ -3,22 +3,22 @@ use Rattle.std.proofs.Common.{◌≡◌, ℕ, zero, suc, List, [], ◌∷◌, �
 use Rattle.std.specs.Prelude.{Option, Some, None, IfSome, IsSomeAnd}
 use Rattle.std.proofs.Math.Seq.{take-length}
 use Rattle.std.proofs.lemmas.List.{append-nil}
-use Rattle.dsde_records.specs.Records.{Records}
+use Rattle.dsde_input_records.specs.Records.{Records}
 use Rattle.dsde_io.specs.Bytes.{Gains, GainsFront}
 use Rattle.dsde_io.specs.Held.{Bytes}
 use Rattle.dsde_cli.specs.Causes.{Under}
-use Rattle.dsde_command.specs.Commands.{CheckCommand, RunCommand, Task, checks, runs}
+use Rattle.dsde_cli_command.specs.Commands.{CheckCommand, RunCommand, Task, checks, runs}
 use Rattle.dsde_cli.specs.Answer.{Answers, AnswersFront}
-use Rattle.dsde_events.specs.declared.event.Finish.{Finish}
-use Rattle.dsde_events.specs.declared.event.Finish.TheVariants as how
-use Rattle.dsde_runs.specs.Run.{Run}
+use Rattle.dsde_sim_events.specs.declared.event.Finish.{Finish}
+use Rattle.dsde_sim_events.specs.declared.event.Finish.TheVariants as how
+use Rattle.dsde_run_meaning.specs.Run.{Run}
 use Rattle.dsde_run.specs.Reading.{Told, IsCutShort, IsFront, cut_after, feeds}
 use Rattle.dsde_run.specs.Run.{Running, records_in, trace_text}
 use Rattle.dsde_run.specs.Steps.{Tells}
-use Rattle.dsde_status.specs.declared.status.Status.{Status}
-use Rattle.dsde_status.specs.declared.status.Status.TheVariants.{Done, Refused, Usage, BadInput, ModelFault, Unread, Unwritten, Memory, BadSave}
-use Rattle.dsde_status.specs.declared.status.What.TheVariants as what
-use Rattle.dsde_status.specs.declared.status.Why.TheVariants as why
+use Rattle.dsde_cli_status.specs.declared.status.Status.{Status}
+use Rattle.dsde_cli_status.specs.declared.status.Status.TheVariants.{Done, Refused, Usage, BadInput, ModelFault, Unread, Unwritten, Memory, BadSave}
+use Rattle.dsde_cli_status.specs.declared.status.What.TheVariants as what
+use Rattle.dsde_cli_status.specs.declared.status.Why.TheVariants as why
 use Rattle.dsde_cli.specs.Outcome.{Writes, WritesFront, SaysEnd, Comes, status_of}
 
 -- the whole trace is a front of it

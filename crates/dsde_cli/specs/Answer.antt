@@ -3,11 +3,11 @@ use Rattle.std.specs.Prelude.{ℕ, ◌≡◌, Bool, List, ◌++◌, take, Option
 use Rattle.dsde_syntax.specs.declared.decl.Model.{Model}
 use Rattle.dsde_syntax.specs.Print.{text_of}
 use Rattle.dsde_io.specs.Held.{Bytes}
-use Rattle.dsde_command.specs.Commands.{AsksCheck}
-use Rattle.dsde_status.specs.declared.status.Status.{Status}
-use Rattle.dsde_status.specs.declared.status.Status.TheVariants.{Done, Unread, Unwritten, Memory}
-use Rattle.dsde_status.specs.declared.status.What.TheVariants as what
-use Rattle.dsde_status.specs.declared.status.Why.TheVariants as why
+use Rattle.dsde_cli_command.specs.Commands.{AsksCheck}
+use Rattle.dsde_cli_status.specs.declared.status.Status.{Status}
+use Rattle.dsde_cli_status.specs.declared.status.Status.TheVariants.{Done, Unread, Unwritten, Memory}
+use Rattle.dsde_cli_status.specs.declared.status.What.TheVariants as what
+use Rattle.dsde_cli_status.specs.declared.status.Why.TheVariants as why
 use Rattle.dsde_cli.specs.Causes.{HoldsModel}
 
 -- The words ask for a check, and the shelf tells that bytes are under its model's name which are

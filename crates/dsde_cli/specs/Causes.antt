@@ -6,18 +6,18 @@ use Rattle.dsde_syntax.specs.declared.token.Token.{Token}
 use Rattle.dsde_lexer.specs.declared.lexer.LexError.{LexError}
 use Rattle.dsde_lexer.specs.Lines.{place_of}
 use Rattle.dsde_lexer.specs.Tokens.{tokens}
-use Rattle.dsde_runs.specs.Run.{Spots}
+use Rattle.dsde_run_meaning.specs.Run.{Spots}
 use Rattle.dsde_run.specs.Run.{Running}
 use Rattle.dsde_io.specs.declared.shelf.ShelfEnd.{ShelfEnd}
 use Rattle.dsde_io.specs.declared.shelf.ShelfEnd.TheVariants as shelf_end
 use Rattle.dsde_io.specs.Held.{Bytes}
-use Rattle.dsde_verdict.specs.declared.refusal.Refusal.{Refusal}
-use Rattle.dsde_verdict.specs.Verdict.{Accepts, Refuses}
-use Rattle.dsde_status.specs.declared.status.Status.{Status}
-use Rattle.dsde_status.specs.declared.status.Status.TheVariants.{Done, Refused, Usage, BadInput, ModelFault, Unread, Unwritten, Memory}
-use Rattle.dsde_status.specs.declared.status.What.TheVariants as what
-use Rattle.dsde_status.specs.declared.status.Why.{Why}
-use Rattle.dsde_status.specs.declared.status.Why.TheVariants as why
+use Rattle.dsde_cli_verdict.specs.declared.refusal.Refusal.{Refusal}
+use Rattle.dsde_cli_verdict.specs.Verdict.{Accepts, Refuses}
+use Rattle.dsde_cli_status.specs.declared.status.Status.{Status}
+use Rattle.dsde_cli_status.specs.declared.status.Status.TheVariants.{Done, Refused, Usage, BadInput, ModelFault, Unread, Unwritten, Memory}
+use Rattle.dsde_cli_status.specs.declared.status.What.TheVariants as what
+use Rattle.dsde_cli_status.specs.declared.status.Why.{Why}
+use Rattle.dsde_cli_status.specs.declared.status.Why.TheVariants as why
 
 -- The bytes are accepted.
 pub record AcceptsSome (bytes : List ℕ) : Type 0 where

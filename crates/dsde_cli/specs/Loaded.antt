@@ -1,12 +1,12 @@
 -- A run that the words ask for, of a model that the shelf tells.
 use Rattle.std.specs.Prelude.{ℕ, List, Option}
 use Rattle.dsde_io.specs.Held.{Bytes}
-use Rattle.dsde_records.specs.Records.{Records}
-use Rattle.dsde_runs.specs.Run.{Run}
+use Rattle.dsde_input_records.specs.Records.{Records}
+use Rattle.dsde_run_meaning.specs.Run.{Run}
 use Rattle.dsde_run.specs.Run.{Running, run, running}
 use Rattle.dsde_cli.specs.declared.load.Runnable.{Runnable}
 use Rattle.dsde_cli.specs.Causes.{Holds}
-use Rattle.dsde_command.specs.Commands.{Asked}
+use Rattle.dsde_cli_command.specs.Commands.{Asked}
 
 -- what runs, of what was loaded
 abbrev pub own_of : Runnable → Running

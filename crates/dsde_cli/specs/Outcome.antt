@@ -1,17 +1,17 @@
 -- How a call ends that runs a model, and what it leaves.
 use Rattle.std.specs.Prelude.{ℕ, ◌≡◌, ◌⊎◌, ⊤, List, [], ◌++◌, take, Option, Some, IsSomeAnd}
-use Rattle.dsde_records.specs.Records.{Records}
-use Rattle.dsde_events.specs.declared.event.Finish.{Finish}
-use Rattle.dsde_events.specs.declared.event.Finish.TheVariants as how
-use Rattle.dsde_runs.specs.Run.{Run}
+use Rattle.dsde_input_records.specs.Records.{Records}
+use Rattle.dsde_sim_events.specs.declared.event.Finish.{Finish}
+use Rattle.dsde_sim_events.specs.declared.event.Finish.TheVariants as how
+use Rattle.dsde_run_meaning.specs.Run.{Run}
 use Rattle.dsde_run.specs.Reading.{IsCutShort}
 use Rattle.dsde_run.specs.Run.{Running, records_in, trace_text}
-use Rattle.dsde_status.specs.declared.status.Status.{Status}
-use Rattle.dsde_status.specs.declared.status.Status.TheVariants.{Done, BadInput, ModelFault, Unread, Unwritten, Memory}
-use Rattle.dsde_status.specs.declared.status.What.{What}
-use Rattle.dsde_status.specs.declared.status.What.TheVariants as what
-use Rattle.dsde_status.specs.declared.status.Why.{Why}
-use Rattle.dsde_status.specs.declared.status.Why.TheVariants as why
+use Rattle.dsde_cli_status.specs.declared.status.Status.{Status}
+use Rattle.dsde_cli_status.specs.declared.status.Status.TheVariants.{Done, BadInput, ModelFault, Unread, Unwritten, Memory}
+use Rattle.dsde_cli_status.specs.declared.status.What.{What}
+use Rattle.dsde_cli_status.specs.declared.status.What.TheVariants as what
+use Rattle.dsde_cli_status.specs.declared.status.Why.{Why}
+use Rattle.dsde_cli_status.specs.declared.status.Why.TheVariants as why
 
 -- The sink gained the whole trace of the run.
 abbrev pub Writes : Running → Run → List ℕ → Option (List ℕ) → Type 0

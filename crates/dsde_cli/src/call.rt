@@ -4,20 +4,20 @@ ghost use Rattle.std.specs.Prelude.{◌≡◌, ◌≢◌, ◌≤◌, ◌⊎◌, 
 ghost use Rattle.dsde_io.specs.Fault.{Rose};
 ghost use Rattle.dsde_run.specs.Reading.{Told, TakesWanted};
 ghost use Rattle.dsde_run.specs.Run.{records_in};
-ghost use Rattle.dsde_command.specs.Commands.{Asked, AsksCheck, command_of};
-ghost use Rattle.dsde_status.specs.Note.{Noted, WritesNoteFront};
+ghost use Rattle.dsde_cli_command.specs.Commands.{Asked, AsksCheck, command_of};
+ghost use Rattle.dsde_cli_status.specs.Note.{Noted, WritesNoteFront};
 ghost use Rattle.dsde_cli.specs.Answer.{Checked, Answers, answer_of};
 ghost use Rattle.dsde_cli.specs.Causes.{Cause, CauseCheck, Has, HoldsNone, HoldsNoModel, IsBeforeRun, Tells};
-ghost use Rattle.dsde_verdict.specs.declared.refusal.Refusal.{Refusal};
-ghost use Rattle.dsde_verdict.specs.Verdict.{Refuses};
+ghost use Rattle.dsde_cli_verdict.specs.declared.refusal.Refusal.{Refusal};
+ghost use Rattle.dsde_cli_verdict.specs.Verdict.{Refuses};
 ghost use Rattle.dsde_cli.specs.Loaded.{Loaded, tells_of};
 ghost use Rattle.dsde_cli.specs.Outcome.{Comes, SaysEnd};
 
 use crate::check::load_and_check;
 use crate::run::load_and_run;
-use dsde_command::{Command, read_command};
+use dsde_cli_command::{Command, read_command};
+use dsde_cli_status::{Status, report};
 use dsde_io::{Shelf, Sink, Source};
-use dsde_status::{Status, report};
 use std::alloc::Global;
 
 /// Does what the words ask for, and says in one line on `notes` how it ended where not all went well.

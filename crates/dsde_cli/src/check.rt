@@ -5,15 +5,15 @@ ghost use Rattle.dsde_io.specs.Fault.{Rose};
 ghost use Rattle.dsde_syntax.specs.declared.decl.Model.{Model};
 ghost use Rattle.dsde_cli.specs.Answer.{Answers, answer_of};
 ghost use Rattle.dsde_cli.specs.Causes.{CauseCheck, Has, HoldsModel, HoldsNoModel, IsBeforeRun, IsOfAnswer, Tells};
-ghost use Rattle.dsde_verdict.specs.declared.refusal.Refusal.{Refusal};
-ghost use Rattle.dsde_verdict.specs.Verdict.{Refuses};
+ghost use Rattle.dsde_cli_verdict.specs.declared.refusal.Refusal.{Refusal};
+ghost use Rattle.dsde_cli_verdict.specs.Verdict.{Refuses};
 
 use crate::load::load_accepted;
+use dsde_cli_status::{Status, What};
+use dsde_cli_verdict::one_verdict;
 use dsde_io::{Shelf, Sink, SinkEnd, write_all};
-use dsde_status::{Status, What};
 use dsde_syntax::{Memory, Model, print_model};
 use dsde_values::Text;
-use dsde_verdict::one_verdict;
 use std::alloc::Global;
 
 /// Checks the model of a name, and writes that it is accepted, or its text where that is to be

@@ -7,4 +7,4 @@ mod load;
 mod run;
 
 pub use call::dsde;
-pub use dsde_status::{Refusal, SaveFault, Status, What, Why, report};
+pub use dsde_cli_status::{Refusal, SaveFault, Status, What, Why, report};

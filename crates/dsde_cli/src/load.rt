@@ -2,19 +2,19 @@
 
 ghost use Rattle.std.specs.Prelude.{◌≡◌, ◌≤◌, Some, IfOk, IfErr, IfSome};
 ghost use Rattle.dsde_io.specs.Fault.{Rose};
-ghost use Rattle.dsde_rules.specs.Right.{IsRight};
+ghost use Rattle.dsde_check_rules.specs.Right.{IsRight};
 ghost use Rattle.dsde_run.specs.Run.{Running};
 ghost use Rattle.dsde_syntax.specs.declared.decl.Model.{Model};
-ghost use Rattle.dsde_verdict.specs.Verdict.{Accepts, Refuses};
+ghost use Rattle.dsde_cli_verdict.specs.Verdict.{Accepts, Refuses};
 ghost use Rattle.dsde_cli.specs.Causes.{AcceptsSome, Holds, HoldsModel, NoModel, NoneIn, Runs, RunsSome, Under, spots_of, unread_model};
 ghost use Rattle.dsde_cli.specs.Loaded.{own_of};
 
+use dsde_cli_status::{Status, What, Why};
+use dsde_cli_verdict::{ReadModel, read_model};
 use dsde_io::{Shelf, ShelfEnd};
 use dsde_lexer::{Places, lex};
-use dsde_status::{Status, What, Why};
 use dsde_syntax::Model;
 use dsde_values::{Memory, Text};
-use dsde_verdict::{ReadModel, read_model};
 use std::alloc::Global;
 
 /// A model that is accepted, with the line and the column of each place of its text.

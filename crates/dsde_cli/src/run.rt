@@ -2,23 +2,23 @@
 
 ghost use Rattle.std.specs.Prelude.{◌≡◌, ◌≤◌, ℕ, IfSome};
 ghost use Rattle.dsde_io.specs.Fault.{Rose};
-ghost use Rattle.dsde_rules.specs.Right.{IsRight};
+ghost use Rattle.dsde_check_rules.specs.Right.{IsRight};
 ghost use Rattle.dsde_run.specs.Reading.{Told, TakesWanted};
 ghost use Rattle.dsde_run.specs.Run.{Running, run, records_in};
 ghost use Rattle.dsde_cli.specs.Causes.{Cause, Has, Holds, HoldsNone, IsBeforeRun, IsOfRun, Tells};
-ghost use Rattle.dsde_verdict.specs.declared.refusal.Refusal.{Refusal};
-ghost use Rattle.dsde_verdict.specs.Verdict.{Refuses};
+ghost use Rattle.dsde_cli_verdict.specs.declared.refusal.Refusal.{Refusal};
+ghost use Rattle.dsde_cli_verdict.specs.Verdict.{Refuses};
 ghost use Rattle.dsde_cli.specs.Loaded.{own_of};
 ghost use Rattle.dsde_cli.specs.Outcome.{Comes, SaysEnd, status_of};
 
 use crate::load::{Runnable, load_runnable};
-use dsde_events::Finish;
+use dsde_cli_status::{Status, What, Why};
+use dsde_cli_verdict::one_verdict;
 use dsde_io::{Shelf, Sink, SinkEnd, Source, write_all};
 use dsde_program::resolve;
 use dsde_run::{Cut, Running, run_model};
-use dsde_status::{Status, What, Why};
+use dsde_sim_events::Finish;
 use dsde_values::Text;
-use dsde_verdict::one_verdict;
 use std::alloc::Global;
 
 /// Runs the model of a name for at most so many turns, and writes its trace.

@@ -1,16 +1,16 @@
 //! Expressions and blocks by their numbers.
 
 ghost use Rattle.std.specs.Prelude.{◌≡◌};
-ghost use Rattle.dsde_functions.specs.Coded.{coded_of};
-ghost use Rattle.dsde_evaluator.specs.declared.eval.Evaluator.{Evaluator};
-ghost use Rattle.dsde_evaluator.specs.Evaluating as evaluating;
-ghost use Rattle.dsde_standing.specs.Conditions.{CanEval, Came, CanRun, Ran};
+ghost use Rattle.dsde_sound_functions.specs.Coded.{coded_of};
+ghost use Rattle.dsde_eval_tables.specs.declared.eval.Evaluator.{Evaluator};
+ghost use Rattle.dsde_eval_tables.specs.Evaluating as evaluating;
+ghost use Rattle.dsde_sound_places.specs.Conditions.{CanEval, Came, CanRun, Ran};
 
 use crate::laws::laws;
-use dsde_evaluator::Evaluator;
+use dsde_eval_tables::Evaluator;
 use dsde_faults::EvalEnd;
-use dsde_nodes::{BlockId, ExprId};
 use dsde_program::Program;
+use dsde_program_nodes::{BlockId, ExprId};
 use dsde_values::{Item, Seq, Value, Values};
 use std::alloc::Global;
 

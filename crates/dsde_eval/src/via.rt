@@ -1,13 +1,13 @@
 //! Translations of what goes along a link.
 
 ghost use Rattle.std.specs.Prelude.{◌≡◌, Some, option_copied, IfOk};
-ghost use Rattle.dsde_standing.specs.Conditions.{CanTranslate, Translated, via_values, option_value, IsOption};
+ghost use Rattle.dsde_sound_places.specs.Conditions.{CanTranslate, Translated, via_values, option_value, IsOption};
 
 use crate::env::{Env, eval};
 use dsde_faults::EvalEnd;
 use dsde_lists::Memory;
-use dsde_nodes::ViaId;
 use dsde_program::Program;
+use dsde_program_nodes::ViaId;
 use dsde_values::{Seq, Value, Values, copy_value};
 use std::alloc::Global;
 

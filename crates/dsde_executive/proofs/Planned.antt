@@ -6,22 +6,22 @@ use Rattle.dsde_values.specs.declared.value.Value.{Value}
 use Rattle.dsde_faults.specs.declared.kind.Site.TheVariants as site
 use Rattle.dsde_faults.specs.declared.end.EvalEnd.{EvalEnd}
 use Rattle.dsde_faults.specs.declared.end.EvalEnd.TheVariants as eval_end
-use Rattle.dsde_nodes.specs.declared.ids.ModelId.{ModelId}
-use Rattle.dsde_nodes.specs.declared.make.Make.{Make}
-use Rattle.dsde_nodes.specs.Models.{types_of, resolved}
-use Rattle.dsde_rules.specs.Right.{IsRight}
+use Rattle.dsde_program_nodes.specs.declared.ids.ModelId.{ModelId}
+use Rattle.dsde_program_nodes.specs.declared.make.Make.{Make}
+use Rattle.dsde_program_nodes.specs.Models.{types_of, resolved}
+use Rattle.dsde_check_rules.specs.Right.{IsRight}
 use Rattle.dsde_structure.specs.declared.plan.Plan.{Plan}
-use Rattle.dsde_meaning.specs.Outcome.{Stuck, Outcome, Gives}
-use Rattle.dsde_meaning.specs.Meaning.{Vars}
-use Rattle.dsde_meaning.specs.Tables.{Coded, means_in}
-use Rattle.dsde_plans.specs.Drafts.{planned}
-use Rattle.dsde_evaluator.specs.Evaluating as evaluating
-use Rattle.dsde_planner.specs.declared.planner.Planner.{Planner}
-use Rattle.dsde_planner.specs.Drawing.{part_in}
-use Rattle.dsde_functions.specs.Coded.{coded_of}
-use Rattle.dsde_standing.specs.Bodies.{Own, owns_of, state_slots}
-use Rattle.dsde_standing.specs.Structures.{HasStructure, StructuresStand, structures_of, first_via}
-use Rattle.dsde_layouts.specs.Agreement.{StructureAgrees, StructuresAgree}
+use Rattle.dsde_eval_meaning.specs.Outcome.{Stuck, Outcome, Gives}
+use Rattle.dsde_eval_meaning.specs.Meaning.{Vars}
+use Rattle.dsde_eval_meaning.specs.Tables.{Coded, means_in}
+use Rattle.dsde_executive_plans.specs.Drafts.{planned}
+use Rattle.dsde_eval_tables.specs.Evaluating as evaluating
+use Rattle.dsde_executive_planner.specs.declared.planner.Planner.{Planner}
+use Rattle.dsde_executive_planner.specs.Drawing.{part_in}
+use Rattle.dsde_sound_functions.specs.Coded.{coded_of}
+use Rattle.dsde_sound_places.specs.Bodies.{Own, owns_of, state_slots}
+use Rattle.dsde_sound_places.specs.Structures.{HasStructure, StructuresStand, structures_of, first_via}
+use Rattle.dsde_sound_structures.specs.Agreement.{StructureAgrees, StructuresAgree}
 use Rattle.dsde_formalism.specs.Leaf as formalism
 use Rattle.dsde_system.specs.Body.{at_site, body_vars}
 use Rattle.dsde_system.specs.Program.{system, network_at, plan_at}

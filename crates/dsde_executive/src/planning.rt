@@ -1,24 +1,24 @@
 //! Structures.
 
 ghost use Rattle.std.specs.Prelude.{◌≡◌, ◌++◌, true, IfOk, OnOk};
-ghost use Rattle.dsde_functions.specs.Coded.{coded_of};
-ghost use Rattle.dsde_evaluator.specs.Evaluating as evaluating;
-ghost use Rattle.dsde_planner.specs.declared.planner.Planner.{Planner};
-ghost use Rattle.dsde_standing.specs.Structures.{StructuresStand};
-ghost use Rattle.dsde_layouts.specs.Agreement.{StructuresAgree};
+ghost use Rattle.dsde_sound_functions.specs.Coded.{coded_of};
+ghost use Rattle.dsde_eval_tables.specs.Evaluating as evaluating;
+ghost use Rattle.dsde_executive_planner.specs.declared.planner.Planner.{Planner};
+ghost use Rattle.dsde_sound_places.specs.Structures.{StructuresStand};
+ghost use Rattle.dsde_sound_structures.specs.Agreement.{StructuresAgree};
 ghost use Rattle.dsde_formalism.specs.Leaf.{Gives};
 ghost use Rattle.dsde_system.specs.Program.{system};
 ghost use Rattle.dsde_system.specs.Fitting.{FitsArgs, FitsState};
 ghost use Rattle.dsde_executive.specs.Structure.{in_structure, IsPlan};
 
-use dsde_evaluator::Evaluator;
+use dsde_eval_tables::Evaluator;
+use dsde_executive_planner::Planner;
 use dsde_faults::EvalEnd;
-use dsde_layouts::structures_agree;
 use dsde_lists::Memory;
-use dsde_nodes::ModelId;
-use dsde_planner::Planner;
 use dsde_program::Program;
-use dsde_standing::structures_stand;
+use dsde_program_nodes::ModelId;
+use dsde_sound_places::structures_stand;
+use dsde_sound_structures::structures_agree;
 use dsde_structure::Plan;
 use dsde_values::{Seq, Value, Values, copy_value};
 use std::alloc::Global;

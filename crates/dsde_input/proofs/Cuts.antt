@@ -5,7 +5,7 @@ use Rattle.std.specs.List.{position, prefix_len}
 use Rattle.std.proofs.lemmas.Option.{cond_some}
 use Rattle.std.proofs.lemmas.Bool.Decides.{nat_tests}
 use Rattle.std.proofs.Math.Numerals.{one-add, add-one}
-use Rattle.dsde_records.specs.Lines.{Lacks}
+use Rattle.dsde_input_records.specs.Lines.{Lacks}
 
 pub Lacks-append : (byte : ℕ) (xs ys : List ℕ) → Lacks byte xs → Lacks byte ys → Lacks byte (xs ++ ys)
 Lacks-append byte [] ys first then = then

@@ -7,7 +7,7 @@ use Rattle.std.proofs.lemmas.List.Concat.{flat_map-append}
 use Rattle.dsde_values.specs.declared.arrival.Item.{Item}
 use Rattle.dsde_values.specs.declared.types.Field.{Field}
 use Rattle.dsde_values.specs.declared.types.Types.{Types}
-use Rattle.dsde_records.specs.Record.{IsItem, AreItems, item_text, later_item_text, items_text}
+use Rattle.dsde_input_records.specs.Record.{IsItem, AreItems, item_text, later_item_text, items_text}
 use Rattle.dsde_input.specs.Reading.{Reads, NoWord}
 
 -- what is still to be read: any items that the text spells begin with these, and the rest is spelled from here on

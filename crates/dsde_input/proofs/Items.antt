@@ -15,10 +15,10 @@ use Rattle.dsde_values.specs.declared.value.Value.{Value}
 use Rattle.dsde_values.specs.Value.{HasType, spelling}
 use Rattle.dsde_words.specs.Words.{is_word, begins_word}
 use Rattle.dsde_values.specs.Word.{ends_word, Begins}
-use Rattle.dsde_records.specs.Lines.{Lacks}
-use Rattle.dsde_records.specs.Record.{ArePorts, IsItem, item_text, port_name}
+use Rattle.dsde_input_records.specs.Lines.{Lacks}
+use Rattle.dsde_input_records.specs.Record.{ArePorts, IsItem, item_text, port_name}
 use Rattle.dsde_input.specs.Reading.{Reads, NoWord}
-use Rattle.dsde_records.proofs.Ports.{Lacks-identifier, port_fact, has_name, same_name, no_port, this_port}
+use Rattle.dsde_input_records.proofs.Ports.{Lacks-identifier, port_fact, has_name, same_name, no_port, this_port}
 use Rattle.dsde_input.proofs.Cuts.{IsCut, same_cut, no_cut}
 
 and_false : (one other : Bool) → other ≡ false → (one && other) ≡ false

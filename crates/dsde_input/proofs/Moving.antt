@@ -6,9 +6,9 @@ use Rattle.std.proofs.lemmas.List.{take-take, length-take, append-nil, take-appe
 use Rattle.dsde_values.specs.declared.arrival.Arrival.{Arrival}
 use Rattle.dsde_values.specs.declared.types.Field.{Field}
 use Rattle.dsde_values.specs.declared.types.Types.{Types}
-use Rattle.dsde_records.specs.declared.end.InputEnd.{InputEnd}
+use Rattle.dsde_input_records.specs.declared.end.InputEnd.{InputEnd}
 use Rattle.dsde_input.specs.Reader.{Reader, Moves, to_come, records, Tells, given, IsOneLine, TakesOfLine, TakesLine, SeesEnd}
-use Rattle.dsde_records.specs.Lines.{behind_line}
+use Rattle.dsde_input_records.specs.Lines.{behind_line}
 use Rattle.dsde_input.proofs.Cuts.{Lacks-append}
 use Rattle.dsde_input.proofs.FirstLine.{behind_line-last, Fed, fed_by}
 

@@ -6,7 +6,7 @@ use Rattle.dsde_values.specs.declared.arrival.Arrival.{Arrival}
 use Rattle.dsde_values.specs.declared.arrival.Item.{Item}
 use Rattle.dsde_values.specs.declared.types.Field.{Field}
 use Rattle.dsde_values.specs.declared.types.Types.{Types}
-use Rattle.dsde_records.specs.Record.{AreItems, Spells, time_text, items_text, record_of}
+use Rattle.dsde_input_records.specs.Record.{AreItems, Spells, time_text, items_text, record_of}
 use Rattle.dsde_input.specs.Reading.{Reads, Anything}
 
 none_or : {X : Type 0} (found : Option X) → ((x : X) → found ≡ Some x → None ≡ found) → None ≡ found

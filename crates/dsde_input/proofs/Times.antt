@@ -5,10 +5,10 @@ use Rattle.std.specs.Bool.{then_some}
 use Rattle.std.proofs.lemmas.Fmt.{decimal_injective}
 use Rattle.std.proofs.lemmas.Bool.Decides.{nat_tests}
 use Rattle.dsde_values.specs.When.{IsMoment}
-use Rattle.dsde_records.specs.Lines.{Lacks}
-use Rattle.dsde_records.specs.Record.{time_text}
+use Rattle.dsde_input_records.specs.Lines.{Lacks}
+use Rattle.dsde_input_records.specs.Record.{time_text}
 use Rattle.dsde_input.specs.Reading.{Reads, Anything}
-use Rattle.dsde_records.proofs.Ports.{Lacks-decimal}
+use Rattle.dsde_input_records.proofs.Ports.{Lacks-decimal}
 use Rattle.dsde_input.proofs.Cuts.{IsCut, same_cut, no_cut}
 
 -- a time, the space behind it, and the rest

@@ -3,10 +3,10 @@ use Rattle.std.specs.Prelude.{ℕ, ◌≡◌, ◌≤◌, ◌-◌, ◌==◌, Bool
 use Rattle.dsde_values.specs.declared.arrival.Arrival.{Arrival}
 use Rattle.dsde_values.specs.declared.types.Field.{Field}
 use Rattle.dsde_values.specs.declared.types.Types.{Types}
-use Rattle.dsde_records.specs.declared.end.InputEnd.{InputEnd}
-use Rattle.dsde_records.specs.declared.end.InputEnd.TheVariants as end_of
-use Rattle.dsde_records.specs.Lines.{lines, Lacks}
-use Rattle.dsde_records.specs.Records.{Records, end, bad, one, next_number, records_of}
+use Rattle.dsde_input_records.specs.declared.end.InputEnd.{InputEnd}
+use Rattle.dsde_input_records.specs.declared.end.InputEnd.TheVariants as end_of
+use Rattle.dsde_input_records.specs.Lines.{lines, Lacks}
+use Rattle.dsde_input_records.specs.Records.{Records, end, bad, one, next_number, records_of}
 
 pub record Reader : Type 0 where
   -- the bytes of the wanted line that were read

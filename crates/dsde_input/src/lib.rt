@@ -5,5 +5,5 @@ mod line;
 mod read_record;
 mod reader;
 
-pub use dsde_records::InputEnd;
+pub use dsde_input_records::InputEnd;
 pub use reader::InputReader;

@@ -3,9 +3,9 @@
 ghost use Rattle.std.specs.Prelude.{◌≡◌, IfOk};
 ghost use Rattle.dsde_values.specs.Value.{IsLawful};
 ghost use Rattle.dsde_values.specs.When.{IsMoment};
-ghost use Rattle.dsde_records.specs.Lines.{without_last};
-ghost use Rattle.dsde_records.specs.Record.{ArePorts, AreItems};
-ghost use Rattle.dsde_records.specs.Records.{line_record};
+ghost use Rattle.dsde_input_records.specs.Lines.{without_last};
+ghost use Rattle.dsde_input_records.specs.Record.{ArePorts, AreItems};
+ghost use Rattle.dsde_input_records.specs.Records.{line_record};
 
 use crate::InputEnd;
 use crate::read_record::read_record;

@@ -7,9 +7,9 @@ ghost use Rattle.dsde_values.specs.When.{IsMoment};
 ghost use Rattle.dsde_values.specs.Value.{IsLawful};
 ghost use Rattle.dsde_values.specs.declared.arrival.Item.{Item};
 ghost use Rattle.dsde_input.specs.Reading.{Reads, Anything, NoWord};
-ghost use Rattle.dsde_records.specs.Record.{ArePorts, IsItem, AreItems, time_text, item_text, later_item_text, items_text, record_of};
+ghost use Rattle.dsde_input_records.specs.Record.{ArePorts, IsItem, AreItems, time_text, item_text, later_item_text, items_text, record_of};
 
-use dsde_records::record_is_spelled;
+use dsde_input_records::record_is_spelled;
 use dsde_values::{
     Arrival, Field, Item, LAST_MOMENT, Memory, ReadValue, Seq, Types, decimal_of, read_value,
 };

@@ -4,8 +4,8 @@ ghost use Rattle.std.specs.Prelude.{◌≡◌, ◌<◌, ◌≤◌, true, false, 
 ghost use Rattle.dsde_values.specs.Value.{IsLawful};
 ghost use Rattle.dsde_values.specs.When.{IsMoment};
 ghost use Rattle.dsde_io.specs.Fault.{Rose};
-ghost use Rattle.dsde_records.specs.Lines.{behind_line};
-ghost use Rattle.dsde_records.specs.Record.{ArePorts, AreItems};
+ghost use Rattle.dsde_input_records.specs.Lines.{behind_line};
+ghost use Rattle.dsde_input_records.specs.Record.{ArePorts, AreItems};
 ghost use Rattle.dsde_input.specs.Reader.{fresh, to_come, records, Tells, has_line, reads_left, IsOffence, Moves, given, IsOneLine, TakesOfLine, TakesLine, SeesEnd};
 
 use crate::InputEnd;

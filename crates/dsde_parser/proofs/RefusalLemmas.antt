@@ -8,12 +8,12 @@ use Rattle.dsde_syntax.specs.declared.decl.Model.{Model}
 use Rattle.dsde_syntax.specs.Spelling.{IsToken, HasToken}
 use Rattle.dsde_syntax.specs.Grammar.{Tokens, tokens_of}
 use Rattle.dsde_syntax.specs.Shape.{IsShaped}
-use Rattle.dsde_grammar.specs.Begins.{IsGrammatical, BeginsOne, IsFirstWrong}
-use Rattle.dsde_grammar.specs.Steps.{start, stop}
-use Rattle.dsde_expressions.specs.declared.parser.ParseError.{ParseError}
-use Rattle.dsde_expressions.specs.declared.parser.ParseError.TheVariants as parse_error
+use Rattle.dsde_parser_grammar.specs.Begins.{IsGrammatical, BeginsOne, IsFirstWrong}
+use Rattle.dsde_parser_grammar.specs.Steps.{start, stop}
+use Rattle.dsde_parser_expressions.specs.declared.parser.ParseError.{ParseError}
+use Rattle.dsde_parser_expressions.specs.declared.parser.ParseError.TheVariants as parse_error
 use Rattle.dsde_parser.specs.Depth.{IsShallow, IsFirstDeep}
-use Rattle.dsde_expressions.specs.Follows.{StopsBy}
+use Rattle.dsde_parser_expressions.specs.Follows.{StopsBy}
 use Rattle.dsde_parser.specs.Refusal.{IsRefused}
 use Rattle.dsde_parser.proofs.WholeLemmas.{toks_of, all-toks}
 use Rattle.dsde_parser.proofs.WrongLemmas.{take-take, begins-whole, wrong-longer, not-wrong-before}

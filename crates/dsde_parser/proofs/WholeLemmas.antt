@@ -10,8 +10,8 @@ use Rattle.dsde_syntax.specs.Grammar.{Tokens, decl_tokens, tokens_of}
 use Rattle.dsde_syntax.specs.Places.{decl_span}
 use Rattle.dsde_syntax.specs.Levels.{is_decl}
 use Rattle.dsde_syntax.specs.Shape.{IsShaped}
-use Rattle.dsde_expressions.specs.Took.{Spot, TookAll}
-use Rattle.dsde_expressions.specs.Parts.{AllOk, joined_by, all_by}
+use Rattle.dsde_parser_expressions.specs.Took.{Spot, TookAll}
+use Rattle.dsde_parser_expressions.specs.Parts.{AllOk, joined_by, all_by}
 
 abbrev pub toks_of : List Token → Tokens
 toks_of = map (λ (token : Token). token.tok)

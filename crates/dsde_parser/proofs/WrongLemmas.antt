@@ -3,7 +3,7 @@
 use Rattle.std.proofs.Common.{◌≡◌, ℕ, ◌+◌, ◌≤◌, [], ◌++◌, length, take, drop, sym, ap, subst, ◌∙◌, arith, append_assoc, append-nil}
 use Rattle.std.proofs.lemmas.List.{take-append-drop, take-append-le, length-take-le}
 use Rattle.dsde_syntax.specs.Grammar.{Tokens}
-use Rattle.dsde_grammar.specs.Begins.{IsGrammatical, BeginsOne, IsFirstWrong}
+use Rattle.dsde_parser_grammar.specs.Begins.{IsGrammatical, BeginsOne, IsFirstWrong}
 
 pub take-take : (n m : ℕ) (tokens : Tokens) → n ≤ m → m ≤ length tokens → take n (take m tokens) ≡ take n tokens
 take-take n m tokens le within =

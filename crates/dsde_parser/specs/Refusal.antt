@@ -1,9 +1,9 @@
 -- Why tokens give no model.
 use Rattle.std.specs.Prelude.{◌≤◌, ℕ, take, ⊤}
 use Rattle.dsde_syntax.specs.Grammar.{Tokens}
-use Rattle.dsde_grammar.specs.Begins.{IsFirstWrong}
-use Rattle.dsde_expressions.specs.declared.parser.ParseError.{ParseError}
-use Rattle.dsde_expressions.specs.declared.parser.ParseError.TheVariants as parse_error
+use Rattle.dsde_parser_grammar.specs.Begins.{IsFirstWrong}
+use Rattle.dsde_parser_expressions.specs.declared.parser.ParseError.{ParseError}
+use Rattle.dsde_parser_expressions.specs.declared.parser.ParseError.TheVariants as parse_error
 use Rattle.dsde_parser.specs.Depth.{open_after, IsWithin, IsFirstDeep}
 
 -- The cause of each refusal. The first wrong thing is told where nothing before it stands too deep,

@@ -4,5 +4,5 @@
 mod depth;
 mod whole;
 
-pub use dsde_expressions::ParseError;
+pub use dsde_parser_expressions::ParseError;
 pub use whole::parse;

@@ -5,15 +5,15 @@ ghost use Rattle.dsde_syntax.specs.declared.token.Token.{Token};
 ghost use Rattle.dsde_syntax.specs.Spelling.{HasToken};
 ghost use Rattle.dsde_syntax.specs.Shape.{IsShaped};
 ghost use Rattle.dsde_syntax.specs.Grammar.{tokens_of};
-ghost use Rattle.dsde_grammar.specs.Steps.{start, stop};
+ghost use Rattle.dsde_parser_grammar.specs.Steps.{start, stop};
 ghost use Rattle.dsde_parser.specs.Depth.{IsShallow, IsFirstDeep};
-ghost use Rattle.dsde_expressions.specs.Follows.{StopsBy};
+ghost use Rattle.dsde_parser_expressions.specs.Follows.{StopsBy};
 ghost use Rattle.dsde_parser.specs.Refusal.{IsRefused};
 
 use crate::depth::first_too_deep;
-use dsde_declarations::decls;
-use dsde_expressions::{ParseError, Parser};
-use dsde_grammar::stops_are_first_wrong;
+use dsde_parser_declarations::decls;
+use dsde_parser_expressions::{ParseError, Parser};
+use dsde_parser_grammar::stops_are_first_wrong;
 use dsde_syntax::{Model, Token};
 use std::alloc::Global;
 

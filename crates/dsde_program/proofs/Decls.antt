@@ -8,20 +8,20 @@ use Rattle.dsde_syntax.specs.declared.decl.Decl.TheVariants as decl
 use Rattle.dsde_syntax.specs.declared.decl.Phase.{Phase}
 use Rattle.dsde_syntax.specs.declared.decl.Typed.{Typed}
 use Rattle.dsde_values.specs.declared.types.Field.{Field}
-use Rattle.dsde_rules.specs.declared.known.Known.{Known}
-use Rattle.dsde_nodes.specs.declared.code.Code.{Code}
-use Rattle.dsde_nodes.specs.declared.make.Make.{Make}
-use Rattle.dsde_nodes.specs.declared.ids.ExprId.{ExprId}
-use Rattle.dsde_nodes.specs.declared.tables.Tables.{Tables}
-use Rattle.dsde_nodes.specs.declared.info.Info.{Info}
-use Rattle.dsde_nodes.specs.Models.{Parts, infos_from, place_of_items, with_info}
-use Rattle.dsde_nodes.specs.Items.{model_id}
-use Rattle.dsde_nodes.specs.Statements.{body_scope}
-use Rattle.dsde_nodes.specs.Typing.{Scope}
-use Rattle.dsde_laying.specs.LayPieces.{LaidPiece, over}
-use Rattle.dsde_laying.specs.LayStatements.{lay_phase, lay_body}
-use Rattle.dsde_laying.specs.LayItems.{lay_all, lay_items}
-use Rattle.dsde_laying.specs.LayModels.{lay_decls, no_tables}
+use Rattle.dsde_check_rules.specs.declared.known.Known.{Known}
+use Rattle.dsde_program_nodes.specs.declared.code.Code.{Code}
+use Rattle.dsde_program_nodes.specs.declared.make.Make.{Make}
+use Rattle.dsde_program_nodes.specs.declared.ids.ExprId.{ExprId}
+use Rattle.dsde_program_nodes.specs.declared.tables.Tables.{Tables}
+use Rattle.dsde_program_nodes.specs.declared.info.Info.{Info}
+use Rattle.dsde_program_nodes.specs.Models.{Parts, infos_from, place_of_items, with_info}
+use Rattle.dsde_program_nodes.specs.Items.{model_id}
+use Rattle.dsde_program_nodes.specs.Statements.{body_scope}
+use Rattle.dsde_program_nodes.specs.Typing.{Scope}
+use Rattle.dsde_program_layout.specs.LayPieces.{LaidPiece, over}
+use Rattle.dsde_program_layout.specs.LayStatements.{lay_phase, lay_body}
+use Rattle.dsde_program_layout.specs.LayItems.{lay_all, lay_items}
+use Rattle.dsde_program_layout.specs.LayModels.{lay_decls, no_tables}
 use Rattle.dsde_program.specs.Behind.{behind_body, behind_decls, behind_func, behind_items, behind_top, first_top, no_items, no_top, none_made}
 use Rattle.dsde_program.specs.declared.made.Made.{Made}
 use Rattle.dsde_program.specs.declared.made.TopCode.{TopCode}

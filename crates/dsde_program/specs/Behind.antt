@@ -8,14 +8,14 @@ use Rattle.dsde_syntax.specs.declared.decl.Decl.{Decl}
 use Rattle.dsde_syntax.specs.declared.decl.Decl.TheVariants as decl
 use Rattle.dsde_syntax.specs.declared.decl.PortDecl.{PortDecl}
 use Rattle.dsde_syntax.specs.declared.decl.Typed.{Typed}
-use Rattle.dsde_rules.specs.declared.known.Known.{Known}
-use Rattle.dsde_nodes.specs.Models.{place_of_items}
-use Rattle.dsde_nodes.specs.Items.{model_id}
-use Rattle.dsde_nodes.specs.Statements.{body_scope}
-use Rattle.dsde_laying.specs.LayPieces.{over}
-use Rattle.dsde_laying.specs.LayStatements.{lay_func, lay_body}
-use Rattle.dsde_laying.specs.LayItems.{lay_all, lay_items}
-use Rattle.dsde_laying.specs.LayModels.{no_tables}
+use Rattle.dsde_check_rules.specs.declared.known.Known.{Known}
+use Rattle.dsde_program_nodes.specs.Models.{place_of_items}
+use Rattle.dsde_program_nodes.specs.Items.{model_id}
+use Rattle.dsde_program_nodes.specs.Statements.{body_scope}
+use Rattle.dsde_program_layout.specs.LayPieces.{over}
+use Rattle.dsde_program_layout.specs.LayStatements.{lay_func, lay_body}
+use Rattle.dsde_program_layout.specs.LayItems.{lay_all, lay_items}
+use Rattle.dsde_program_layout.specs.LayModels.{no_tables}
 use Rattle.dsde_program.specs.declared.made.Made.{Made}
 use Rattle.dsde_program.specs.declared.made.TopCode.{TopCode}
 

@@ -1,9 +1,9 @@
 -- What is read of a whole model.
 use Rattle.std.specs.Prelude.{◌≡◌, List, [], length}
 use Rattle.dsde_syntax.specs.declared.decl.Decl.{Decl}
-use Rattle.dsde_rules.specs.declared.known.Known.{Known}
-use Rattle.dsde_nodes.specs.Models.{defs_from, infos_from}
-use Rattle.dsde_laying.specs.LayModels.{lay_decls, no_tables}
+use Rattle.dsde_check_rules.specs.declared.known.Known.{Known}
+use Rattle.dsde_program_nodes.specs.Models.{defs_from, infos_from}
+use Rattle.dsde_program_layout.specs.LayModels.{lay_decls, no_tables}
 use Rattle.dsde_program.specs.declared.whole.Whole.{Whole}
 
 -- what declarations declare, and what is laid of them; each atomic model and each network has one

@@ -1,13 +1,13 @@
 //! A model that is right, with all that it is resolved to.
 
 ghost use Rattle.std.specs.Prelude.{◌≡◌, ◌<◌, Some, length, slice_get, IfOk};
-ghost use Rattle.dsde_nodes.specs.Models.{infos_of, resolved, types_of};
-ghost use Rattle.dsde_rules.specs.Right.{IsRight};
+ghost use Rattle.dsde_program_nodes.specs.Models.{infos_of, resolved, types_of};
+ghost use Rattle.dsde_check_rules.specs.Right.{IsRight};
 
 use crate::whole::{Declared, Laid, Whole, whole_in};
-use dsde_laying::model_laid;
 use dsde_lists::Memory;
-use dsde_nodes::{
+use dsde_program_layout::model_laid;
+use dsde_program_nodes::{
     Act, BlockId, Code, ExprId, FnCode, Info, Make, ModelId, Node, Tables, ViaCode, ViaId,
 };
 use dsde_syntax::Model;
@@ -28,8 +28,8 @@ impl<'m> std::marker::Model for Program<'m> {
     ghost use Rattle.std.specs.Prelude.{◌≡◌, length};
     ghost use Rattle.dsde_syntax.specs.declared.decl.Model.{Model};
     ghost use Rattle.dsde_syntax.specs.contracts.decl.Model as whole;
-    ghost use Rattle.dsde_nodes.specs.Models.{infos_of, resolved, types_of};
-    ghost use Rattle.dsde_rules.specs.Right.{IsRight};
+    ghost use Rattle.dsde_program_nodes.specs.Models.{infos_of, resolved, types_of};
+    ghost use Rattle.dsde_check_rules.specs.Right.{IsRight};
 
     ghost Value = { Model };
 

@@ -1,17 +1,17 @@
 //! What a program reads: what a model declares, and what is laid of its declarations.
 
 ghost use Rattle.std.specs.Prelude.{◌≡◌, [], length, unwrap_or, IfOk};
-ghost use Rattle.dsde_nodes.specs.Models.{defs_from, infos_from, whole_of};
-ghost use Rattle.dsde_laying.specs.LayModels.{lay_decls, no_tables};
+ghost use Rattle.dsde_program_nodes.specs.Models.{defs_from, infos_from, whole_of};
+ghost use Rattle.dsde_program_layout.specs.LayModels.{lay_decls, no_tables};
 ghost use Rattle.dsde_program.specs.Behind.{no_top};
 ghost use Rattle.dsde_program.specs.Whole.{IsWhole};
 
 use crate::made::{Made, TopCode, made_of};
-use dsde_infos::{infos_of, types_of, whole_of};
+use dsde_check_tables::{Known, narrow};
 use dsde_lists::Memory;
-use dsde_nodes::{Code, ExprId, FnCode, Info, Make, ModelId, Tables};
+use dsde_program_infos::{infos_of, types_of, whole_of};
+use dsde_program_nodes::{Code, ExprId, FnCode, Info, Make, ModelId, Tables};
 use dsde_syntax::{Decl, Model};
-use dsde_tables::{Known, narrow};
 use dsde_values::{Seq, Types};
 use std::alloc::Global;
 

@@ -3,9 +3,9 @@ use Rattle.std.proofs.Common.{◌≡◌, ◌≢◌, ◌==◌, ◌||◌, ◌-◌,
 use Rattle.std.specs.Prelude.{Option, Some, None, Ok, Err, IfSome, IsSomeAnd, OnSome, is_some}
 use Rattle.std.proofs.lemmas.List.{append_cancel_right}
 use Rattle.dsde_values.specs.declared.arrival.Arrival.{Arrival}
-use Rattle.dsde_records.specs.declared.end.InputEnd.{InputEnd}
-use Rattle.dsde_records.specs.declared.end.InputEnd.TheVariants as input_end
-use Rattle.dsde_records.specs.Records.{Records, end, bad, one}
+use Rattle.dsde_input_records.specs.declared.end.InputEnd.{InputEnd}
+use Rattle.dsde_input_records.specs.declared.end.InputEnd.TheVariants as input_end
+use Rattle.dsde_input_records.specs.Records.{Records, end, bad, one}
 use Rattle.dsde_input.specs.Reader.{Reader, to_come, records, has_line, IsOffence, IsOneLine, Moves, TakesOfLine, TakesLine, SeesEnd}
 use Rattle.dsde_input.specs.Reader as input
 use Rattle.dsde_run.specs.Heads.{Heads}

@@ -7,19 +7,19 @@ use Rattle.dsde_values.specs.declared.arrival.Item.{Item}
 use Rattle.dsde_values.specs.declared.types.Field.{Field}
 use Rattle.dsde_values.specs.declared.types.Types.{Types}
 use Rattle.dsde_values.proofs.Typed.{HasType-is}
-use Rattle.dsde_records.specs.Record.{IsItem}
-use Rattle.dsde_lawful.specs.Lawful.{TopIsDeclared}
-use Rattle.dsde_meaning.specs.Typed.{AllSent}
-use Rattle.dsde_nodes.specs.declared.info.Info.{Info}
-use Rattle.dsde_nodes.specs.declared.ids.ModelId.{ModelId}
-use Rattle.dsde_nodes.specs.Models.{resolved, types_of}
-use Rattle.dsde_rules.specs.Right.{IsRight}
+use Rattle.dsde_input_records.specs.Record.{IsItem}
+use Rattle.dsde_sound_inputs.specs.Lawful.{TopIsDeclared}
+use Rattle.dsde_eval_meaning.specs.Typed.{AllSent}
+use Rattle.dsde_program_nodes.specs.declared.info.Info.{Info}
+use Rattle.dsde_program_nodes.specs.declared.ids.ModelId.{ModelId}
+use Rattle.dsde_program_nodes.specs.Models.{resolved, types_of}
+use Rattle.dsde_check_rules.specs.Right.{IsRight}
 use Rattle.dsde_sim.specs.Working as sim
-use Rattle.dsde_standing.specs.Bodies.{owns_of}
-use Rattle.dsde_standing.specs.Laws.{BodiesStand}
+use Rattle.dsde_sound_places.specs.Bodies.{owns_of}
+use Rattle.dsde_sound_places.specs.Laws.{BodiesStand}
 use Rattle.dsde_system.specs.Plans.{ways}
-use Rattle.dsde_tree.specs.declared.sim.Sim.{Sim}
-use Rattle.dsde_tree.specs.Tree.{model_of}
+use Rattle.dsde_sim_tree.specs.declared.sim.Sim.{Sim}
+use Rattle.dsde_sim_tree.specs.Tree.{model_of}
 use Rattle.dsde_run.specs.Heads.{Comes}
 use Rattle.dsde_run.specs.Run.{Running, info_of, no_info}
 use Rattle.dsde_run.specs.Steps.{ItemsCome}

@@ -1,5 +1,5 @@
 -- A run over records that are cut short tells the front of what the run over all of them tells.
-use Rattle.dsde_turns.specs.Engine.{next_of}
+use Rattle.dsde_sim_turns.specs.Engine.{next_of}
 use Rattle.std.proofs.Common.{◌≡◌, ℕ, zero, suc, ◌+◌, Bool, true, false, cond, List, [], ◌++◌, length, take, Result, Ok, Err, refl, sym, ap, ◌∙◌, append_assoc}
 use Rattle.std.specs.Prelude.{Option, Some, unwrap_or}
 use Rattle.std.proofs.lemmas.Grind.{flat_map-append}
@@ -7,18 +7,18 @@ use Rattle.std.proofs.lemmas.List.{append-nil}
 use Rattle.std.proofs.Math.Seq.{take-append_seam}
 use Rattle.dsde_run.specs.Run.{Running}
 use Rattle.dsde_values.specs.declared.arrival.Arrival.{Arrival}
-use Rattle.dsde_records.specs.Records.{Records, end, bad, one}
-use Rattle.dsde_events.specs.declared.event.Event.{Event}
-use Rattle.dsde_events.specs.declared.event.Finish.TheVariants as how
-use Rattle.dsde_events.specs.declared.fault.TurnEnd.{TurnEnd}
-use Rattle.dsde_turns.specs.declared.step.Step.{Step}
-use Rattle.dsde_turns.specs.declared.step.Step.TheVariants.{Turned, Quiet}
-use Rattle.dsde_turns.specs.Engine.{Engine}
+use Rattle.dsde_input_records.specs.Records.{Records, end, bad, one}
+use Rattle.dsde_sim_events.specs.declared.event.Event.{Event}
+use Rattle.dsde_sim_events.specs.declared.event.Finish.TheVariants as how
+use Rattle.dsde_sim_events.specs.declared.fault.TurnEnd.{TurnEnd}
+use Rattle.dsde_sim_turns.specs.declared.step.Step.{Step}
+use Rattle.dsde_sim_turns.specs.declared.step.Step.TheVariants.{Turned, Quiet}
+use Rattle.dsde_sim_turns.specs.Engine.{Engine}
 use Rattle.dsde_run.specs.Run.{event_text, trace_text}
-use Rattle.dsde_turns.specs.Turn.{turn_time}
+use Rattle.dsde_sim_turns.specs.Turn.{turn_time}
 use Rattle.dsde_run.specs.Run.{start, advance}
 use Rattle.dsde_run.specs.Reading.{cut_after, IsCutShort, IsFront}
-use Rattle.dsde_runs.specs.Run.{Run, ended, preceded}
+use Rattle.dsde_run_meaning.specs.Run.{Run, ended, preceded}
 use Rattle.dsde_run.specs.Run.{run, go, turn_on, faulted}
 
 -- The events of a part of a run are the first of its events.

@@ -3,7 +3,7 @@ use Rattle.std.proofs.Common.{◌≡◌, ℕ, ◌+◌, ◌-◌, ◌<◌, false, 
 use Rattle.std.proofs.lemmas.List.{take_more}
 use Rattle.std.proofs.lemmas.Bool.Decides.{nat_tests}
 use Rattle.std.proofs.Math.Seq.{take-length, take-append-add}
-use Rattle.dsde_records.specs.Lines.{Lacks}
+use Rattle.dsde_input_records.specs.Lines.{Lacks}
 use Rattle.dsde_input.specs.Reader.{IsOneLine}
 use Rattle.dsde_run.specs.Reading.{feeds, front}
 

@@ -2,7 +2,7 @@
 use Rattle.dsde_syntax.specs.declared.decl.Model.{Model}
 use Rattle.dsde_system.specs.Program.{system}
 use Rattle.dsde_sim.specs.Working.{Working}
-use Rattle.dsde_turns.specs.Turn as turning
+use Rattle.dsde_sim_turns.specs.Turn as turning
 use Rattle.std.proofs.Common.{◌≡◌, ℕ, ◌+◌, Bool, List, [], ◌++◌, length, take, drop, Result, Ok, Err, IfOk, refl, sym, ap, subst, ◌∙◌, append_assoc}
 use Rattle.std.specs.Prelude.{Option, IfErr, IfSome, OnErr}
 use Rattle.std.proofs.lemmas.Grind.{flat_map-append}
@@ -10,21 +10,21 @@ use Rattle.std.proofs.lemmas.List.{append-nil, take-append-drop}
 use Rattle.std.proofs.Math.Seq.{take-length, take-append_seam, take-append-add}
 use Rattle.dsde_run.specs.Run.{Running}
 use Rattle.dsde_values.specs.declared.arrival.Arrival.{Arrival}
-use Rattle.dsde_records.specs.Records.{Records}
-use Rattle.dsde_events.specs.declared.event.Event.{Event}
-use Rattle.dsde_events.specs.declared.event.Finish.{Finish}
-use Rattle.dsde_events.specs.declared.fault.TurnEnd.{TurnEnd}
-use Rattle.dsde_events.specs.declared.fault.TurnEnd.TheVariants.{Fault, Memory}
-use Rattle.dsde_turns.specs.declared.step.Step.{Step}
-use Rattle.dsde_turns.specs.Engine.{Engine}
+use Rattle.dsde_input_records.specs.Records.{Records}
+use Rattle.dsde_sim_events.specs.declared.event.Event.{Event}
+use Rattle.dsde_sim_events.specs.declared.event.Finish.{Finish}
+use Rattle.dsde_sim_events.specs.declared.fault.TurnEnd.{TurnEnd}
+use Rattle.dsde_sim_events.specs.declared.fault.TurnEnd.TheVariants.{Fault, Memory}
+use Rattle.dsde_sim_turns.specs.declared.step.Step.{Step}
+use Rattle.dsde_sim_turns.specs.Engine.{Engine}
 use Rattle.dsde_run.specs.Run.{event_text, trace_text}
-use Rattle.dsde_events.specs.Told.{Told}
+use Rattle.dsde_sim_events.specs.Told.{Told}
 use Rattle.dsde_run.specs.Run.{start, advance}
-use Rattle.dsde_events.specs.Told as turn
+use Rattle.dsde_sim_events.specs.Told as turn
 use Rattle.dsde_run.specs.Reading.{IsFront}
 use Rattle.dsde_run.specs.declared.run.Cut.{Cut}
 use Rattle.dsde_run.specs.declared.run.Cut.TheVariants as cut
-use Rattle.dsde_runs.specs.Run.{Run}
+use Rattle.dsde_run_meaning.specs.Run.{Run}
 use Rattle.dsde_run.specs.Run.{run, go, turn_on, faulted}
 use Rattle.dsde_run.specs.Steps.{GoesOn}
 use Rattle.dsde_run.proofs.Cutting.{behind_turn}

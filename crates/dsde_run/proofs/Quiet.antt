@@ -1,32 +1,32 @@
 -- A run that falls quiet has read its input to the end.
 use Rattle.dsde_system.specs.Program.{system}
-use Rattle.dsde_turns.specs.Engine.{next_of}
+use Rattle.dsde_sim_turns.specs.Engine.{next_of}
 use Rattle.std.proofs.Common.{◌≡◌, ◌≢◌, ℕ, ◌+◌, Bool, true, false, List, [], ◌∷◌, ◌++◌, Result, Ok, Err, refl, sym, ap, ◌∙◌}
 use Rattle.std.specs.Prelude.{Option, Some, None, min}
 use Rattle.dsde_run.specs.Run.{Running}
 use Rattle.dsde_values.specs.declared.arrival.Arrival.{Arrival}
 use Rattle.dsde_values.specs.declared.when.When.{When}
 use Rattle.dsde_values.specs.declared.when.When.TheVariants.{At, Never}
-use Rattle.dsde_records.specs.declared.end.InputEnd.{InputEnd}
-use Rattle.dsde_records.specs.declared.end.InputEnd.TheVariants as input_end
-use Rattle.dsde_events.specs.declared.event.Finish.{Finish}
-use Rattle.dsde_events.specs.declared.event.Finish.TheVariants as how
-use Rattle.dsde_events.specs.declared.fault.TurnEnd.{TurnEnd}
-use Rattle.dsde_events.specs.declared.fault.TurnEnd.TheVariants.{Fault, Memory}
-use Rattle.dsde_turns.specs.declared.step.Step.{Step}
-use Rattle.dsde_turns.specs.declared.step.Step.TheVariants.{Turned}
-use Rattle.dsde_turns.specs.Engine.{Engine}
-use Rattle.dsde_events.specs.Told as step
-use Rattle.dsde_events.specs.Told.{quietly, ◌then◌}
-use Rattle.dsde_turns.specs.Engine.{turned}
-use Rattle.dsde_tree.specs.declared.sim.Sim.{Sim}
-use Rattle.dsde_turns.specs.Turn.{turn, is_taken, items_at, turn_time, after_turn, advance_tree}
+use Rattle.dsde_input_records.specs.declared.end.InputEnd.{InputEnd}
+use Rattle.dsde_input_records.specs.declared.end.InputEnd.TheVariants as input_end
+use Rattle.dsde_sim_events.specs.declared.event.Finish.{Finish}
+use Rattle.dsde_sim_events.specs.declared.event.Finish.TheVariants as how
+use Rattle.dsde_sim_events.specs.declared.fault.TurnEnd.{TurnEnd}
+use Rattle.dsde_sim_events.specs.declared.fault.TurnEnd.TheVariants.{Fault, Memory}
+use Rattle.dsde_sim_turns.specs.declared.step.Step.{Step}
+use Rattle.dsde_sim_turns.specs.declared.step.Step.TheVariants.{Turned}
+use Rattle.dsde_sim_turns.specs.Engine.{Engine}
+use Rattle.dsde_sim_events.specs.Told as step
+use Rattle.dsde_sim_events.specs.Told.{quietly, ◌then◌}
+use Rattle.dsde_sim_turns.specs.Engine.{turned}
+use Rattle.dsde_sim_tree.specs.declared.sim.Sim.{Sim}
+use Rattle.dsde_sim_turns.specs.Turn.{turn, is_taken, items_at, turn_time, after_turn, advance_tree}
 use Rattle.dsde_run.specs.Run.{advance}
 use Rattle.dsde_run.specs.Heads.{Heads}
 use Rattle.dsde_run.specs.declared.run.After.TheVariants.{Ended}
 use Rattle.dsde_run.specs.Heads.{Asked}
 use Rattle.dsde_run.specs.Reading.{Told}
-use Rattle.dsde_runs.specs.Run.{cut, ended, offended}
+use Rattle.dsde_run_meaning.specs.Run.{cut, ended, offended}
 use Rattle.dsde_run.specs.Run.{turn_on, faulted}
 use Rattle.dsde_run.specs.Steps.{Turns}
 use Rattle.dsde_run.proofs.Cutting.{behind_turn}

@@ -1,27 +1,27 @@
 -- The parts of a run: a start or a turn, and what comes behind it.
-use Rattle.dsde_turns.specs.Engine.{next_of}
+use Rattle.dsde_sim_turns.specs.Engine.{next_of}
 use Rattle.std.proofs.Common.{◌≡◌, ℕ, ◌+◌, Bool, List, [], ◌++◌, Option, Some, None, Result, Ok, Err, IfOk, unwrap_or, refl, ap, subst, sym, ◌∙◌, append_assoc}
 use Rattle.std.proofs.lemmas.Grind.{flat_map-append}
 use Rattle.std.proofs.lemmas.List.{append-nil}
 use Rattle.std.proofs.lemmas.Result.{IfOk-at_ok}
 use Rattle.dsde_run.specs.Run.{Running}
 use Rattle.dsde_values.specs.declared.arrival.Arrival.{Arrival}
-use Rattle.dsde_records.specs.Records.{Records}
-use Rattle.dsde_events.specs.declared.event.Event.{Event}
-use Rattle.dsde_events.specs.declared.event.Finish.{Finish}
-use Rattle.dsde_events.specs.declared.event.Finish.TheVariants as how
-use Rattle.dsde_events.specs.declared.fault.TurnEnd.{TurnEnd}
-use Rattle.dsde_events.specs.declared.fault.TurnEnd.TheVariants.{Fault, Memory}
-use Rattle.dsde_turns.specs.declared.step.Step.{Step}
-use Rattle.dsde_turns.specs.declared.step.Step.TheVariants.{Turned, Quiet}
-use Rattle.dsde_turns.specs.Engine.{Engine}
+use Rattle.dsde_input_records.specs.Records.{Records}
+use Rattle.dsde_sim_events.specs.declared.event.Event.{Event}
+use Rattle.dsde_sim_events.specs.declared.event.Finish.{Finish}
+use Rattle.dsde_sim_events.specs.declared.event.Finish.TheVariants as how
+use Rattle.dsde_sim_events.specs.declared.fault.TurnEnd.{TurnEnd}
+use Rattle.dsde_sim_events.specs.declared.fault.TurnEnd.TheVariants.{Fault, Memory}
+use Rattle.dsde_sim_turns.specs.declared.step.Step.{Step}
+use Rattle.dsde_sim_turns.specs.declared.step.Step.TheVariants.{Turned, Quiet}
+use Rattle.dsde_sim_turns.specs.Engine.{Engine}
 use Rattle.dsde_trace.specs.Text.{end_text}
 use Rattle.dsde_run.specs.Run.{event_text, trace_text}
-use Rattle.dsde_events.specs.Told.{Told}
-use Rattle.dsde_turns.specs.Turn.{turn_time}
+use Rattle.dsde_sim_events.specs.Told.{Told}
+use Rattle.dsde_sim_turns.specs.Turn.{turn_time}
 use Rattle.dsde_run.specs.Run.{start, advance}
-use Rattle.dsde_events.specs.Told as turn
-use Rattle.dsde_runs.specs.Run.{Run, ended, preceded}
+use Rattle.dsde_sim_events.specs.Told as turn
+use Rattle.dsde_run_meaning.specs.Run.{Run, ended, preceded}
 use Rattle.dsde_run.specs.Run.{run, go, turn_on, faulted}
 use Rattle.dsde_run.specs.Steps.{Tells, GoesOn}
 

@@ -4,17 +4,17 @@ use Rattle.std.specs.Prelude.{Option, Some, None, IfSome}
 use Rattle.std.proofs.lemmas.List.{append-nil}
 use Rattle.dsde_run.specs.Run.{Running}
 use Rattle.dsde_values.specs.declared.arrival.Arrival.{Arrival}
-use Rattle.dsde_records.specs.declared.end.InputEnd.{InputEnd}
-use Rattle.dsde_records.specs.declared.end.InputEnd.TheVariants.{ReadFault}
-use Rattle.dsde_records.specs.Records.{Records, end, bad, one}
-use Rattle.dsde_events.specs.declared.event.Finish.{Finish}
-use Rattle.dsde_turns.specs.Engine.{Engine}
+use Rattle.dsde_input_records.specs.declared.end.InputEnd.{InputEnd}
+use Rattle.dsde_input_records.specs.declared.end.InputEnd.TheVariants.{ReadFault}
+use Rattle.dsde_input_records.specs.Records.{Records, end, bad, one}
+use Rattle.dsde_sim_events.specs.declared.event.Finish.{Finish}
+use Rattle.dsde_sim_turns.specs.Engine.{Engine}
 use Rattle.dsde_run.specs.Run.{trace_text}
 use Rattle.dsde_run.specs.Heads.{Heads}
 use Rattle.dsde_run.specs.declared.run.After.TheVariants.{Turned, Ended}
 use Rattle.dsde_run.specs.Heads.{IsReady, Gives, Ends, Asked, Refused, with_head, behind_head, passed}
 use Rattle.dsde_run.specs.Reading.{Told, feeds, front, cut_after, TakesWanted, IsCutShort, IsFront}
-use Rattle.dsde_runs.specs.Run.{Run, offended}
+use Rattle.dsde_run_meaning.specs.Run.{Run, offended}
 use Rattle.dsde_run.specs.Run.{go, turn_on}
 use Rattle.dsde_run.specs.Steps.{Tells, GoesOn, Turns, Stops, ahead, Stands}
 use Rattle.dsde_run.proofs.Asking.{none_to_come}

@@ -2,20 +2,20 @@
 use Rattle.std.proofs.Common.{◌≡◌, ℕ, true, List, [], ◌++◌, Result, Ok, Err, refl, ap, sym, ◌∙◌}
 use Rattle.std.specs.Prelude.{Option, Some, None, IfSome, is_some}
 use Rattle.dsde_values.specs.Path.{root}
-use Rattle.dsde_events.specs.declared.fault.TurnEnd.{TurnEnd}
-use Rattle.dsde_events.specs.Told.{at, told, quietly, ◌then◌}
+use Rattle.dsde_sim_events.specs.declared.fault.TurnEnd.{TurnEnd}
+use Rattle.dsde_sim_events.specs.Told.{at, told, quietly, ◌then◌}
 use Rattle.dsde_formalism.specs.System.{System, Chosen}
 use Rattle.dsde_run.specs.Run.{Running}
-use Rattle.dsde_records.specs.Records.{Records}
-use Rattle.dsde_events.specs.declared.event.Event.{Event}
-use Rattle.dsde_turns.specs.Engine.{Engine, begun}
-use Rattle.dsde_turns.specs.Turn as turning
-use Rattle.dsde_turns.specs.Turn.{started_tree}
+use Rattle.dsde_input_records.specs.Records.{Records}
+use Rattle.dsde_sim_events.specs.declared.event.Event.{Event}
+use Rattle.dsde_sim_turns.specs.Engine.{Engine, begun}
+use Rattle.dsde_sim_turns.specs.Turn as turning
+use Rattle.dsde_sim_turns.specs.Turn.{started_tree}
 use Rattle.dsde_run.specs.Run.{trace_text}
 use Rattle.dsde_run.specs.Run.{start}
-use Rattle.dsde_events.specs.Told as turn
+use Rattle.dsde_sim_events.specs.Told as turn
 use Rattle.dsde_run.specs.Reading.{Told, TakesWanted, IsCutShort}
-use Rattle.dsde_runs.specs.Run.{Run}
+use Rattle.dsde_run_meaning.specs.Run.{Run}
 use Rattle.dsde_run.specs.Run.{run, go}
 use Rattle.dsde_run.specs.Steps.{GoesOn}
 use Rattle.dsde_run.proofs.RunLemmas.{GoesOn-text, run-started, text-told}

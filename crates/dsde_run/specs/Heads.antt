@@ -5,12 +5,12 @@ use Rattle.dsde_values.specs.declared.types.Field.{Field}
 use Rattle.dsde_values.specs.declared.types.Types.{Types}
 use Rattle.dsde_values.specs.Value.{IsLawful}
 use Rattle.dsde_values.specs.When.{IsMoment}
-use Rattle.dsde_records.specs.declared.end.InputEnd.{InputEnd}
-use Rattle.dsde_records.specs.declared.end.InputEnd.TheVariants.{ReadFault}
-use Rattle.dsde_records.specs.Record.{ArePorts, AreItems}
-use Rattle.dsde_records.specs.Records.{Records, end, bad, one}
+use Rattle.dsde_input_records.specs.declared.end.InputEnd.{InputEnd}
+use Rattle.dsde_input_records.specs.declared.end.InputEnd.TheVariants.{ReadFault}
+use Rattle.dsde_input_records.specs.Record.{ArePorts, AreItems}
+use Rattle.dsde_input_records.specs.Records.{Records, end, bad, one}
 use Rattle.dsde_input.specs.Reader.{Reader, fresh, to_come, records, IsOffence}
-use Rattle.dsde_nodes.specs.Models.{types_of}
+use Rattle.dsde_program_nodes.specs.Models.{types_of}
 use Rattle.dsde_run.specs.Reading.{feeds, front}
 use Rattle.dsde_run.specs.Run.{Running, info_of}
 

@@ -1,10 +1,10 @@
 -- What a run takes of its input, and how a failed read cuts it short.
 use Rattle.std.specs.Prelude.{ℕ, zero, suc, ◌+◌, ◌-◌, ◌==◌, ◌≡◌, ◌≢◌, if◌then◌else◌, List, [], ◌∷◌, ◌++◌, length, take, Option, None, IfSome, IsSomeAnd}
 use Rattle.dsde_run.specs.Run.{Running}
-use Rattle.dsde_records.specs.declared.end.InputEnd.TheVariants.{ReadFault}
-use Rattle.dsde_records.specs.Records.{Records, end, bad, one}
+use Rattle.dsde_input_records.specs.declared.end.InputEnd.TheVariants.{ReadFault}
+use Rattle.dsde_input_records.specs.Records.{Records, end, bad, one}
 use Rattle.dsde_run.specs.Run.{trace_text}
-use Rattle.dsde_runs.specs.Run.{Run}
+use Rattle.dsde_run_meaning.specs.Run.{Run}
 
 -- This holds of what a source had left before and has left after, where it tells both.
 abbrev pub Told : Option (List ℕ) → Option (List ℕ) → (List ℕ → List ℕ → Type 0) → Type 0

@@ -3,18 +3,18 @@ use Rattle.std.specs.Prelude.{ℕ, Bool, false, List, [], Option, slice_get}
 use Rattle.std.specs.Option.{option_map_or}
 use Rattle.dsde_syntax.specs.declared.decl.Model.{Model}
 use Rattle.dsde_values.specs.declared.arrival.Arrival.{Arrival}
-use Rattle.dsde_records.specs.Records.{Records}
-use Rattle.dsde_nodes.specs.declared.info.Info.{Info}
-use Rattle.dsde_nodes.specs.Models.{infos_of, types_of, resolved}
+use Rattle.dsde_input_records.specs.Records.{Records}
+use Rattle.dsde_program_nodes.specs.declared.info.Info.{Info}
+use Rattle.dsde_program_nodes.specs.Models.{infos_of, types_of, resolved}
 use Rattle.dsde_system.specs.Program.{system}
-use Rattle.dsde_events.specs.declared.event.Event.{Event}
-use Rattle.dsde_events.specs.declared.fault.TurnEnd.{TurnEnd}
-use Rattle.dsde_turns.specs.declared.step.Step.{Step}
-use Rattle.dsde_turns.specs.Engine.{Engine}
-use Rattle.dsde_events.specs.Told.{Told}
-use Rattle.dsde_turns.specs.Turn as turn
-use Rattle.dsde_runs.specs.Run as runs
-use Rattle.dsde_runs.specs.Run.{Run, Spots}
+use Rattle.dsde_sim_events.specs.declared.event.Event.{Event}
+use Rattle.dsde_sim_events.specs.declared.fault.TurnEnd.{TurnEnd}
+use Rattle.dsde_sim_turns.specs.declared.step.Step.{Step}
+use Rattle.dsde_sim_turns.specs.Engine.{Engine}
+use Rattle.dsde_sim_events.specs.Told.{Told}
+use Rattle.dsde_sim_turns.specs.Turn as turn
+use Rattle.dsde_run_meaning.specs.Run as runs
+use Rattle.dsde_run_meaning.specs.Run.{Run, Spots}
 use Rattle.dsde_trace.specs.Text as text
 
 -- A model that runs, and the line and the column of each place of its text.

@@ -2,22 +2,22 @@
 use Rattle.std.specs.Prelude.{ℕ, ◌+◌, ◌≡◌, ◌≢◌, true, false, Bool, List, [], ◌∷◌, ◌++◌, length, Option, Some, None, is_some, IfSome}
 use Rattle.dsde_run.specs.Run.{Running}
 use Rattle.dsde_values.specs.declared.arrival.Arrival.{Arrival}
-use Rattle.dsde_records.specs.declared.end.InputEnd.{InputEnd}
+use Rattle.dsde_input_records.specs.declared.end.InputEnd.{InputEnd}
 use Rattle.dsde_input.specs.Reader.{IsOffence}
-use Rattle.dsde_records.specs.Records.{Records, end, one}
-use Rattle.dsde_events.specs.declared.event.Finish.{Finish}
-use Rattle.dsde_nodes.specs.declared.ids.ModelId.{ModelId}
-use Rattle.dsde_nodes.specs.Models.{resolved, types_of}
+use Rattle.dsde_input_records.specs.Records.{Records, end, one}
+use Rattle.dsde_sim_events.specs.declared.event.Finish.{Finish}
+use Rattle.dsde_program_nodes.specs.declared.ids.ModelId.{ModelId}
+use Rattle.dsde_program_nodes.specs.Models.{resolved, types_of}
 use Rattle.dsde_sim.specs.Working as sim
 use Rattle.dsde_sim.specs.Working.{Working, HeadComes, working}
-use Rattle.dsde_turns.specs.Engine.{Engine}
+use Rattle.dsde_sim_turns.specs.Engine.{Engine}
 use Rattle.dsde_trace.specs.Text.{end_text}
 use Rattle.dsde_run.specs.Run.{trace_text}
 use Rattle.dsde_run.specs.declared.run.After.{After}
 use Rattle.dsde_run.specs.declared.run.After.TheVariants.{Turned, Ended}
 use Rattle.dsde_run.specs.Heads.{Heads, Comes, with_head, behind_head}
 use Rattle.dsde_run.specs.Reading.{feeds, front, cut_after}
-use Rattle.dsde_runs.specs.Run.{Run, offended, ended}
+use Rattle.dsde_run_meaning.specs.Run.{Run, offended, ended}
 use Rattle.dsde_run.specs.Run.{info_of, turn_on}
 
 -- The text gained the run's trace, and the answer is how the run ended.

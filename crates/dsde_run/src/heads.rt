@@ -4,7 +4,7 @@ ghost use Rattle.std.specs.Prelude.{◌≡◌, ◌≤◌, IfOk, IfErr, IfSome, O
 ghost use Rattle.std.specs.Option.{option_copied};
 ghost use Rattle.dsde_values.specs.Value.{IsLawful};
 ghost use Rattle.dsde_io.specs.Fault.{Rose};
-ghost use Rattle.dsde_records.specs.Record.{ArePorts};
+ghost use Rattle.dsde_input_records.specs.Record.{ArePorts};
 ghost use Rattle.dsde_run.specs.Heads.{Comes, IsReady, Asked, Refused, fresh_heads, passed};
 ghost use Rattle.dsde_run.specs.Reading.{Told};
 

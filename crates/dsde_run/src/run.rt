@@ -5,8 +5,8 @@ ghost use Rattle.std.specs.Option.{option_copied};
 ghost use Rattle.dsde_io.specs.Fault.{Rose};
 ghost use Rattle.dsde_sim.specs.Working.{HeadComes};
 ghost use Rattle.dsde_trace.specs.Text.{end_text};
-ghost use Rattle.dsde_turns.specs.Engine.{Engine};
-ghost use Rattle.dsde_runs.specs.Run.{Run, ended};
+ghost use Rattle.dsde_sim_turns.specs.Engine.{Engine};
+ghost use Rattle.dsde_run_meaning.specs.Run.{Run, ended};
 ghost use Rattle.dsde_run.specs.Heads.{IsInput, IsReady, behind_head};
 ghost use Rattle.dsde_run.specs.Reading.{Told, TakesWanted, IsCutShort, IsFront};
 ghost use Rattle.dsde_run.specs.Run.{run, go, turn_on, faulted, records_in, trace_text};
@@ -14,12 +14,12 @@ ghost use Rattle.dsde_run.specs.Steps.{IsRoot, Tells, Turns, Readies, Stops};
 
 use crate::Running;
 use crate::heads::Heads;
-use dsde_events::{Event, Fault, Finish, InputKind, TurnEnd};
 use dsde_input::InputEnd;
 use dsde_io::Source;
 use dsde_sim::Plain;
+use dsde_sim_events::{Event, Fault, Finish, InputKind, TurnEnd};
+use dsde_sim_turns::Step;
 use dsde_trace::write_end;
-use dsde_turns::Step;
 use dsde_values::{Arrival, Memory, Seq, Text};
 use std::alloc::Global;
 

@@ -2,18 +2,18 @@
 
 ghost use Rattle.std.specs.Prelude.{◌≡◌, ◌++◌, OnOk, OnErr};
 ghost use Rattle.dsde_values.specs.Value.{IsLawful};
-ghost use Rattle.dsde_records.specs.Record.{ArePorts};
-ghost use Rattle.dsde_nodes.specs.Models.{types_of};
-ghost use Rattle.dsde_runs.specs.Run.{spot_at};
+ghost use Rattle.dsde_input_records.specs.Record.{ArePorts};
+ghost use Rattle.dsde_program_nodes.specs.Models.{types_of};
+ghost use Rattle.dsde_run_meaning.specs.Run.{spot_at};
 ghost use Rattle.dsde_run.specs.Run.{info_of, running, event_text};
 ghost use Rattle.dsde_run.specs.Steps.{ItemsCome};
 
-use dsde_events::Event;
-use dsde_lawful::{ports_are_lawful, top_is_declared, types_are_lawful};
 use dsde_lexer::Places;
-use dsde_nodes::Info;
 use dsde_program::Program;
-use dsde_standing::bodies_stand;
+use dsde_program_nodes::Info;
+use dsde_sim_events::Event;
+use dsde_sound_inputs::{ports_are_lawful, top_is_declared, types_are_lawful};
+use dsde_sound_places::bodies_stand;
 use dsde_trace::write_event;
 use dsde_values::{Field, Memory, Seq, Text, Types};
 use std::marker::Model;
@@ -32,7 +32,7 @@ impl<'p> Model for Running<'p> {
     ghost use Rattle.std.specs.Coded.{codes};
     ghost use Rattle.dsde_syntax.specs.contracts.decl.Model as model;
     ghost use Rattle.dsde_run.specs.Run as own;
-    ghost use Rattle.dsde_rules.specs.Right.{IsRight};
+    ghost use Rattle.dsde_check_rules.specs.Right.{IsRight};
 
     ghost Value = { own.Running };
 

@@ -6,20 +6,20 @@ use Rattle.dsde_values.specs.declared.when.When.{When}
 use Rattle.dsde_values.specs.declared.when.When.TheVariants.{At, Never}
 use Rattle.dsde_values.specs.When.{IsMoment}
 use Rattle.dsde_formalism.specs.System.{System}
-use Rattle.dsde_events.specs.declared.event.Event.{Event}
-use Rattle.dsde_events.specs.declared.fault.TurnEnd.{TurnEnd}
-use Rattle.dsde_events.specs.Told.{Told, Tells, ◌then◌}
+use Rattle.dsde_sim_events.specs.declared.event.Event.{Event}
+use Rattle.dsde_sim_events.specs.declared.fault.TurnEnd.{TurnEnd}
+use Rattle.dsde_sim_events.specs.Told.{Told, Tells, ◌then◌}
 use Rattle.dsde_system.specs.Fitting.{IsInTime}
-use Rattle.dsde_tree.specs.declared.sim.Sim.{Sim}
-use Rattle.dsde_tree.specs.Tree.{next_time, model_of}
-use Rattle.dsde_turns.specs.declared.step.Step.{Step}
-use Rattle.dsde_turns.specs.declared.step.Step.TheVariants.{Turned}
-use Rattle.dsde_turns.specs.Engine.{Engine, turned}
-use Rattle.dsde_turns.specs.Turn.{turn, turn_time, is_taken, items_at, after_turn, advance}
-use Rattle.dsde_telling.specs.GoingOn.{GoesOn, goes-begin, goes-step, goes-stops, goes-end}
-use Rattle.dsde_moving.specs.Fitting.{FitsTree}
+use Rattle.dsde_sim_tree.specs.declared.sim.Sim.{Sim}
+use Rattle.dsde_sim_tree.specs.Tree.{next_time, model_of}
+use Rattle.dsde_sim_turns.specs.declared.step.Step.{Step}
+use Rattle.dsde_sim_turns.specs.declared.step.Step.TheVariants.{Turned}
+use Rattle.dsde_sim_turns.specs.Engine.{Engine, turned}
+use Rattle.dsde_sim_turns.specs.Turn.{turn, turn_time, is_taken, items_at, after_turn, advance}
+use Rattle.dsde_sim_telling.specs.GoingOn.{GoesOn, goes-begin, goes-step, goes-stops, goes-end}
+use Rattle.dsde_sim_moving.specs.Fitting.{FitsTree}
 use Rattle.dsde_sim.specs.Working.{Comes, FitsItems}
-use Rattle.dsde_moving.specs.Stood.{stood}
+use Rattle.dsde_sim_moving.specs.Stood.{stood}
 use Rattle.std.specs.Prelude.{if◌then◌else◌, ◌==◌, Bool, true, false, []}
 
 -- the next turn of an engine with this tree, at this time

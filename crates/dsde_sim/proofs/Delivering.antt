@@ -2,10 +2,10 @@
 use Rattle.std.proofs.Common.{List, [], ◌∷◌, Option, Some, None, IfSome, inl, inr}
 use Rattle.std.specs.List.{AllByRecursion}
 use Rattle.dsde_syntax.specs.declared.decl.Model.{Model}
-use Rattle.dsde_tree.specs.declared.sim.Sim.{Sim}
-use Rattle.dsde_tree.specs.Spots.{Spot, spots}
-use Rattle.dsde_delivery.specs.Places.{HasOrder, IsInOrder}
-use Rattle.dsde_moving.specs.Fitting.{FitsSpot}
+use Rattle.dsde_sim_tree.specs.declared.sim.Sim.{Sim}
+use Rattle.dsde_sim_tree.specs.Spots.{Spot, spots}
+use Rattle.dsde_sim_delivery.specs.Places.{HasOrder, IsInOrder}
+use Rattle.dsde_sim_moving.specs.Fitting.{FitsSpot}
 use Rattle.dsde_sim.specs.Working.{StandsIf}
 
 all-in-order : (model : Model) (own : List Spot) → AllByRecursion (FitsSpot model) own → AllByRecursion HasOrder own

@@ -3,20 +3,20 @@ use Rattle.std.proofs.Common.{◌≡◌, ℕ, ◌<◌, ◌^◌, false, List, len
 use Rattle.dsde_lists.specs.declared.memory.Memory.{Memory}
 use Rattle.dsde_syntax.specs.declared.decl.Model.{Model}
 use Rattle.dsde_values.specs.declared.arrival.Item.{Item}
-use Rattle.dsde_nodes.specs.Models.{types_of}
+use Rattle.dsde_program_nodes.specs.Models.{types_of}
 use Rattle.dsde_formalism.specs.System.{Ports}
-use Rattle.dsde_standing.specs.Bodies.{Own, owns_of}
+use Rattle.dsde_sound_places.specs.Bodies.{Own, owns_of}
 use Rattle.dsde_system.specs.Fitting.{Reach}
 use Rattle.dsde_system.specs.Plans.{ways}
 use Rattle.dsde_system.specs.Program.{system}
-use Rattle.dsde_carrying.specs.Carrying.{SentFit}
-use Rattle.dsde_tree.specs.declared.sim.Sim.{Sim}
-use Rattle.dsde_tree.specs.Tree.{model_of}
-use Rattle.dsde_tree.specs.Output.{by_port}
-use Rattle.dsde_tree.specs.Move.{ins_of}
-use Rattle.dsde_moving.specs.Fitting.{FitsTree, FitsGot}
+use Rattle.dsde_sound_links.specs.Carrying.{SentFit}
+use Rattle.dsde_sim_tree.specs.declared.sim.Sim.{Sim}
+use Rattle.dsde_sim_tree.specs.Tree.{model_of}
+use Rattle.dsde_sim_tree.specs.Output.{by_port}
+use Rattle.dsde_sim_tree.specs.Move.{ins_of}
+use Rattle.dsde_sim_moving.specs.Fitting.{FitsTree, FitsGot}
 use Rattle.dsde_sim.specs.Working.{FitsItems}
-use Rattle.dsde_moving.specs.Stood.{stood, same-own}
+use Rattle.dsde_sim_moving.specs.Stood.{stood, same-own}
 
 module _ (model : Model) (tree : Sim) (fits : FitsTree model tree) (law : SentFit) (items : List Item) (come : FitsItems model (model_of tree).0 items) where
   pub got-fits : (ports : ℕ) (got : Ports) → ins_of (system model) tree ≡ ports → got ≡ by_port ports items → length got < 2 ^ 32 → FitsGot model (model_of tree).0 got

@@ -6,17 +6,17 @@ use Rattle.dsde_values.specs.declared.when.When.{When}
 use Rattle.dsde_values.specs.declared.when.When.TheVariants.{At, Never}
 use Rattle.dsde_formalism.specs.declared.leaf.Leaf.{Leaf}
 use Rattle.dsde_system.specs.Fitting.{IsInTime}
-use Rattle.dsde_tree.specs.declared.sim.Kid.{Kid}
-use Rattle.dsde_tree.specs.declared.sim.Net.{Net}
-use Rattle.dsde_tree.specs.declared.sim.Sim.{Sim}
-use Rattle.dsde_tree.specs.declared.sim.Sim.TheVariants as sim
-use Rattle.dsde_tree.specs.declared.sim.Sim.TheOpen as layer
-use Rattle.dsde_tree.specs.declared.sim.Sim.TheFolds.{fold-Net, fold-roll-Sim, fold-roll-Kid, fold-roll-Net}
-use Rattle.dsde_tree.specs.declared.sim.Sim.TheViews.{out-Kid, out-Net, roll-out-Kid, roll-out-Net, rolls-Leaf, rolls-Net}
-use Rattle.dsde_tree.specs.Tree.{sooner, soonest, next_step, next_kid, next_net, next_time, next_of_kid}
-use Rattle.dsde_moving.specs.Fitting.{FitsTree, FitsKid}
-use Rattle.dsde_moving.specs.Fits.{leaf-tree, net-tree, net-shape, net-kids, kid-tree}
-use Rattle.dsde_tree.specs.Trees.{each_tree}
+use Rattle.dsde_sim_tree.specs.declared.sim.Kid.{Kid}
+use Rattle.dsde_sim_tree.specs.declared.sim.Net.{Net}
+use Rattle.dsde_sim_tree.specs.declared.sim.Sim.{Sim}
+use Rattle.dsde_sim_tree.specs.declared.sim.Sim.TheVariants as sim
+use Rattle.dsde_sim_tree.specs.declared.sim.Sim.TheOpen as layer
+use Rattle.dsde_sim_tree.specs.declared.sim.Sim.TheFolds.{fold-Net, fold-roll-Sim, fold-roll-Kid, fold-roll-Net}
+use Rattle.dsde_sim_tree.specs.declared.sim.Sim.TheViews.{out-Kid, out-Net, roll-out-Kid, roll-out-Net, rolls-Leaf, rolls-Net}
+use Rattle.dsde_sim_tree.specs.Tree.{sooner, soonest, next_step, next_kid, next_net, next_time, next_of_kid}
+use Rattle.dsde_sim_moving.specs.Fitting.{FitsTree, FitsKid}
+use Rattle.dsde_sim_moving.specs.Fits.{leaf-tree, net-tree, net-shape, net-kids, kid-tree}
+use Rattle.dsde_sim_tree.specs.Trees.{each_tree}
 
 abbrev next_of_net : Net → When
 next_of_net = fold-Net When When When next_step next_kid next_net

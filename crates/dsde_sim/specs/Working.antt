@@ -5,18 +5,18 @@ use Rattle.dsde_values.specs.declared.arrival.Arrival.{Arrival}
 use Rattle.dsde_values.specs.declared.arrival.Item.{Item}
 use Rattle.dsde_values.specs.When.{IsMoment}
 use Rattle.dsde_values.specs.declared.value.Value.{Value}
-use Rattle.dsde_nodes.specs.declared.ids.ModelId.{ModelId}
-use Rattle.dsde_nodes.specs.Models.{types_of}
-use Rattle.dsde_meaning.specs.Typed.{AllSent}
-use Rattle.dsde_standing.specs.Bodies.{Own, owns_of}
+use Rattle.dsde_program_nodes.specs.declared.ids.ModelId.{ModelId}
+use Rattle.dsde_program_nodes.specs.Models.{types_of}
+use Rattle.dsde_eval_meaning.specs.Typed.{AllSent}
+use Rattle.dsde_sound_places.specs.Bodies.{Own, owns_of}
 use Rattle.dsde_system.specs.Plans.{ways}
 use Rattle.dsde_formalism.specs.System.{Chosen}
-use Rattle.dsde_events.specs.declared.fault.TurnEnd.{TurnEnd}
-use Rattle.dsde_tree.specs.declared.sim.Sim.{Sim}
-use Rattle.dsde_tree.specs.Tree.{parts, model_of}
-use Rattle.dsde_turns.specs.declared.step.TheConstants.{MOST_PARTS}
-use Rattle.dsde_turns.specs.Engine.{Engine}
-use Rattle.dsde_moving.specs.Fitting.{FitsTree}
+use Rattle.dsde_sim_events.specs.declared.fault.TurnEnd.{TurnEnd}
+use Rattle.dsde_sim_tree.specs.declared.sim.Sim.{Sim}
+use Rattle.dsde_sim_tree.specs.Tree.{parts, model_of}
+use Rattle.dsde_sim_turns.specs.declared.step.TheConstants.{MOST_PARTS}
+use Rattle.dsde_sim_turns.specs.Engine.{Engine}
+use Rattle.dsde_sim_moving.specs.Fitting.{FitsTree}
 
 -- a program, and the engine that runs it
 pub record Working : Type 0 where

@@ -3,23 +3,23 @@
 ghost use Rattle.std.specs.Prelude.{◌≡◌, ◌<◌, ◌^◌, length, IfOk};
 ghost use Rattle.dsde_values.specs.When.{IsMoment};
 ghost use Rattle.dsde_values.specs.Path.{root};
-ghost use Rattle.dsde_events.specs.Told.{Comes, Tells};
+ghost use Rattle.dsde_sim_events.specs.Told.{Comes, Tells};
 ghost use Rattle.dsde_system.specs.Program.{system};
-ghost use Rattle.dsde_tree.specs.Tree.{parts, model_of};
-ghost use Rattle.dsde_tree.specs.Output.{by_port, output};
-ghost use Rattle.dsde_tree.specs.Move.{ins_of};
-ghost use Rattle.dsde_turns.specs.Turn.{turn, move_phase};
-ghost use Rattle.dsde_moving.specs.Fitting.{FitsTree, FitsGot};
+ghost use Rattle.dsde_sim_tree.specs.Tree.{parts, model_of};
+ghost use Rattle.dsde_sim_tree.specs.Output.{by_port, output};
+ghost use Rattle.dsde_sim_tree.specs.Move.{ins_of};
+ghost use Rattle.dsde_sim_turns.specs.Turn.{turn, move_phase};
+ghost use Rattle.dsde_sim_moving.specs.Fitting.{FitsTree, FitsGot};
 ghost use Rattle.dsde_sim.specs.Working.{FitsItems, Stands};
 
-use dsde_carrying::sent_fits;
-use dsde_events::{Event, TurnEnd};
-use dsde_moving::{by_port, ins_of, move_sim, output, parts};
+use dsde_check_tables::narrow;
 use dsde_program::Program;
-use dsde_tables::narrow;
-use dsde_telling::tell_outs;
-use dsde_tree::Sim;
-use dsde_turns::MOST_PARTS;
+use dsde_sim_events::{Event, TurnEnd};
+use dsde_sim_moving::{by_port, ins_of, move_sim, output, parts};
+use dsde_sim_telling::tell_outs;
+use dsde_sim_tree::Sim;
+use dsde_sim_turns::MOST_PARTS;
+use dsde_sound_links::sent_fits;
 use dsde_values::{Item, Memory, Path, Seq, Values};
 use std::alloc::Global;
 

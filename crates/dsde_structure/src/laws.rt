@@ -10,8 +10,8 @@ ghost use Rattle.dsde_structure.specs.declared.sources.Sources.{Sources};
 ghost use Rattle.dsde_structure.specs.Gather.{Translation, gather};
 ghost use Rattle.dsde_structure.specs.Survival.{compared, names, survives, IsInOrder, AreInOrder};
 
-use dsde_equality::same_values_are_equal;
 use dsde_values::one_name;
+use dsde_values_equality::same_values_are_equal;
 
 /// What comes to an end by some links and others behind them is what comes by the first ones, and
 /// then what comes by the others: values come in the order of links, whatever their sources.

@@ -3,7 +3,7 @@
 ghost use Rattle.std.specs.Prelude.{◌≡◌, IfOk};
 
 use dsde_lists::Memory;
-use dsde_nodes::{ModelId, ViaId};
+use dsde_program_nodes::{ModelId, ViaId};
 use dsde_values::{Name, Seq, Value, Values, copy_values};
 use std::alloc::Global;
 

@@ -9,20 +9,20 @@ use Rattle.dsde_syntax.specs.declared.item.ViaPart.{ViaPart}
 use Rattle.dsde_values.specs.declared.value.Value.{Value}
 use Rattle.dsde_faults.specs.declared.kind.Site.TheVariants as site
 use Rattle.dsde_faults.specs.declared.end.LeafEnd.TheVariants as leaf_end
-use Rattle.dsde_nodes.specs.Models.{whole_of, place_of_items, resolved}
-use Rattle.dsde_nodes.specs.Statements.{port_fields}
+use Rattle.dsde_program_nodes.specs.Models.{whole_of, place_of_items, resolved}
+use Rattle.dsde_program_nodes.specs.Statements.{port_fields}
 use Rattle.dsde_structure.specs.declared.plan.Plan.{Plan}
 use Rattle.dsde_structure.specs.declared.plan.Via.{Via}
-use Rattle.dsde_meaning.specs.Functions.{functions_of}
-use Rattle.dsde_meaning.specs.Meaning.{Vars}
-use Rattle.dsde_meaning.specs.Outcome.{Outcome, ◌>>=◌, option_of, present}
-use Rattle.dsde_plans.specs.Layout as layout
-use Rattle.dsde_standing.specs.Bodies.{Own, owns_of, top_in, body_ins, body_outs}
-use Rattle.dsde_standing.specs.Structures.{structures_of, vias_of, first_via}
+use Rattle.dsde_eval_meaning.specs.Functions.{functions_of}
+use Rattle.dsde_eval_meaning.specs.Meaning.{Vars}
+use Rattle.dsde_eval_meaning.specs.Outcome.{Outcome, ◌>>=◌, option_of, present}
+use Rattle.dsde_executive_plans.specs.Layout as layout
+use Rattle.dsde_sound_places.specs.Bodies.{Own, owns_of, top_in, body_ins, body_outs}
+use Rattle.dsde_sound_places.specs.Structures.{structures_of, vias_of, first_via}
 use Rattle.dsde_formalism.specs.System.{State, Component, Network, System, Chosen}
-use Rattle.dsde_standing.specs.Conditions.{mean_of}
+use Rattle.dsde_sound_places.specs.Conditions.{mean_of}
 use Rattle.dsde_system.specs.Body.{at_site, inits_from, vars_of, body_vars, due, sends, internal, external, confluent}
-use Rattle.dsde_standing.specs.Bodies as bodies
+use Rattle.dsde_sound_places.specs.Bodies as bodies
 
 -- an atomic model with arguments, or the executive of a network
 abbrev pub component : Model → Own → List Value → Component

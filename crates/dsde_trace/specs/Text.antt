@@ -15,16 +15,16 @@ use Rattle.dsde_faults.specs.declared.kind.Site.{Site}
 use Rattle.dsde_faults.specs.declared.kind.Site.TheVariants as site
 use Rattle.dsde_formalism.specs.declared.leaf.MoveKind.{MoveKind}
 use Rattle.dsde_formalism.specs.declared.leaf.MoveKind.TheVariants as move
-use Rattle.dsde_nodes.specs.declared.ids.ModelId.{ModelId}
-use Rattle.dsde_nodes.specs.declared.info.Info.{Info}
-use Rattle.dsde_nodes.specs.Models.{infos_of, types_of, resolved}
-use Rattle.dsde_events.specs.declared.event.Event.{Event}
-use Rattle.dsde_events.specs.declared.event.Event.TheVariants.{AddNet, AddLeaf, Turn, Out, Get, Move, Drop, Finish}
-use Rattle.dsde_events.specs.declared.event.Finish as finish
-use Rattle.dsde_events.specs.declared.event.Finish.TheVariants as how
-use Rattle.dsde_events.specs.declared.event.InputKind.{InputKind}
-use Rattle.dsde_events.specs.declared.event.InputKind.TheVariants.{BadLine, Backwards, LineTooLong}
-use Rattle.dsde_events.specs.declared.fault.Fault.{Fault}
+use Rattle.dsde_program_nodes.specs.declared.ids.ModelId.{ModelId}
+use Rattle.dsde_program_nodes.specs.declared.info.Info.{Info}
+use Rattle.dsde_program_nodes.specs.Models.{infos_of, types_of, resolved}
+use Rattle.dsde_sim_events.specs.declared.event.Event.{Event}
+use Rattle.dsde_sim_events.specs.declared.event.Event.TheVariants.{AddNet, AddLeaf, Turn, Out, Get, Move, Drop, Finish}
+use Rattle.dsde_sim_events.specs.declared.event.Finish as finish
+use Rattle.dsde_sim_events.specs.declared.event.Finish.TheVariants as how
+use Rattle.dsde_sim_events.specs.declared.event.InputKind.{InputKind}
+use Rattle.dsde_sim_events.specs.declared.event.InputKind.TheVariants.{BadLine, Backwards, LineTooLong}
+use Rattle.dsde_sim_events.specs.declared.fault.Fault.{Fault}
 
 -- what the model with this number declares, where there is one
 abbrev pub info_at : Model → ModelId → Option Info

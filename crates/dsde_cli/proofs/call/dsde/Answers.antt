@@ -2,7 +2,7 @@ use Rattle.std.proofs.Common.{◌≡◌, subst, sym, ap, ◌∙◌}
 use Rattle.std.specs.Prelude.{IfSome}
 use Rattle.dsde_run.specs.Reading.{Told, TakesWanted}
 use Rattle.dsde_run.specs.Run.{run, records_in}
-use Rattle.dsde_command.specs.Commands.{CheckCommand, RunCommand, checks, runs}
+use Rattle.dsde_cli_command.specs.Commands.{CheckCommand, RunCommand, checks, runs}
 use Rattle.dsde_cli.specs.Answer.{Answers, answer_of}
 use Rattle.dsde_cli.specs.Causes.{Holds, HoldsModel}
 use Rattle.dsde_cli.specs.Outcome.{Comes, SaysEnd}

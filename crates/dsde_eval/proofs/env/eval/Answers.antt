@@ -1,4 +1,4 @@
-use Rattle.dsde_evaluator.specs.Evaluating as evaluating
+use Rattle.dsde_eval_tables.specs.Evaluating as evaluating
 use Rattle.dsde_eval.proofs.Exprs.{part-allowed, part-came}
 use Rattle.dsde_eval.proofs.env.eval.Goals as goal
 

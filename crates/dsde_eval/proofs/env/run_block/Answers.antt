@@ -1,4 +1,4 @@
-use Rattle.dsde_evaluator.specs.Evaluating as evaluating
+use Rattle.dsde_eval_tables.specs.Evaluating as evaluating
 use Rattle.dsde_eval.proofs.Blocks.{run-allowed, run-ran}
 use Rattle.dsde_eval.proofs.env.run_block.Goals as goal
 

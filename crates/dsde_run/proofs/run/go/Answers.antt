@@ -1,13 +1,13 @@
 use Rattle.std.proofs.Common.{◌≡◌, ◌+◌, ◌-◌, [], ◌++◌, true, false, None, zero, suc, refl, ap, sym, subst, ◌∙◌, arith}
 use Rattle.std.specs.Prelude.{IfSome, IfOk}
 use Rattle.std.proofs.lemmas.Result.{IfOk-weaker}
-use Rattle.dsde_events.specs.declared.event.Finish.TheVariants as how
-use Rattle.dsde_nodes.specs.Models.{resolved}
+use Rattle.dsde_sim_events.specs.declared.event.Finish.TheVariants as how
+use Rattle.dsde_program_nodes.specs.Models.{resolved}
 use Rattle.dsde_trace.specs.Text.{end_text}
 use Rattle.dsde_run.specs.Run.{trace_text}
 use Rattle.dsde_run.specs.Heads.{Comes, IsReady, Refused, behind_head, passed}
 use Rattle.dsde_run.specs.Reading.{Told, IsFront}
-use Rattle.dsde_runs.specs.Run.{ended, offended}
+use Rattle.dsde_run_meaning.specs.Run.{ended, offended}
 use Rattle.dsde_run.specs.Run.{go, turn_on}
 use Rattle.dsde_run.specs.declared.run.After.TheVariants.{Turned, Ended}
 use Rattle.dsde_run.specs.declared.run.Cut.TheVariants as cut

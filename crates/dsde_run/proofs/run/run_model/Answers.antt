@@ -1,18 +1,18 @@
 use Rattle.std.proofs.Common.{Ok, Err}
 use Rattle.dsde_syntax.specs.declared.decl.Model.{Model}
 use Rattle.dsde_system.specs.Program.{system}
-use Rattle.dsde_events.specs.Told as step
-use Rattle.dsde_turns.specs.Turn as turning
+use Rattle.dsde_sim_events.specs.Told as step
+use Rattle.dsde_sim_turns.specs.Turn as turning
 use Rattle.std.proofs.Common.{◌≡◌, ◌++◌, ap, subst, sym, ◌∙◌, arith}
 use Rattle.std.specs.Prelude.{IfSome}
 use Rattle.std.proofs.lemmas.Result.{IfOk-weaker}
-use Rattle.dsde_events.specs.declared.event.Finish.TheVariants as how
+use Rattle.dsde_sim_events.specs.declared.event.Finish.TheVariants as how
 use Rattle.dsde_trace.specs.Text.{end_text}
 use Rattle.dsde_run.specs.Run.{trace_text}
 use Rattle.dsde_run.specs.Run.{start}
 use Rattle.dsde_run.specs.Heads.{behind_head, fresh_heads}
 use Rattle.dsde_run.specs.Reading.{TakesWanted, IsCutShort, IsFront}
-use Rattle.dsde_runs.specs.Run.{ended}
+use Rattle.dsde_run_meaning.specs.Run.{ended}
 use Rattle.dsde_run.specs.Run.{run, go, info_of, records_in}
 use Rattle.dsde_run.specs.Steps.{Tells}
 use Rattle.dsde_run.proofs.Cutting.{IsFront-cut}

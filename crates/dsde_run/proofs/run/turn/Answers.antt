@@ -2,19 +2,19 @@ use Rattle.std.proofs.Common.{Ok, Err, refl, rules}
 use Rattle.std.specs.Prelude.{IfOk, IfErr}
 use Rattle.dsde_syntax.specs.declared.decl.Model.{Model}
 use Rattle.dsde_system.specs.Program.{system}
-use Rattle.dsde_events.specs.Told as step
-use Rattle.dsde_turns.specs.Turn as turning
-use Rattle.dsde_turns.specs.declared.step.Step.TheVariants.{Turned}
-use Rattle.dsde_turns.specs.Engine.{next_of}
+use Rattle.dsde_sim_events.specs.Told as step
+use Rattle.dsde_sim_turns.specs.Turn as turning
+use Rattle.dsde_sim_turns.specs.declared.step.Step.TheVariants.{Turned}
+use Rattle.dsde_sim_turns.specs.Engine.{next_of}
 use Rattle.std.proofs.Common.{◌≡◌, Bool, ◌+◌, ◌++◌, unwrap_or, ◌∙◌, ap, sym, subst}
 use Rattle.std.specs.Option.{option_copied}
 use Rattle.dsde_trace.specs.Text.{end_text}
 use Rattle.dsde_run.specs.Run.{trace_text}
-use Rattle.dsde_turns.specs.Turn.{turn_time}
+use Rattle.dsde_sim_turns.specs.Turn.{turn_time}
 use Rattle.dsde_run.specs.Run.{advance}
 use Rattle.dsde_run.specs.Reading.{IsFront}
-use Rattle.dsde_turns.specs.Engine.{Engine}
-use Rattle.dsde_runs.specs.Run.{Run, ended}
+use Rattle.dsde_sim_turns.specs.Engine.{Engine}
+use Rattle.dsde_run_meaning.specs.Run.{Run, ended}
 use Rattle.dsde_run.specs.Run.{turn_on}
 use Rattle.dsde_run.proofs.RunLemmas.{GoesOn-turned, Tells-faulted, turn_on-faulted}
 use Rattle.dsde_run.proofs.Fronts.{OnErr-always, IsFront-all, IsFront-turn}

@@ -1,5 +1,5 @@
 use Rattle.std.proofs.Common.{◌∙◌, sym}
-use Rattle.dsde_moving.specs.Stood.{stood}
+use Rattle.dsde_sim_moving.specs.Stood.{stood}
 use Rattle.dsde_sim.proofs.Receiving.{received-fits}
 use Rattle.dsde_sim.proofs.turn.received.Goals as goal
 

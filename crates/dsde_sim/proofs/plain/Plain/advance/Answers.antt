@@ -2,16 +2,16 @@ use Rattle.std.proofs.Common.{◌≡◌, ◌∙◌, ◌+◌, ap, sym, subst, Lis
 use Rattle.std.proofs.lemmas.Result.{err_from_is_err_and}
 use Rattle.std.specs.Option.{option_copied}
 use Rattle.dsde_values.specs.declared.arrival.Item.{Item}
-use Rattle.dsde_events.specs.declared.fault.TurnEnd.{TurnEnd}
-use Rattle.dsde_events.specs.Told.{Tells}
+use Rattle.dsde_sim_events.specs.declared.fault.TurnEnd.{TurnEnd}
+use Rattle.dsde_sim_events.specs.Told.{Tells}
 use Rattle.dsde_system.specs.Program.{system}
-use Rattle.dsde_tree.specs.declared.sim.Sim.{Sim}
-use Rattle.dsde_tree.specs.Tree.{model_of, next_time}
-use Rattle.dsde_turns.specs.declared.step.Step.{Step}
-use Rattle.dsde_turns.specs.declared.step.Step.TheVariants.{Turned}
-use Rattle.dsde_turns.specs.Engine.{Engine}
-use Rattle.dsde_turns.specs.Turn.{turn, turn_time, items_at, advance}
-use Rattle.dsde_delivery.specs.Places.{IsInOrder}
+use Rattle.dsde_sim_tree.specs.declared.sim.Sim.{Sim}
+use Rattle.dsde_sim_tree.specs.Tree.{model_of, next_time}
+use Rattle.dsde_sim_turns.specs.declared.step.Step.{Step}
+use Rattle.dsde_sim_turns.specs.declared.step.Step.TheVariants.{Turned}
+use Rattle.dsde_sim_turns.specs.Engine.{Engine}
+use Rattle.dsde_sim_turns.specs.Turn.{turn, turn_time, items_at, advance}
+use Rattle.dsde_sim_delivery.specs.Places.{IsInOrder}
 use Rattle.dsde_sim.specs.Working.{Working, Comes, HeadComes, Stands, StandsIf}
 use Rattle.dsde_sim.proofs.Advancing.{advance-ok, advance-err, turn-moment, head-early, items-fit}
 use Rattle.dsde_sim.proofs.Delivering.{in-order}

@@ -1,0 +1,52 @@
+//! What builtins take and give.
+
+ghost use Rattle.dsde_check_rules.specs.Judge.{row_of, part_type};
+ghost use Rattle.dsde_check_scope.specs.Says.{Says};
+ghost use Rattle.dsde_check_expressions.specs.Parts.{builtin_seen};
+
+use dsde_check_rules::{Fitted, Part, Seen};
+use dsde_check_scope::{Around, CheckError, copy_type, held_type, item_type, wanted};
+use dsde_check_tables::{given_type, row_of};
+use dsde_syntax::Key;
+use dsde_values::Ty;
+use std::alloc::Global;
+
+/// What `T` is behind an argument, where it was this before: `WrongType` at an argument that is not
+/// what it is to be.
+pub(crate) fn part_type(
+    alloc: Global,
+    part: Part,
+    before: Ty,
+    seen: &Seen,
+) -> Result<Ty, CheckError>
+    ensures { Says (part_type part before seen.now) result }
+{
+    match part {
+        Part::Any => Ok(copy_type(alloc, &seen.ty)?),
+        Part::List => item_type(alloc, seen),
+        Part::Opt => held_type(alloc, seen),
+        Part::Int => {
+            wanted(&Ty::Int, seen)?;
+            Ok(before)
+        }
+        Part::Item => {
+            wanted(&before, seen)?;
+            Ok(before)
+        }
+    }
+}
+
+/// A builtin, behind its arguments.
+pub(crate) fn builtin_seen(
+    around: &Around<'_>,
+    which: Key,
+    at: u32,
+    fitted: Fitted,
+) -> Result<Seen, CheckError>
+    ensures { Says (builtin_seen around.now (row_of which) at fitted) result }
+{
+    let row = row_of(which);
+    around.total(row.may_fault, at)?;
+    let ty = given_type(around.alloc(), row.gives, fitted.ty)?;
+    around.made(ty, fitted.height, at)
+}

@@ -1,0 +1,138 @@
+-- What the program's words ask for.
+use Rattle.std.specs.Prelude.{ℕ, ◌≡◌, ◌≤◌, ⊤, Bool, true, false, List, [], ◌∷◌, length, Option, Some, None, ◌&&◌, nat_le, nat_eq, codes, if◌then◌else◌}
+use Rattle.std.specs.Char.{is_ascii_digit}
+use Rattle.std.specs.List.{list_all, starts_with}
+use Rattle.std.specs.Option.{option_map, option_and_then}
+use Rattle.std.specs.Str.{bytes_eq}
+use Rattle.std.specs.Str.Parse.{digits_value}
+use Rattle.dsde_cli_command.specs.declared.command.Command.{Command}
+use Rattle.dsde_cli_command.specs.declared.command.Command.TheVariants.{Check, Run}
+
+-- It takes no more turns than one command may.
+abbrev pub IsBounded : Command → Type 0
+IsBounded (Check model print) = ⊤
+IsBounded (Run model turns) = turns ≤ 1_000_000_000
+
+-- A model is to be checked: the bytes of its name, and whether its text is to be printed.
+pub record CheckCommand : Type 0 where
+  pub model : List ℕ
+  pub print : Bool
+
+-- A model is to be run: the bytes of its name, and the most turns.
+pub record RunCommand : Type 0 where
+  pub model : List ℕ
+  pub turns : ℕ
+
+-- What is to be done.
+pub data Task : Type 0 where
+  checks : CheckCommand → Task
+  runs : RunCommand → Task
+
+-- What a command asks for.
+abbrev pub task_of : Command → Task
+task_of (Check model print) = checks (record { model = model.now; print = print })
+task_of (Run model turns) = runs (record { model = model.now; turns = turns })
+
+-- What the words after the command give, each from left to right: the positional words, the values
+-- of `--turns`, and each `--print`.
+pub record Line : Type 0 where
+  pub positional : List (List ℕ)
+  pub turns : List (List ℕ)
+  pub prints : List (List ℕ)
+
+-- A line of no words.
+abbrev pub no_words : Line
+no_words = record { positional = []; turns = []; prints = [] }
+
+-- A line with one positional word more, before the others.
+abbrev pub with_positional : List ℕ → Line → Line
+with_positional word line = record line { positional = word ∷ line.positional }
+
+-- A line with one value of `--turns` more, before the others.
+abbrev pub with_turns : List ℕ → Line → Line
+with_turns value line = record line { turns = value ∷ line.turns }
+
+-- A line with one `--print` more.
+abbrev pub with_print : Line → Line
+with_print line = record line { prints = codes "--print" ∷ line.prints }
+
+-- A word that may only be an option.
+abbrev pub is_option : List ℕ → Bool
+is_option word = starts_with nat_eq word (codes "--")
+
+-- A word that takes no value, before a line: `--print`, or no option.
+abbrev pub with_word : List ℕ → Option Line → Option Line
+with_word word line =
+    if bytes_eq word (codes "--print") then option_map with_print line
+    else (if is_option word then None else option_map (with_positional word) line)
+
+-- The line of words: `--turns` takes the next word as its value.
+abbrev pub line_of : List (List ℕ) → Option Line
+line_of [] = Some no_words
+line_of (word ∷ []) = with_word word (Some no_words)
+line_of (word ∷ next ∷ words) =
+    if bytes_eq word (codes "--turns") then option_map (with_turns next) (line_of words)
+    else with_word word (line_of (next ∷ words))
+
+-- The one item of a list that has one.
+abbrev pub only : {A : Type 0} → List A → Option A
+only [] = None
+only (item ∷ []) = Some item
+only (item ∷ next ∷ items) = None
+
+-- Whether a word is given that may stand once.
+abbrev pub is_given : {A : Type 0} → List A → Option Bool
+is_given [] = Some false
+is_given (item ∷ []) = Some true
+is_given (item ∷ next ∷ items) = None
+
+-- What there is, where a word is not given that may not stand there.
+abbrev pub without : {A B : Type 0} → List A → Option B → Option B
+without [] found = found
+without (item ∷ items) found = None
+
+-- A word of 1 to 10 decimal digits.
+abbrev pub is_number : List ℕ → Bool
+is_number word = nat_le 1 (length word) && nat_le (length word) 10 && list_all is_ascii_digit word
+
+-- The number that such a word spells, if it is at most a billion.
+abbrev pub turns_of : List ℕ → Option ℕ
+turns_of word = if is_number word && nat_le (digits_value 10 word) 1_000_000_000 then Some (digits_value 10 word) else None
+
+infixl 10 ◌>>=◌
+abbrev pub ◌>>=◌ : {A B : Type 0} → Option A → (A → Option B) → Option B
+found >>= next = option_and_then next found
+
+-- The check of a line: its one positional word is the model's name, `--print` stands in it at most
+-- once, and `--turns` nowhere.
+abbrev pub check_of : Line → Option Task
+check_of line = without line.turns (do
+  model ← only line.positional
+  print ← is_given line.prints
+  Some (checks (record { model = model; print = print })))
+
+-- The run of a line: its one positional word is the model's name, `--turns` stands in it once, and
+-- `--print` nowhere.
+abbrev pub run_of : Line → Option Task
+run_of line = without line.prints (do
+  model ← only line.positional
+  value ← only line.turns
+  turns ← turns_of value
+  Some (runs (record { model = model; turns = turns })))
+
+-- The command that words spell: the first word names it.
+abbrev pub command_of : List (List ℕ) → Option Task
+command_of [] = None
+command_of (name ∷ words) =
+    if bytes_eq name (codes "check") then line_of words >>= check_of
+    else (if bytes_eq name (codes "run") then line_of words >>= run_of else None)
+
+-- The words ask for this check.
+pub record AsksCheck (words : List (List ℕ)) : Type 0 where
+  pub check : CheckCommand
+  pub spelled : command_of words ≡ Some (checks check)
+
+-- The words ask for this run.
+pub record Asked (words : List (List ℕ)) : Type 0 where
+  pub run : RunCommand
+  pub spelled : command_of words ≡ Some (runs run)

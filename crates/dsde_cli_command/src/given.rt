@@ -1,0 +1,136 @@
+//! The words after the command, one by one.
+
+ghost use Rattle.std.specs.Prelude.{◌≡◌, map, string_bytes, IfSome};
+ghost use Rattle.std.specs.Option.{option_map};
+ghost use Rattle.dsde_cli_command.specs.Commands.{
+  IsBounded,
+  Line,
+  with_positional,
+  with_turns,
+  with_print,
+  is_option,
+  task_of,
+  check_of,
+  run_of,
+};
+ghost use Rattle.dsde_cli_command.specs.Given.{line_given, joined, given_after, read_of, read_words_of};
+
+use crate::command::Command;
+use crate::number::read_turns;
+
+/// The words after the command, as far as they have been read.
+#[derive(Clone, Copy)]
+pub(crate) struct Given<'w> {
+    model: Option<&'w str>,
+    turns: Option<&'w str>,
+    print: bool,
+}
+
+impl<'w> Given<'w> {
+    /// Takes a word that is no option; `None` where the model's name was given before.
+    fn place(self, word: &'w str) -> Option<Given<'w>>
+        ensures { (line : Line) → given_after result line
+            ≡ read_of (joined self.entry (with_positional word.now line)) }
+    {
+        if self.model.is_some() {
+            return None;
+        }
+        Some(Given {
+            model: Some(word),
+            turns: self.turns,
+            print: self.print,
+        })
+    }
+
+    /// Takes the value of `--turns`; `None` where one was given before.
+    fn bound(self, value: &'w str) -> Option<Given<'w>>
+        ensures { (line : Line) → given_after result line
+            ≡ read_of (joined self.entry (with_turns value.now line)) }
+    {
+        if self.turns.is_some() {
+            return None;
+        }
+        Some(Given {
+            model: self.model,
+            turns: Some(value),
+            print: self.print,
+        })
+    }
+
+    /// Takes `--print`; `None` where it was given before.
+    fn printing(self) -> Option<Given<'w>>
+        ensures { (line : Line) → given_after result line
+            ≡ read_of (joined self.entry (with_print line)) }
+    {
+        if self.print {
+            return None;
+        }
+        Some(Given {
+            model: self.model,
+            turns: self.turns,
+            print: true,
+        })
+    }
+
+    /// The check of a model, where it was named and no turns were given.
+    pub fn check(self) -> Option<Command<'w>>
+        ensures spelled { option_map task_of result ≡ check_of (line_given self.entry) }
+        ensures bounded { IfSome result IsBounded }
+    {
+        if self.turns.is_some() {
+            return None;
+        }
+        Some(Command::Check {
+            model: self.model?,
+            print: self.print,
+        })
+    }
+
+    /// The run of a model, where it was named, its turns were given, and nothing is to be printed.
+    pub fn run(self) -> Option<Command<'w>>
+        ensures spelled { option_map task_of result ≡ run_of (line_given self.entry) }
+        ensures bounded { IfSome result IsBounded }
+    {
+        if self.print {
+            return None;
+        }
+        Some(Command::Run {
+            model: self.model?,
+            turns: read_turns(self.turns?)?,
+        })
+    }
+}
+
+/// What the words after the command give; `None` where one of them may not stand there.
+pub(crate) fn read_words(words: &[String]) -> Option<Given<'_>>
+    ensures { option_map line_given result ≡ read_words_of (map string_bytes words.now) }
+{
+    let mut given = Given {
+        model: None,
+        turns: None,
+        print: false,
+    };
+    let mut left = words;
+    while let Some((word, rest)) = left.split_first() {
+        left = rest;
+        if word.as_str() == "--turns" {
+            let (value, rest) = left.split_first()?;
+            left = rest;
+            given = given.bound(value.as_str())?;
+        } else if word.as_str() == "--print" {
+            given = given.printing()?;
+        } else if is_option(word.as_str()) {
+            return None;
+        } else {
+            given = given.place(word.as_str())?;
+        }
+    }
+    Some(given)
+}
+
+/// Whether a word may only be an option.
+fn is_option(word: &str) -> bool
+    ensures { result ≡ is_option word.now }
+{
+    word.starts_with("--")
+}

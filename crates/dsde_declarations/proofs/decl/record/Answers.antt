@@ -1,7 +1,0 @@
-use Rattle.std.proofs.Common.{refl}
-use Rattle.dsde_expressions.proofs.PartLemmas.{one, own, ◌⨟◌, read}
-use Rattle.dsde_declarations.proofs.decl.record.Goals as goal
-
-pub returns-clause-took : goal.returns-clause-took
-returns-clause-took c =
-    read (one c.in_ok-key.ensures.took ⨟ own c.in_ok-name.ensures.took ⨟ (one c.in_ok-sign.ensures.took ⨟ own c.in_ok-fields.ensures.took ⨟ one c.in_ok-sign-2.ensures.took)) refl refl c.in_ok-fields.ensures.took.good.some

@@ -1,0 +1,75 @@
+//! Operators of one and of two values.
+
+ghost use Rattle.std.specs.Prelude.{◌≡◌, ◌≢◌, Ok, Err};
+ghost use Rattle.dsde_eval_meaning.specs.Outcome.{Stuck, Gives};
+ghost use Rattle.dsde_eval_meaning.specs.Operators.{same_value, operated, denied, negated, unwrapped};
+
+use crate::held::{int_of, option_of, truth_of};
+use crate::lists::joined;
+use crate::numbers::{
+    capped_difference, capped_product, capped_sum, difference, product, quotient, remainder, sum,
+};
+use dsde_faults::{EvalEnd, FaultKind};
+use dsde_program_nodes::Binary;
+use dsde_values::{Value, equal};
+
+/// Whether two values are equal.
+fn is_same(value: &Value, other: &Value) -> bool
+    ensures { result ≡ same_value value.now other.now }
+{
+    equal(value, other)
+}
+
+/// What an operator makes of the values on its two sides: `or` and `and` are none of these, since they
+/// do not always look at the right side. The faults, at the operator's place, are those of the numbers
+/// and of the lists: `Overflow`, `DivideByZero` and `RangeTooLong`.
+pub fn operated(which: Binary, at: u32, left: Value, right: Value) -> Result<Value, EvalEnd>
+    requires { operated which at left right ≢ Err Stuck }
+    ensures { Gives (operated which at left right) result }
+{
+    match which {
+        Binary::Or | Binary::And => unreachable!(),
+        Binary::Equal => Ok(Value::Bool(is_same(&left, &right))),
+        Binary::NotEqual => Ok(Value::Bool(!is_same(&left, &right))),
+        Binary::Less => Ok(Value::Bool(int_of(&left) < int_of(&right))),
+        Binary::LessEqual => Ok(Value::Bool(int_of(&left) <= int_of(&right))),
+        Binary::Greater => Ok(Value::Bool(int_of(&left) > int_of(&right))),
+        Binary::GreaterEqual => Ok(Value::Bool(int_of(&left) >= int_of(&right))),
+        Binary::Add => sum(at, int_of(&left), int_of(&right)),
+        Binary::Sub => difference(at, int_of(&left), int_of(&right)),
+        Binary::Mul => product(at, int_of(&left), int_of(&right)),
+        Binary::Div => quotient(at, int_of(&left), int_of(&right)),
+        Binary::Rem => remainder(at, int_of(&left), int_of(&right)),
+        Binary::CapAdd => Ok(Value::Int(capped_sum(int_of(&left), int_of(&right)))),
+        Binary::CapSub => Ok(Value::Int(capped_difference(int_of(&left), int_of(&right)))),
+        Binary::CapMul => Ok(Value::Int(capped_product(int_of(&left), int_of(&right)))),
+        Binary::Join => joined(at, left, right),
+    }
+}
+
+/// `not`: the other truth.
+pub fn denied(value: &Value) -> Value
+    requires { denied value.now ≢ Err Stuck }
+    ensures { denied value.now ≡ Ok result }
+{
+    Value::Bool(!truth_of(value))
+}
+
+/// The sign before a number; the fault `Overflow`, at the sign's place, for the least number.
+pub fn negated(at: u32, value: &Value) -> Result<Value, EvalEnd>
+    requires { negated at value.now ≢ Err Stuck }
+    ensures { Gives (negated at value.now) result }
+{
+    difference(at, 0, int_of(value))
+}
+
+/// `!`: the value of an option; the fault `EmptyOption`, at the sign's place, where it has none.
+pub fn unwrapped(at: u32, value: Value) -> Result<Value, EvalEnd>
+    requires { unwrapped at value ≢ Err Stuck }
+    ensures { Gives (unwrapped at value) result }
+{
+    match option_of(value) {
+        Some(inner) => Ok(inner),
+        None => Err(EvalEnd::Fault(FaultKind::EmptyOption, at)),
+    }
+}

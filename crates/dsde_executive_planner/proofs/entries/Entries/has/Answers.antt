@@ -1,0 +1,8 @@
+use Rattle.std.proofs.Common.{◌∙◌, ap}
+use Rattle.dsde_executive_plans.specs.Layout.{is_there}
+use Rattle.dsde_executive_planner.proofs.Naming.{found}
+use Rattle.dsde_executive_planner.proofs.entries.Entries.has.Goals as goal
+
+pub returns : goal.returns
+returns c =
+    c.contains_key.ensures ∙ found c.orders_are_total.ensures.names c.args.name.now c.self.inside.by_name.entries ∙ ap (is_there c.args.name.now) c.self.view_is

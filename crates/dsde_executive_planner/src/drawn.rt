@@ -1,0 +1,113 @@
+//! What items have put into a structure so far.
+
+ghost use Rattle.std.specs.Prelude.{◌≡◌, [], map, IfOk};
+ghost use Rattle.dsde_eval_meaning.specs.Outcome.{Gives};
+ghost use Rattle.dsde_executive_plans.specs.Layout.{with_entry, with_link, has_part, tied, plan_of};
+ghost use Rattle.dsde_executive_planner.specs.Drawing.{Becomes};
+
+use crate::entries::Entries;
+use dsde_executive_plans::PlacedLink;
+use dsde_faults::{EvalEnd, FaultKind};
+use dsde_lists::Memory;
+use dsde_structure::{Entry, Link, Part, Plan};
+use dsde_values::Seq;
+use std::alloc::Global;
+
+/// How many components a structure may have, and how many links.
+const MOST: usize = 65_536;
+
+/// The components so far, and the links in the order in which they came.
+#[derive(Drop)]
+pub(crate) struct Drawn {
+    pub entries: Entries,
+    pub links: Seq<PlacedLink>,
+}
+
+impl Drawn {
+    /// Nothing.
+    pub(crate) fn new(alloc: Global) -> Drawn
+        ensures entries { result.entries ≡ [] }
+        ensures links { result.links ≡ [] }
+    {
+        Drawn {
+            entries: Entries::new(alloc),
+            links: Seq::new(alloc),
+        }
+    }
+
+    /// Puts a component in. The faults are `DuplicateComponent` where there is one of its name, and
+    /// `Crowded` where there are 65,536.
+    pub(crate) fn put(&mut self, at: u32, entry: Entry) -> Result<(), EvalEnd>
+        ensures entries { Becomes (with_entry at entry self.old.entries) result self.new.entries }
+        ensures links { self.new.links ≡ self.old.links }
+    {
+        if self.entries.has(&entry.name) {
+            return Err(EvalEnd::Fault(FaultKind::DuplicateComponent, at));
+        }
+        if self.entries.len() >= MOST {
+            return Err(EvalEnd::Fault(FaultKind::Crowded, at));
+        }
+        self.entries.put(entry)?;
+        Ok(())
+    }
+
+    /// Lays a link. The fault is `TooManyLinks` where there are 65,536.
+    pub(crate) fn lay(&mut self, at: u32, link: Link) -> Result<(), EvalEnd>
+        ensures links { Becomes (with_link at link self.old.links) result self.new.links }
+        ensures entries { self.new.entries ≡ self.old.entries }
+    {
+        if self.links.len() >= MOST {
+            return Err(EvalEnd::Fault(FaultKind::TooManyLinks, at));
+        }
+        self.links.push(PlacedLink { at, link })?;
+        Ok(())
+    }
+
+    /// The plan of all that was put in. The fault is `DanglingLink` at the first link with an end
+    /// at a component that is not there.
+    pub(crate) fn plan(self, alloc: Global) -> Result<Plan, EvalEnd>
+        ensures { Gives (plan_of self.entries self.links) result }
+    {
+        let Drawn { entries, links } = self;
+        tied(&entries, links.as_slice())?;
+        Ok(Plan {
+            entries: entries.into_seq(alloc)?,
+            links: bare(alloc, links)?,
+        })
+    }
+}
+
+/// Whether a part of the network is there.
+fn has_part(entries: &Entries, part: &Part) -> bool
+    ensures { result ≡ has_part entries.now part.now }
+{
+    match part {
+        Part::Net => true,
+        Part::Boss => true,
+        Part::Kid(name) => entries.has(name),
+    }
+}
+
+/// Finds the first link of which an end is not there.
+fn tied(entries: &Entries, links: &[PlacedLink]) -> Result<(), EvalEnd>
+    ensures { Gives (tied entries.now links.now) result }
+{
+    for placed in links {
+        let link = &placed.link;
+        if !has_part(entries, &link.from.part) || !has_part(entries, &link.to.part) {
+            return Err(EvalEnd::Fault(FaultKind::DanglingLink, placed.at));
+        }
+    }
+    Ok(())
+}
+
+/// The links without their places.
+fn bare(alloc: Global, placed: Seq<PlacedLink>) -> Result<Seq<Link>, Memory>
+    ensures { IfOk result (λ links. links ≡ map (λ own. own.link) placed) }
+{
+    let mut links = Seq::new(alloc);
+    for PlacedLink { at: _, link } in placed.into_vec() {
+        links.push(link)?;
+    }
+    Ok(links)
+}

@@ -1,0 +1,94 @@
+//! The components that items have put into a structure, by name.
+
+ghost use Rattle.std.specs.Prelude.{◌≡◌, [], false, length, OnOk, IfOk};
+ghost use Rattle.dsde_executive_plans.specs.Layout.{inserted, is_there};
+
+use dsde_lists::Memory;
+use dsde_program_nodes::ModelId;
+use dsde_structure::Entry;
+use dsde_values::{Name, Seq, Values, orders_are_total};
+use std::alloc::Global;
+use std::collections::BTreeMap;
+use std::marker::Model;
+
+/// What stands under a name: a model, and its arguments.
+#[derive(Drop)]
+struct Chosen {
+    model: ModelId,
+    args: Values,
+}
+
+/// Components under names that differ, in the order of the names. To look one up and to put one in
+/// costs in step with the logarithm of their number.
+#[derive(Drop)]
+pub(crate) struct Entries {
+    by_name: BTreeMap<Name, Chosen>,
+}
+
+impl Model for Entries {
+    ghost use Rattle.std.specs.Prelude.{List, map};
+    ghost use Rattle.std.specs.Coded.{codes};
+    ghost use Rattle.std.specs.BTreeMap.{IsOrdered};
+    ghost use Rattle.dsde_values.specs.Path.{name_cmp};
+    ghost use Rattle.dsde_structure.specs.declared.plan.Entry.{Entry};
+    ghost use Rattle.dsde_structure.specs.contracts.plan.Entry as entry;
+    ghost use Rattle.dsde_executive_planner.specs.Entries.{entry_of};
+
+    ghost Value = { List Entry };
+
+    ghost coded = { Prim.hlevel (codes, entry.the_row.coded) };
+
+    ghost view = { λ entries. map entry_of entries.by_name.entries };
+
+    ghost invariant = { λ entries. IsOrdered name_cmp entries.by_name };
+}
+
+impl Entries {
+    /// No components, which take no memory yet.
+    pub(crate) fn new(alloc: Global) -> Entries
+        ensures { result ≡ [] }
+    {
+        Entries {
+            by_name: BTreeMap::new(alloc),
+        }
+    }
+
+    /// How many components there are.
+    pub(crate) fn len(&self) -> usize
+        ensures { result ≡ length self.now }
+    {
+        self.by_name.len()
+    }
+
+    /// Whether there is a component of this name.
+    pub(crate) fn has(&self, name: &Name) -> bool
+        ensures { result ≡ is_there name.now self.now }
+    {
+        orders_are_total();
+        self.by_name.contains_key(name)
+    }
+
+    /// Puts a component in whose name no other has. Without memory the components stay as they were.
+    pub(crate) fn put(&mut self, entry: Entry) -> Result<(), Memory>
+        requires { is_there entry.name self.old ≡ false }
+        ensures { OnOk result (self.new ≡ inserted entry self.old) }
+    {
+        orders_are_total();
+        let Entry { name, model, args } = entry;
+        match self.by_name.insert(name, Chosen { model, args }) {
+            Ok(_) => Ok(()),
+            Err(_) => Err(Memory),
+        }
+    }
+
+    /// The components in the order of their names.
+    pub(crate) fn into_seq(self, alloc: Global) -> Result<Seq<Entry>, Memory>
+        ensures { IfOk result (λ entries. entries ≡ self) }
+    {
+        let mut entries = Seq::new(alloc);
+        for (name, Chosen { model, args }) in self.by_name {
+            entries.push(Entry { name, model, args })?;
+        }
+        Ok(entries)
+    }
+}

@@ -1,5 +1,0 @@
-use Rattle.dsde_expressions.proofs.LayerLemmas.{unwrap-Took}
-use Rattle.dsde_expressions.proofs.parser.Parser.unwrap.Goals as goal
-
-pub returns-clause-took : goal.returns-clause-took
-returns-clause-took c = unwrap-Took _ c.in_ok-at.ensures.took c.in_ok-at.ensures.place

@@ -1,5 +1,0 @@
-use Rattle.dsde_expressions.proofs.TestLemmas.{tests-key}
-use Rattle.dsde_expressions.proofs.parser.has_key.Goals as goal
-
-pub returns-clause-tests : goal.returns-clause-tests
-returns-clause-tests c = tests-key _ _ _ c.is_key.ensures

@@ -1,6 +1,0 @@
-use Rattle.std.proofs.Common.{◌≡◌}
-use Rattle.dsde_gathering.specs.Boxes.{empty_ports}
-use Rattle.dsde_gathering.proofs.ports.empty_ports.Given as goal
-
-abbrev pub invariant-loop-port : goal.invariant-loop-port
-invariant-loop-port l = l.got ≡ empty_ports l._port

@@ -1,5 +1,0 @@
-use Rattle.dsde_grammar.proofs.DeclPasses.{model-passes}
-use Rattle.dsde_grammar.proofs.laws.models_pass.Goals as goal
-
-pub returns : goal.returns
-returns c = model-passes

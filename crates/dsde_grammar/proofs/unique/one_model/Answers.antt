@@ -1,5 +1,0 @@
-use Rattle.dsde_grammar.proofs.DeclReads.{same-model}
-use Rattle.dsde_grammar.proofs.unique.one_model.Goals as goal
-
-pub returns : goal.returns
-returns c = same-model

@@ -1,7 +1,0 @@
-use Rattle.std.proofs.Common.{◌≡◌, ◌++◌, drop, length}
-use Rattle.dsde_nodes.specs.Models.{defs_from}
-use Rattle.dsde_infos.proofs.types.add_defs.Given as goal
-
-abbrev pub invariant-loop-word : goal.invariant-loop-word
-invariant-loop-word l =
-    l.defs ++ defs_from (drop (length l.yielded) l.words) (drop (length l.yielded) l.types) ≡ l.fn.defs ++ defs_from l.words l.types

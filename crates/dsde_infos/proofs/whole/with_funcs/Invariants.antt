@@ -1,6 +1,0 @@
-use Rattle.std.proofs.Common.{◌≡◌, drop}
-use Rattle.dsde_nodes.specs.Models.{with_funcs}
-use Rattle.dsde_infos.proofs.whole.with_funcs.Given as goal
-
-abbrev pub invariant-loop-decl : goal.invariant-loop-decl
-invariant-loop-decl l = with_funcs l.known (drop l.decl-index l.decls) ≡ with_funcs l.fn.known l.decls

@@ -1,7 +1,0 @@
-use Rattle.std.proofs.Common.{◌≡◌, map, drop}
-use Rattle.dsde_rules.specs.Judge.{all_fields}
-use Rattle.dsde_judge.specs.Parts.{judge_set}
-use Rattle.dsde_judge.proofs.declared.all_fields.Given as goal
-
-abbrev pub invariant-loop-set : goal.invariant-loop-set
-invariant-loop-set l = all_fields l.fields (map (judge_set l._around) (drop l.set-index l.sets)) ≡ all_fields l.fields (map (judge_set l._around) l.sets)

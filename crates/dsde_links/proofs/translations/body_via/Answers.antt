@@ -1,4 +1,0 @@
-use Rattle.dsde_links.proofs.translations.body_via.Goals as goal
-
-pub returns : goal.returns
-returns c = rw (c.translating-inside.ensures, c.in_ok-own.ensures) at c.height_as.ensures.says

@@ -1,7 +1,0 @@
-use Rattle.std.proofs.Common.{◌≡◌, drop}
-use Rattle.dsde_nodes.specs.Typing.{with_slots}
-use Rattle.dsde_nodes.specs.Items.{directed}
-use Rattle.dsde_makes.proofs.gates.see_ports.Given as goal
-
-abbrev pub invariant-loop-port : goal.invariant-loop-port
-invariant-loop-port l = with_slots l.found (directed l.out (drop l.port-index l.ports)) ≡ with_slots l.fn.found (directed l.out l.ports)

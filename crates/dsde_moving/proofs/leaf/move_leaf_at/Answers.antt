@@ -1,5 +1,0 @@
-use Rattle.dsde_starting.specs.Stood.{inputs-of}
-use Rattle.dsde_moving.proofs.leaf.move_leaf_at.Goals as goal
-
-pub take_move-requires-clause-got : goal.take_move-requires-clause-got
-take_move-requires-clause-got c = inputs-of c.args.program.now c.args.leaf c.args.got c.requires.leaf c.requires.got

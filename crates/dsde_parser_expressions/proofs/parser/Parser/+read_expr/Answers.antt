@@ -1,0 +1,289 @@
+use Rattle.dsde_parser_expressions.specs.Took.{Spot}
+use Rattle.dsde_parser_expressions.specs.Follows.{stop_at}
+use Rattle.dsde_parser_expressions.proofs.TookLemmas.{Took-push, Took-comma, Took-else}
+use Rattle.dsde_parser_expressions.proofs.ChainLemmas.{or-Took, and-Took, sum-Took, mul-Took, post-Took}
+use Rattle.dsde_parser_expressions.proofs.NodeLemmas.{boxed-Reads, no-empty, taken, or_tail-Took, and_tail-Took, sum_tail-Took, mul_tail-Took, call-Took, builtin-Took, row-Took, new-Took, choice-Took, whole-Took}
+use Rattle.std.proofs.Common.{rules, refl, sym, ◌∙◌, [], ◌∷◌, ◌++◌, ap}
+use Rattle.dsde_words.specs.declared.key.Key.TheVariants as key
+use Rattle.dsde_syntax.specs.declared.token.Sign.TheVariants as sign
+use Rattle.dsde_parser_grammar.specs.Want as want
+use Rattle.dsde_parser_grammar.specs.Steps.{expr_wants, post_wants, cmp_wants, args, exprs, braced_expr, choice_rest, neg_wants, not_wants, angles, field_set}
+use Rattle.dsde_parser_expressions.proofs.LedLemmas.{leads-from, leads-behind}
+use Rattle.dsde_parser_expressions.proofs.StepLemmas.{expr-levels, fallback-none, minus-none, negation-none, suffixes-more, suffix-field, suffix-index, suffix-unwrap, prim-named, prim-paren, prim-record, prim-none_of, prim-empty_of, prim-choice, prim-each, prim-row, after_name-args, args-some, else-last, no-if, exprs-else}
+use Rattle.dsde_parser_expressions.proofs.PartLemmas.{one, own, ◌⨟◌, read}
+use Rattle.dsde_parser_expressions.proofs.LayerLemmas.{fallback-Took, negation-Took, compare-Took, minus-Took, paren-Took, name-Took, variant-Took, each-Took, index-Took, field_set-Took, arm-Took}
+use Rattle.dsde_parser_expressions.proofs.parser.Parser.+read_expr.Goals as goal
+
+pub or-returns-clause-took : goal.or-returns-clause-took
+or-returns-clause-took t c = boxed-Reads _ _ c.boxed.ensures.own (or-Took _ _ c.in_ok-first.ensures.took c.in_ok-rest.ensures.took (no-empty c.if-is_empty.ensures.1))
+
+pub and-returns-clause-took : goal.and-returns-clause-took
+and-returns-clause-took t c = boxed-Reads _ _ c.boxed.ensures.own (and-Took _ _ c.in_ok-first.ensures.took c.in_ok-rest.ensures.took (no-empty c.if-is_empty.ensures.1))
+
+pub sum-returns-clause-took : goal.sum-returns-clause-took
+sum-returns-clause-took t c = boxed-Reads _ _ c.boxed.ensures.own (sum-Took _ _ c.in_ok-first.ensures.took c.in_ok-rest.ensures.took (no-empty c.if-is_empty.ensures.1))
+
+pub mul-returns-clause-took : goal.mul-returns-clause-took
+mul-returns-clause-took t c = boxed-Reads _ _ c.boxed.ensures.own (mul-Took _ _ c.in_ok-first.ensures.took c.in_ok-rest.ensures.took (no-empty c.if-is_empty.ensures.1))
+
+pub post-returns-clause-took : goal.post-returns-clause-took
+post-returns-clause-took t c = boxed-Reads _ _ c.boxed.ensures.own (post-Took _ _ c.in_ok-first.ensures.took c.in_ok-suffixes.ensures.took (no-empty c.if-is_empty.ensures.1))
+
+pub or_tails-tails-preserved : goal.or_tails-tails-preserved
+or_tails-tails-preserved t c =
+    let one = taken _ _ _ _ c.takes_key.ensures.took c.if-not-takes_key.false in
+    let place = ap (λ (spot : Spot). spot.0) c.self-in-tails.view_is in
+    record {
+      took = rw c.in_ok-push.ensures.ok (Took-push _ c.tails.invariant.took (or_tail-Took _ _ one place (rw (← c.into_inner.ensures) at c.in_ok-value.ensures.took)));
+      same = search rules;
+    }
+
+pub and_tails-tails-preserved : goal.and_tails-tails-preserved
+and_tails-tails-preserved t c =
+    let one = taken _ _ _ _ c.takes_key.ensures.took c.if-not-takes_key.false in
+    let place = ap (λ (spot : Spot). spot.0) c.self-in-tails.view_is in
+    record {
+      took = rw c.in_ok-push.ensures.ok (Took-push _ c.tails.invariant.took (and_tail-Took _ _ one place (rw (← c.into_inner.ensures) at c.in_ok-value.ensures.took)));
+      same = search rules;
+    }
+
+pub sum_tails-tails-preserved : goal.sum_tails-tails-preserved
+sum_tails-tails-preserved t c =
+    let place = ap (λ (spot : Spot). spot.0) c.self-in-tails.view_is in
+    record {
+      took = rw c.in_ok-push.ensures.ok (Took-push _ c.tails.invariant.took (sum_tail-Took _ _ _ c.in-Some.ensures.took.0 c.in-Some.ensures.took.1 place (rw (← c.into_inner.ensures) at c.in_ok-value.ensures.took)));
+      same = search rules;
+    }
+
+pub mul_tails-tails-preserved : goal.mul_tails-tails-preserved
+mul_tails-tails-preserved t c =
+    let place = ap (λ (spot : Spot). spot.0) c.self-in-tails.view_is in
+    record {
+      took = rw c.in_ok-push.ensures.ok (Took-push _ c.tails.invariant.took (mul_tail-Took _ _ _ c.in-Some.ensures.took.0 c.in-Some.ensures.took.1 place (rw (← c.into_inner.ensures) at c.in_ok-value.ensures.took)));
+      same = search rules;
+    }
+
+pub suffixes-suffixes-preserved : goal.suffixes-suffixes-preserved
+suffixes-suffixes-preserved t c =
+    record {
+      took = rw c.in_ok-push.ensures.ok (Took-push _ c.suffixes.invariant.took c.in_ok-suffix.ensures.took);
+      same = search rules;
+    }
+
+pub exprs-exprs-preserved : goal.exprs-exprs-preserved
+exprs-exprs-preserved t c =
+    let own = rw (← c.into_inner-in-exprs.ensures) at c.in_ok-expr-2.ensures.took in
+    record {
+      took = rw c.in_ok-push-2.ensures.ok (Took-comma _ c.exprs.invariant.took c.exprs-test.ensures.took (whole-Took own));
+      same = search rules;
+    }
+
+pub some_field_sets-fields-preserved : goal.some_field_sets-fields-preserved
+some_field_sets-fields-preserved t c =
+    record {
+      took = rw c.in_ok-push-2.ensures.ok (Took-comma _ c.fields.invariant.took c.fields-test.ensures.took c.in_ok-field_set-2.ensures.took);
+      same = search rules;
+    }
+
+pub arms-arms-preserved : goal.arms-arms-preserved
+arms-arms-preserved t c =
+    record {
+      took = rw c.in_ok-push-2.ensures.ok (Took-else _ c.arms.invariant.took c.in_ok-key.ensures.took c.in_ok-arm-2.ensures.took);
+      same = search rules;
+    }
+
+pub builtin-returns-clause-took : goal.builtin-returns-clause-took
+builtin-returns-clause-took t c =
+    let place = ap (λ (spot : Spot). spot.0) c.self.view_is in
+    boxed-Reads _ _ c.boxed.ensures.own (builtin-Took _ _ _ c.in-Some.ensures.took.0 c.in-Some.ensures.took.1 place c.in_ok-args.ensures.took)
+
+pub named-returns-then-next_is_sign-clause-took : goal.named-returns-then-next_is_sign-clause-took
+named-returns-then-next_is_sign-clause-took t c =
+    let name = c.in_ok-name.ensures.took in
+    boxed-Reads _ _ c.boxed.ensures.own (call-Took _ _ name.spells name.placed name.shorter name.moved c.in_ok-args.ensures.took)
+
+pub row-returns-clause-took : goal.row-returns-clause-took
+row-returns-clause-took t c = boxed-Reads _ _ c.boxed.ensures.own (row-Took _ _ c.in_ok-at.ensures.took c.in_ok-at.ensures.place c.in_ok-items.ensures.took c.in_ok-sign.ensures.took)
+
+pub new_record-returns-clause-took : goal.new_record-returns-clause-took
+new_record-returns-clause-took t c =
+    let owner = c.in_ok-of.ensures.took in
+    boxed-Reads _ _ c.boxed.ensures.own (new-Took _ _ _ c.in_ok-at.ensures.took c.in_ok-at.ensures.place owner.spells owner.placed owner.shorter owner.moved c.in_ok-fields.ensures.took)
+
+pub choice-returns-clause-took : goal.choice-returns-clause-took
+choice-returns-clause-took t c =
+    let place = ap (λ (spot : Spot). spot.0) c.self.view_is in
+    boxed-Reads _ _ c.boxed.ensures.own (choice-Took _ _ _ place c.in_ok-arms.ensures.took c.in_ok-key.ensures.took c.in_ok-other.ensures.took)
+
+pub expr-returns-clause-same : goal.expr-returns-clause-same
+expr-returns-clause-same t c =
+    leads-from (want.expr ∷ []) expr_wants [] c.args.self.now c.or-2.new.self _ (λ s. expr-levels s c.args.self.now.0 c.args.self.now.1) (search rules)
+
+pub expr-returns-in_err-left-clause-same : goal.expr-returns-in_err-left-clause-same
+expr-returns-in_err-left-clause-same t c =
+    leads-from (want.expr ∷ []) expr_wants [] c.args.self.now c.or.new.self _ (λ s. expr-levels s c.args.self.now.0 c.args.self.now.1) (search rules)
+
+pub expr-returns-then-not-takes_sign-clause-same : goal.expr-returns-then-not-takes_sign-clause-same
+expr-returns-then-not-takes_sign-clause-same t c =
+    λ s.
+    expr-levels s c.args.self.now.0 c.args.self.now.1
+    ∙ (c.in_ok-left.ensures.same (want.fallback ∷ s)
+    ∙ (fallback-none s c.or.new.self.0 c.or.new.self.1 (sym c.if-not-takes_sign.ensures.comes)
+    ∙ ap (λ (spot : Spot). stop_at s spot) (sym c.if-not-takes_sign.ensures.took)))
+
+pub expr-returns-in_err-right-clause-same : goal.expr-returns-in_err-right-clause-same
+expr-returns-in_err-right-clause-same t c =
+    leads-from (want.expr ∷ []) expr_wants [] c.args.self.now c.or-2.new.self _ (λ s. expr-levels s c.args.self.now.0 c.args.self.now.1) (search rules)
+
+pub neg-returns-then-not-takes_sign-clause-same : goal.neg-returns-then-not-takes_sign-clause-same
+neg-returns-then-not-takes_sign-clause-same t c =
+    leads-from neg_wants post_wants [] c.args.self.now c.post.new.self _ (λ s. minus-none (post_wants ++ s) c.args.self.now.0 c.args.self.now.1 (sym c.if-not-takes_sign.ensures.comes)) (search rules)
+
+pub not-returns-then-not-takes_key-clause-same : goal.not-returns-then-not-takes_key-clause-same
+not-returns-then-not-takes_key-clause-same t c =
+    leads-from not_wants cmp_wants [] c.args.self.now c.compare.new.self _ (λ s. negation-none (cmp_wants ++ s) c.args.self.now.0 c.args.self.now.1 (sym c.if-not-takes_key.ensures.comes)) (search rules)
+
+pub suffixes-returns-in_err-suffix-clause-same : goal.suffixes-returns-in_err-suffix-clause-same
+suffixes-returns-in_err-suffix-clause-same t c =
+    leads-behind (want.suffixes ∷ []) (want.suffixes ∷ []) [] c.args.self.now c.suffixes.self c.suffix.new.self _ c.suffixes.invariant.same (leads-from (want.suffixes ∷ []) (want.suffix ∷ want.suffixes ∷ []) [] c.suffixes.self c.suffix.new.self _ (λ s. suffixes-more s c.suffixes.self.0 c.suffixes.self.1 (sym c.suffixes-test.ensures)) (search rules))
+
+pub suffix-returns-then-next_is_sign-clause-same : goal.suffix-returns-then-next_is_sign-clause-same
+suffix-returns-then-next_is_sign-clause-same t c =
+    leads-from (want.suffix ∷ []) (want.mark sign.Dot ∷ want.name ∷ []) [] c.args.self.now c.field.new.self _ (λ s. suffix-field s c.args.self.now.0 c.args.self.now.1 (sym c.if-next_is_sign.ensures)) c.field.ensures.same
+
+pub suffix-returns-then-next_is_sign-2-clause-same : goal.suffix-returns-then-next_is_sign-2-clause-same
+suffix-returns-then-next_is_sign-2-clause-same t c =
+    leads-from (want.suffix ∷ []) (want.mark sign.OpenBracket ∷ want.expr ∷ want.mark sign.CloseBracket ∷ []) [] c.args.self.now c.index.new.self _ (λ s. suffix-index s c.args.self.now.0 c.args.self.now.1 (sym c.if-next_is_sign-2.ensures)) c.index.ensures.same
+
+pub suffix-returns-clause-same : goal.suffix-returns-clause-same
+suffix-returns-clause-same t c =
+    leads-from (want.suffix ∷ []) (want.mark sign.Bang ∷ []) [] c.args.self.now c.unwrap.new.self _ (λ s. suffix-unwrap s c.args.self.now.0 c.args.self.now.1 (sym c.if-next_is_sign.ensures) (sym c.if-next_is_sign-2.ensures)) c.unwrap.ensures.same
+
+pub prim-returns-then-next_is_name-clause-same : goal.prim-returns-then-next_is_name-clause-same
+prim-returns-then-next_is_name-clause-same t c =
+    leads-from (want.prim ∷ []) (want.name ∷ want.after_name ∷ []) [] c.args.self.now c.named.new.self _ (λ s. prim-named s c.args.self.now.0 c.args.self.now.1 (sym c.if-next_is_name.ensures)) c.named.ensures.same
+
+pub prim-returns-then-next_is_sign-clause-same : goal.prim-returns-then-next_is_sign-clause-same
+prim-returns-then-next_is_sign-clause-same t c =
+    leads-from (want.prim ∷ []) (want.mark sign.OpenParen ∷ want.expr ∷ want.mark sign.CloseParen ∷ []) [] c.args.self.now c.paren.new.self _ (λ s. prim-paren s c.args.self.now.0 c.args.self.now.1 (sym c.if-next_is_sign.ensures)) c.paren.ensures.same
+
+pub prim-returns-then-next_is_sign-2-clause-same : goal.prim-returns-then-next_is_sign-2-clause-same
+prim-returns-then-next_is_sign-2-clause-same t c =
+    c.in_brackets.ensures.same (sym c.if-next_is_sign-2.ensures)
+
+pub prim-returns-then-next_is_key-clause-same : goal.prim-returns-then-next_is_key-clause-same
+prim-returns-then-next_is_key-clause-same t c =
+    leads-from (want.prim ∷ []) (want.word key.New ∷ want.name ∷ want.mark sign.OpenBrace ∷ (field_set ++ want.more_fields ∷ want.mark sign.CloseBrace ∷ [])) [] c.args.self.now c.new_record.new.self _ (λ s. prim-record s c.args.self.now.0 c.args.self.now.1 (sym c.if-next_is_key.ensures)) c.new_record.ensures.same
+
+pub prim-returns-then-next_is_key-2-clause-same : goal.prim-returns-then-next_is_key-2-clause-same
+prim-returns-then-next_is_key-2-clause-same t c =
+    leads-from (want.prim ∷ []) (want.word key.NoneOf ∷ angles) [] c.args.self.now c.none_of.new.self _ (λ s. prim-none_of s c.args.self.now.0 c.args.self.now.1 (sym c.if-next_is_key-2.ensures)) c.none_of.ensures.same
+
+pub prim-returns-then-next_is_key-3-clause-same : goal.prim-returns-then-next_is_key-3-clause-same
+prim-returns-then-next_is_key-3-clause-same t c =
+    leads-from (want.prim ∷ []) (want.word key.EmptyOf ∷ angles) [] c.args.self.now c.empty_of.new.self _ (λ s. prim-empty_of s c.args.self.now.0 c.args.self.now.1 (sym c.if-next_is_key-3.ensures)) c.empty_of.ensures.same
+
+pub prim-returns-then-next_is_key-4-clause-same : goal.prim-returns-then-next_is_key-4-clause-same
+prim-returns-then-next_is_key-4-clause-same t c =
+    leads-from (want.prim ∷ []) (want.word key.If ∷ choice_rest) [] c.args.self.now c.choice.new.self _ (λ s. prim-choice s c.args.self.now.0 c.args.self.now.1 (sym c.if-next_is_key-4.ensures)) c.choice.ensures.same
+
+pub in_brackets-returns-then-second_is_key-clause-same : goal.in_brackets-returns-then-second_is_key-clause-same
+in_brackets-returns-then-second_is_key-clause-same t c =
+    λ h. leads-from (want.prim ∷ []) (want.mark sign.OpenBracket ∷ want.word key.For ∷ want.name ∷ want.word key.In ∷ want.expr ∷ want.test ∷ want.mark sign.Colon ∷ want.expr ∷ want.mark sign.CloseBracket ∷ []) [] c.args.self.now c.each.new.self _ (λ s. prim-each s c.args.self.now.0 c.args.self.now.1 h (sym c.if-second_is_key.ensures)) c.each.ensures.same
+
+pub in_brackets-returns-clause-same : goal.in_brackets-returns-clause-same
+in_brackets-returns-clause-same t c =
+    λ h. leads-from (want.prim ∷ []) (want.mark sign.OpenBracket ∷ (exprs ++ want.mark sign.CloseBracket ∷ [])) [] c.args.self.now c.row.new.self _ (λ s. prim-row s c.args.self.now.0 c.args.self.now.1 h (sym c.if-second_is_key.ensures)) c.row.ensures.same
+
+pub named-returns-in_err-args-clause-same : goal.named-returns-in_err-args-clause-same
+named-returns-in_err-args-clause-same t c =
+    leads-behind (want.name ∷ want.after_name ∷ []) (want.after_name ∷ []) [] c.args.self.now c.name.new.self c.arguments.new.self _ (λ s. c.in_ok-name.ensures.same (want.after_name ∷ s)) (leads-from (want.after_name ∷ []) args [] c.name.new.self c.arguments.new.self _ (λ s. after_name-args s c.name.new.self.0 c.name.new.self.1 (sym c.if-next_is_sign.ensures)) (search rules))
+
+pub arguments-returns-in_err-args-clause-same : goal.arguments-returns-in_err-args-clause-same
+arguments-returns-in_err-args-clause-same t c =
+    leads-behind args (want.args_rest ∷ []) [] c.args.self.now c.sign.new.self c.exprs.new.self _ (λ s. c.in_ok-sign.ensures.same (want.args_rest ∷ s)) (leads-from (want.args_rest ∷ []) (exprs ++ want.mark sign.CloseParen ∷ []) [] c.sign.new.self c.exprs.new.self _ (λ s. args-some s c.sign.new.self.0 c.sign.new.self.1 (sym c.if-takes_sign.ensures.comes)) (search rules))
+
+pub arguments-returns-in_err-sign-2-clause-same : goal.arguments-returns-in_err-sign-2-clause-same
+arguments-returns-in_err-sign-2-clause-same t c =
+    leads-behind args (want.args_rest ∷ []) [] c.args.self.now c.sign.new.self c.sign-2.new.self _ (λ s. c.in_ok-sign.ensures.same (want.args_rest ∷ s)) (leads-from (want.args_rest ∷ []) (exprs ++ want.mark sign.CloseParen ∷ []) [] c.sign.new.self c.sign-2.new.self _ (λ s. args-some s c.sign.new.self.0 c.sign.new.self.1 (sym c.if-takes_sign.ensures.comes)) (search rules))
+
+pub choice-returns-in_err-other-clause-same : goal.choice-returns-in_err-other-clause-same
+choice-returns-in_err-other-clause-same t c =
+    leads-behind (want.word key.If ∷ choice_rest) (want.else_rest ∷ []) [] c.args.self.now c.key.new.self c.in_braces.new.self _ (λ s. c.in_ok-arms.ensures.same s ∙ c.in_ok-key.ensures.same (want.else_rest ∷ s)) (leads-from (want.else_rest ∷ []) braced_expr [] c.key.new.self c.in_braces.new.self _ (λ s. else-last s c.key.new.self.0 c.key.new.self.1 (no-if c.in_ok-key.ensures.took c.in_ok-arms.ensures.ended)) (search rules))
+
+pub arms-returns-in_err-key-clause-same : goal.arms-returns-in_err-key-clause-same
+arms-returns-in_err-key-clause-same t c =
+    leads-behind (want.word key.If ∷ choice_rest) (want.word key.Else ∷ want.else_rest ∷ []) (want.word key.Else ∷ want.else_rest ∷ []) c.args.self.now c.arms.self c.key.new.self _ c.arms.invariant.same (leads-from (want.word key.Else ∷ want.else_rest ∷ []) (want.word key.Else ∷ want.word key.If ∷ choice_rest) (want.word key.Else ∷ want.else_rest ∷ []) c.arms.self c.key.new.self _ (λ s. exprs-else s c.arms.self.0 c.arms.self.1 (sym c.arms-test.ensures)) (search rules))
+
+pub arms-returns-in_err-arm-2-clause-same : goal.arms-returns-in_err-arm-2-clause-same
+arms-returns-in_err-arm-2-clause-same t c =
+    leads-behind (want.word key.If ∷ choice_rest) (want.word key.Else ∷ want.else_rest ∷ []) (want.word key.Else ∷ want.else_rest ∷ []) c.args.self.now c.arms.self c.arm-in-arms.new.self _ c.arms.invariant.same (leads-from (want.word key.Else ∷ want.else_rest ∷ []) (want.word key.Else ∷ want.word key.If ∷ choice_rest) (want.word key.Else ∷ want.else_rest ∷ []) c.arms.self c.arm-in-arms.new.self _ (λ s. exprs-else s c.arms.self.0 c.arms.self.1 (sym c.arms-test.ensures)) (search rules))
+
+pub expr-returns-clause-took : goal.expr-returns-clause-took
+expr-returns-clause-took t c =
+    let begun = taken _ _ _ _ c.takes_sign.ensures.took c.if-not-takes_sign.false in
+    let place = ap (λ (spot : Spot). spot.0) c.self.view_is in
+    boxed-Reads _ _ c.boxed.ensures.own (fallback-Took _ _ _ c.in_ok-left.ensures.took begun place c.in_ok-right.ensures.took)
+
+pub not-returns-clause-took : goal.not-returns-clause-took
+not-returns-clause-took t c =
+    let begun = taken _ _ _ _ c.takes_key.ensures.took c.if-not-takes_key.false in
+    let place = ap (λ (spot : Spot). spot.0) c.self.view_is in
+    boxed-Reads _ _ c.boxed.ensures.own (negation-Took _ _ begun place c.in_ok-of.ensures.took)
+
+pub compare-returns-clause-took : goal.compare-returns-clause-took
+compare-returns-clause-took t c =
+    let place = ap (λ (spot : Spot). spot.0) c.self.view_is in
+    boxed-Reads _ _ c.boxed.ensures.own (compare-Took _ _ _ _ c.in_ok-left.ensures.took c.in-Some.ensures.took.0 c.in-Some.ensures.took.1 place c.in_ok-right.ensures.took)
+
+pub neg-returns-clause-took : goal.neg-returns-clause-took
+neg-returns-clause-took t c =
+    let begun = taken _ _ _ _ c.takes_sign.ensures.took c.if-not-takes_sign.false in
+    let place = ap (λ (spot : Spot). spot.0) c.self.view_is in
+    boxed-Reads _ _ c.boxed.ensures.own (minus-Took _ _ begun place c.in_ok-of.ensures.took)
+
+pub paren-returns-clause-took : goal.paren-returns-clause-took
+paren-returns-clause-took t c =
+    boxed-Reads _ _ c.boxed.ensures.own (paren-Took _ _ c.in_ok-at.ensures.took c.in_ok-at.ensures.place c.in_ok-inner.ensures.took c.in_ok-sign.ensures.took)
+
+pub named-returns-clause-took : goal.named-returns-clause-took
+named-returns-clause-took t c =
+    let named = rw (← c.if-takes_sign.ensures.took) at c.in_ok-name.ensures.took in
+    boxed-Reads _ _ c.boxed-2.ensures.own (name-Took _ named)
+
+pub named-returns-then-takes_sign-clause-took : goal.named-returns-then-takes_sign-clause-took
+named-returns-then-takes_sign-clause-took t c =
+    let begun = taken _ _ _ _ c.takes_sign.ensures.took c.if-takes_sign.true in
+    boxed-Reads _ _ c.boxed-then-takes_sign.ensures.own (variant-Took _ _ c.in_ok-name.ensures.took begun c.in_ok-variant.ensures.took)
+
+pub each-returns-clause-took : goal.each-returns-clause-took
+each-returns-clause-took t c =
+    boxed-Reads _ _ c.boxed.ensures.own (each-Took _ _ _ _ _ c.in_ok-at.ensures.took c.in_ok-at.ensures.place c.in_ok-key.ensures.took c.in_ok-name.ensures.took c.in_ok-key-2.ensures.took c.in_ok-list.ensures.took c.in_ok-cond.ensures.took c.in_ok-sign.ensures.took c.in_ok-value.ensures.took c.in_ok-sign-2.ensures.took)
+
+pub index-returns-clause-took : goal.index-returns-clause-took
+index-returns-clause-took t c =
+    rw c.into_inner.ensures (index-Took _ _ c.in_ok-at.ensures.took c.in_ok-at.ensures.place c.in_ok-value.ensures.took c.in_ok-sign.ensures.took)
+
+pub field_set-returns-clause-took : goal.field_set-returns-clause-took
+field_set-returns-clause-took t c =
+    rw c.into_inner-value.ensures (field_set-Took _ _ c.in_ok-name.ensures.took c.in_ok-sign.ensures.took c.in_ok-expr.ensures.took)
+
+pub arm-returns-clause-took : goal.arm-returns-clause-took
+arm-returns-clause-took t c =
+    rw (c.into_inner.ensures, c.into_inner-2.ensures) (arm-Took _ _ c.in_ok-key.ensures.took c.in_ok-cond.ensures.took c.in_ok-value.ensures.took)
+
+pub arguments-returns-clause-took : goal.arguments-returns-clause-took
+arguments-returns-clause-took t c =
+    let args = c.in_ok-args.ensures.took in
+    let begun = rw (← c.if-takes_sign.ensures.took) at c.in_ok-sign.ensures.took in
+    read (one begun ⨟ own args ⨟ one c.in_ok-sign-2.ensures.took) refl refl args.good.all
+
+pub field_sets-returns-clause-took : goal.field_sets-returns-clause-took
+field_sets-returns-clause-took t c =
+    let fields = c.in_ok-fields.ensures.took in
+    read (one c.in_ok-sign.ensures.took ⨟ own fields ⨟ one c.in_ok-sign-2.ensures.took) refl refl fields.good
+
+pub in_braces-returns-clause-took : goal.in_braces-returns-clause-took
+in_braces-returns-clause-took t c =
+    let inner = c.in_ok-inner.ensures.took in
+    read (one c.in_ok-sign.ensures.took ⨟ own inner ⨟ one c.in_ok-sign-2.ensures.took) refl refl inner.good

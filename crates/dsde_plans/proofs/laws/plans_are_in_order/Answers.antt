@@ -1,5 +1,0 @@
-use Rattle.dsde_plans.proofs.Laying.{plan-in-order}
-use Rattle.dsde_plans.proofs.laws.plans_are_in_order.Goals as goal
-
-pub returns : goal.returns
-returns c = plan-in-order c.orders_are_total.ensures.names

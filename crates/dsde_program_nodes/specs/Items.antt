@@ -1,0 +1,168 @@
+-- What the items of a structure are resolved to.
+use Rattle.std.specs.Prelude.{ℕ, true, false, Bool, not, if◌then◌else◌, List, [], ◌∷◌, map, Option, Some, None, unwrap_or, slice_get}
+use Rattle.std.specs.Option.{option_map, option_map_or}
+use Rattle.dsde_names.specs.Table.{place_of, named}
+use Rattle.dsde_syntax.specs.declared.expr.Expr.{Expr}
+use Rattle.dsde_syntax.specs.declared.item.Bracket.{Bracket}
+use Rattle.dsde_syntax.specs.declared.item.End.{End}
+use Rattle.dsde_syntax.specs.declared.item.EndPart.{EndPart}
+use Rattle.dsde_syntax.specs.declared.item.EndPart.TheVariants as end_part
+use Rattle.dsde_syntax.specs.declared.item.Item.{Item}
+use Rattle.dsde_syntax.specs.declared.item.Item.TheOpen.{Item-F, ItemArm-F}
+use Rattle.dsde_syntax.specs.declared.item.Item.TheFolds.{fold-Item}
+use Rattle.dsde_syntax.specs.declared.item.ViaKey.{ViaKey}
+use Rattle.dsde_syntax.specs.declared.item.ViaPart.{ViaPart}
+use Rattle.dsde_values.specs.declared.types.Field.{Field}
+use Rattle.dsde_values.specs.declared.types.Ty.{Ty}
+use Rattle.dsde_check_rules.specs.declared.known.Known.{Known}
+use Rattle.dsde_check_rules.specs.declared.signatures.Family.{Family}
+use Rattle.dsde_check_rules.specs.declared.signatures.ModelSig.{ModelSig}
+use Rattle.dsde_check_rules.specs.declared.signatures.Port.{Port}
+use Rattle.dsde_check_rules.specs.Tables.{added, family_name, model_name}
+use Rattle.dsde_program_nodes.specs.declared.ids.ExprId.{ExprId}
+use Rattle.dsde_program_nodes.specs.declared.ids.ModelId.{ModelId}
+use Rattle.dsde_program_nodes.specs.declared.make.Make.{Make}
+use Rattle.dsde_program_nodes.specs.declared.make.Make.TheVariants as make
+use Rattle.dsde_program_nodes.specs.declared.make.MakeArm.{MakeArm}
+use Rattle.dsde_program_nodes.specs.declared.make.MakeEnd.{MakeEnd}
+use Rattle.dsde_program_nodes.specs.declared.make.MakeIndex.{MakeIndex}
+use Rattle.dsde_program_nodes.specs.declared.make.MakePart.{MakePart}
+use Rattle.dsde_program_nodes.specs.declared.make.MakePart.TheVariants as make_part
+use Rattle.dsde_program_nodes.specs.declared.make.MakeVia.{MakeVia}
+use Rattle.dsde_program_nodes.specs.Typing.{with_slot, with_slots, Scope, slot_of, slot_type, item_in}
+use Rattle.dsde_program_nodes.specs.Expressions.{resolve, expr_id}
+use Rattle.dsde_program_nodes.specs.Pieces.{Step, ◌>>=◌, give, all, maybe, expr, bound, binding, inside}
+
+-- where an item stands: the in ports and the out ports of the network and of its executive, and the
+-- models of its components by their identifiers
+pub record Place : Type 0 where
+  pub known : Known
+  pub ins : List Field
+  pub outs : List Field
+  pub boss_ins : List Field
+  pub boss_outs : List Field
+  pub families : List Family
+
+-- the number of a model
+abbrev pub model_number : Known → List ℕ → ℕ
+model_number known name = unwrap_or (place_of model_name known.models name) 0
+
+abbrev pub model_id : Known → List ℕ → ModelId
+model_id known name = record { 0 = model_number known name }
+
+-- the models of components by their identifiers, in text order
+abbrev pub Kin : Type 0
+Kin = List Family → List Family
+
+abbrev pub kin_all : List Kin → Kin
+kin_all [] families = families
+kin_all (kin ∷ kins) families = kin_all kins (kin families)
+
+abbrev pub kin_step : Known → Item-F Kin Kin → Kin
+kin_step known (Item-F.Comp at name index model args) families =
+    added family_name families (record { name = name.name; model = model_number known model.name })
+kin_step known (Item-F.Link at source target via) families = families
+kin_step known (Item-F.Let name value) families = families
+kin_step known (Item-F.If arms other) families = kin_all (unwrap_or other []) (kin_all arms families)
+kin_step known (Item-F.For name list body) families = kin_all body families
+
+abbrev pub kin_arm_step : ItemArm-F Kin Kin → Kin
+kin_arm_step arm = kin_all arm.body
+
+abbrev pub kin_of : Known → Item → Kin
+kin_of known = fold-Item Kin Kin (kin_step known) kin_arm_step
+
+-- the ports of one direction of the component with this identifier
+abbrev pub directed : Bool → List Port → List Field
+directed out [] = []
+directed out (port ∷ ports) =
+    if (if out then port.out else not port.out) then record { name = port.name; ty = port.ty } ∷ directed out ports else directed out ports
+
+abbrev pub model_ports : Known → Bool → ℕ → List Field
+model_ports known out model = with_slots [] (option_map_or (λ (own : ModelSig). directed out own.ports) (slice_get known.models model) [])
+
+abbrev pub kid_ports : Place → Bool → List ℕ → List Field
+kid_ports place out name =
+    option_map_or (λ (family : Family). model_ports place.known out family.model) (named family_name place.families name) []
+
+-- the ports that an end of a link may be at: a source is an in port of `net` or an out port of
+-- others, and a target is an out port of `net` or an in port of others
+abbrev pub end_ports : Place → Bool → EndPart → List Field
+end_ports place is_source end_part.Net = if is_source then place.ins else place.outs
+end_ports place is_source end_part.Exec = if is_source then place.boss_outs else place.boss_ins
+end_ports place is_source (end_part.Kid name index) = kid_ports place is_source name.name
+
+-- an index, if there is one
+abbrev pub resolve_index : Known → Option Bracket → Step (Option MakeIndex)
+resolve_index known index =
+    maybe (option_map (λ (own : Bracket). expr (resolve known own.value) (λ value ty. give (record { at = own.at; value = value }))) index)
+
+abbrev pub resolve_part : Known → EndPart → Step MakePart
+resolve_part known end_part.Net = give make_part.Net
+resolve_part known end_part.Exec = give make_part.Boss
+resolve_part known (end_part.Kid name index) =
+    resolve_index known index >>= (λ own. give (make_part.Kid name.name own))
+
+abbrev pub resolve_end : Place → Bool → End → Step MakeEnd
+resolve_end place is_source own =
+    resolve_part place.known own.part >>= (λ part.
+    give (record { part = part; port = slot_of (end_ports place is_source own.part) own.port.name }))
+
+-- the body of a translation, over its one or two names, counted by its word `via`
+abbrev pub via_body : Known → Scope → ViaPart → Bool → (ℕ → MakeVia) → Step MakeVia
+via_body known names via key made scope next =
+    let nodes = (resolve known via.body).nodes names next.node in
+    record {
+      own = made next.via;
+      nodes = nodes;
+      blocks = [];
+      vias = record { key = key; body = expr_id next.node } ∷ [];
+      scope = scope;
+    }
+
+-- a translation of values of this type, with this key
+abbrev pub via_by : Known → Ty → ViaPart → Option ViaKey → Step MakeVia
+via_by known own via None =
+    via_body known (with_slot [] via.value.name own) via false (λ number. record { id = record { 0 = number }; key = None })
+via_by known own via (Some key) =
+    expr (resolve known key.value) (λ value ty.
+    via_body known (with_slot (with_slot [] via.value.name own) key.name.name ty) via true
+    (λ number. record { id = record { 0 = number }; key = Some value }))
+
+abbrev pub resolve_via : Known → Ty → ViaPart → Step MakeVia
+resolve_via known own via = via_by known own via via.key
+
+abbrev pub maybe_via : Known → Ty → Option ViaPart → Step (Option MakeVia)
+maybe_via known own via = maybe (option_map (resolve_via known own) via)
+
+-- expressions, one after another
+abbrev pub resolve_all : Known → List Expr → Step (List ExprId)
+resolve_all known exprs = all (map (λ own. expr (resolve known own) (λ value ty. give value)) exprs)
+
+abbrev pub item_step : Place → Item-F (Step Make) (Step MakeArm) → Step Make
+item_step place (Item-F.Comp at name index model args) =
+    resolve_index place.known index >>= (λ own.
+    resolve_all place.known args >>= (λ values.
+    give (make.Comp at name.name own (model_id place.known model.name) values)))
+item_step place (Item-F.Link at source target via) =
+    resolve_end place true source >>= (λ one.
+    resolve_end place false target >>= (λ two.
+    maybe_via place.known (slot_type (end_ports place true source.part) source.port.name) via >>= (λ own.
+    give (make.Link at one two own))))
+item_step place (Item-F.Let name value) = expr (resolve place.known value) (λ own ty. bound name.name ty (make.Let own))
+item_step place (Item-F.If arms other) =
+    all arms >>= (λ own. maybe (option_map (λ items. inside (all items)) other) >>= (λ last. give (make.If own last)))
+item_step place (Item-F.For name list body) =
+    expr (resolve place.known list) (λ own ty.
+    inside (binding name.name (item_in ty) (all body)) >>= (λ makes. give (make.For own makes)))
+
+abbrev pub item_arm_step : Place → ItemArm-F (Step Make) (Step MakeArm) → Step MakeArm
+item_arm_step place arm =
+    expr (resolve place.known arm.cond) (λ cond ty. inside (all arm.body) >>= (λ makes. give (record { cond = cond; makes = makes })))
+
+abbrev pub resolve_item : Place → Item → Step Make
+resolve_item place = fold-Item (Step Make) (Step MakeArm) (item_step place) (item_arm_step place)
+
+-- a structure
+abbrev pub resolve_items : Place → List Item → Step (List Make)
+resolve_items place items = all (map (resolve_item place) items)

@@ -1,0 +1,34 @@
+-- Components and links that are made anew fit.
+use Rattle.std.proofs.Common.{◌≡◌, true, List, map, sym, ap, subst}
+use Rattle.std.specs.List.{AllByRecursion}
+use Rattle.dsde_syntax.specs.declared.decl.Model.{Model}
+use Rattle.dsde_values.specs.declared.name.Name.{Name}
+use Rattle.dsde_program_nodes.specs.declared.ids.ModelId.{ModelId}
+use Rattle.dsde_structure.specs.declared.plan.Entry.{Entry}
+use Rattle.dsde_structure.specs.declared.plan.Plan.{Plan}
+use Rattle.dsde_structure.specs.Survival.{IsInOrder}
+use Rattle.dsde_executive.specs.Structure.{IsPlan}
+use Rattle.dsde_system.specs.Program.{system}
+use Rattle.dsde_system.specs.Plans.{FitsLink}
+use Rattle.dsde_sim_tree.specs.declared.sim.Kid.{Kid}
+use Rattle.dsde_sim_tree.specs.declared.sim.Sim.{Sim}
+use Rattle.dsde_sim_tree.specs.declared.sim.Sim.TheViews.{out-roll-Kid}
+use Rattle.dsde_sim_tree.specs.Start.{kid_of}
+use Rattle.dsde_sim_tree.specs.Tree.{entry_of}
+use Rattle.dsde_sim_starting.specs.Fitting.{FitsKid, FitsLinks, FitsTree}
+use Rattle.dsde_sim_starting.specs.Fits.{tree-kid}
+
+module _ (model : Model) where
+  pub kid-made : (name : Name) (own : Sim) → FitsTree model own → FitsKid model (kid_of name own)
+  kid-made name own fits = tree-kid model (kid_of name own) (subst (FitsTree model) (sym (ap (λ kid. kid.sim) (out-roll-Kid (record { name = name; sim = own })))) fits)
+
+  -- the links of a plan fit the components that stand for its entries
+  pub plan-links : (number : ModelId) (plan : Plan) (kids : List Kid) → IsPlan model number.0 plan → (system model).is_network number ≡ true → map entry_of kids ≡ plan.entries →
+      FitsLinks model number (map entry_of kids) plan.links
+  plan-links number plan kids fits network are = record {
+    own = fits.own;
+    found = fits.found;
+    network = network;
+    order = subst IsInOrder (sym are) fits.fits.order;
+    each = subst (λ (entries : List Entry). AllByRecursion (FitsLink model fits.own entries) plan.links) (sym are) fits.fits.links;
+  }

@@ -1,0 +1,138 @@
+//! Moves of components and of executives.
+
+ghost use Rattle.std.specs.Prelude.{◌≡◌, ◌<◌, ◌^◌, length, IfOk};
+ghost use Rattle.dsde_values.specs.When.{IsMoment};
+ghost use Rattle.dsde_formalism.specs.Leaf.{has_come, kind_of, move_leaf};
+ghost use Rattle.dsde_sim_events.specs.Told.{at, to_boss, Comes, Tells};
+ghost use Rattle.dsde_system.specs.Program.{system};
+ghost use Rattle.dsde_system.specs.Fitting.{FitsInputs, FitsLeaf};
+ghost use Rattle.dsde_sim_tree.specs.Move.{take_move, move_leaf_at};
+ghost use Rattle.dsde_sim_starting.specs.Fitting.{FitsAtomic, FitsGot};
+
+use dsde_atomic::move_leaf;
+use dsde_formalism::{Inputs, Leaf, MoveKind};
+use dsde_program::Program;
+use dsde_sim_events::{Event, TurnEnd};
+use dsde_sim_starting::is_due;
+use dsde_sim_telling::{at, boss_of, tell_gets, tell_move};
+use dsde_values::{Path, Seq, Values};
+use std::alloc::Global;
+
+/// Whether some value came.
+fn has_come(got: &[Values]) -> bool
+    ensures { result ≡ has_come got.now }
+{
+    got.iter().any(|values| values.len() > 0)
+}
+
+/// Which transition a component or an executive takes at this time: none where it is not due and
+/// nothing came.
+pub(crate) fn kind_of(leaf: &Leaf, time: u64, got: &[Values]) -> Option<MoveKind>
+    ensures { result ≡ kind_of leaf.now time got.now }
+{
+    match (is_due(leaf, time), has_come(got)) {
+        (true, true) => Some(MoveKind::Confluent),
+        (true, false) => Some(MoveKind::Internal),
+        (false, true) => Some(MoveKind::External),
+        (false, false) => None,
+    }
+}
+
+/// A component or an executive after its move.
+fn moved(
+    alloc: Global,
+    program: &Program,
+    leaf: &Leaf,
+    kind: MoveKind,
+    path: &Path,
+    time: u64,
+    got: Seq<Values>,
+) -> Result<Leaf, TurnEnd>
+    requires moment { IsMoment time }
+    requires leaf { FitsLeaf program.now leaf.now }
+    requires got { FitsInputs program.now leaf.now.model.0 got }
+    ensures comes { Comes (at path.now (move_leaf (system program.now) leaf.now kind time got)) result }
+    ensures fits { IfOk result (FitsLeaf program.now) }
+    ensures model { IfOk result (λ moved. moved.model ≡ leaf.now.model) }
+    ensures args { IfOk result (λ moved. moved.args ≡ leaf.now.args) }
+{
+    let got = Inputs { ports: got };
+    at(
+        alloc,
+        path,
+        move_leaf(alloc, program, leaf, kind, time, got),
+    )
+}
+
+/// Tells what a component or an executive receives, takes its transition, and tells its move.
+pub(crate) fn take_move(
+    alloc: Global,
+    program: &Program,
+    leaf: &Leaf,
+    kind: MoveKind,
+    path: &Path,
+    time: u64,
+    got: Seq<Values>,
+    events: &mut Seq<Event>,
+) -> Result<Leaf, TurnEnd>
+    requires moment { IsMoment time }
+    requires leaf { FitsLeaf program.now leaf.now }
+    requires got { FitsInputs program.now leaf.now.model.0 got }
+    requires few { length got < 2 ^ 32 }
+    ensures told { Tells (take_move (system program.now) leaf.now kind path.now time got) events.old events.new result }
+    ensures fits { IfOk result (FitsLeaf program.now) }
+    ensures model { IfOk result (λ moved. moved.model ≡ leaf.now.model) }
+    ensures args { IfOk result (λ moved. moved.args ≡ leaf.now.args) }
+{
+    tell_gets(alloc, path, leaf.model, got.as_slice(), events)?;
+    let moved = moved(alloc, program, leaf, kind, path, time, got)?;
+    tell_move(alloc, path, leaf.model, kind, &moved, events)?;
+    Ok(moved)
+}
+
+/// An atomic component that is not due and received nothing stays as it is.
+pub(crate) fn move_leaf_at(
+    alloc: Global,
+    program: &Program,
+    leaf: Leaf,
+    path: &Path,
+    time: u64,
+    got: Seq<Values>,
+    events: &mut Seq<Event>,
+) -> Result<Leaf, TurnEnd>
+    requires moment { IsMoment time }
+    requires leaf { FitsAtomic program.now leaf }
+    requires got { FitsGot program.now leaf.model.0 got }
+    ensures told { Tells (move_leaf_at (system program.now) leaf path.now time got) events.old events.new result }
+    ensures fits { IfOk result (FitsAtomic program.now) }
+    ensures model { IfOk result (λ moved. moved.model ≡ leaf.model) }
+    ensures args { IfOk result (λ moved. moved.args ≡ leaf.args) }
+{
+    match kind_of(&leaf, time, got.as_slice()) {
+        Some(kind) => take_move(alloc, program, &leaf, kind, path, time, got, events),
+        None => Ok(leaf),
+    }
+}
+
+/// The executive of the network at a path takes this transition.
+pub(crate) fn boss_move(
+    alloc: Global,
+    program: &Program,
+    boss: &Leaf,
+    kind: MoveKind,
+    path: &Path,
+    time: u64,
+    got: Seq<Values>,
+    events: &mut Seq<Event>,
+) -> Result<Leaf, TurnEnd>
+    requires moment { IsMoment time }
+    requires boss { FitsLeaf program.now boss.now }
+    requires got { FitsInputs program.now boss.now.model.0 got }
+    requires few { length got < 2 ^ 32 }
+    ensures told { Tells (take_move (system program.now) boss.now kind (to_boss path.now) time got) events.old events.new result }
+    ensures fits { IfOk result (FitsLeaf program.now) }
+    ensures model { IfOk result (λ moved. moved.model ≡ boss.now.model) }
+{
+    let path = boss_of(alloc, path)?;
+    take_move(alloc, program, boss, kind, &path, time, got, events)
+}

@@ -1,0 +1,14 @@
+//! The move message: how the parts of a tree move, and how structures change with them. What else an
+//! engine asks of a tree is passed on: its start, what it sends, by how many ports it receives, how
+//! many parts it has and when it is due.
+#![tactic(auto)]
+
+mod boxes;
+mod leaf;
+mod net;
+mod walk;
+
+pub use dsde_sim_changing::{next_time, parts};
+pub use dsde_sim_gathering::ins_of;
+pub use dsde_sim_starting::{by_port, output, start};
+pub use walk::move_sim;

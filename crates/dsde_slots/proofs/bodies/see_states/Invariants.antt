@@ -1,8 +1,0 @@
-use Rattle.std.proofs.Common.{◌≡◌, drop}
-use Rattle.dsde_nodes.specs.Typing.{with_slots}
-use Rattle.dsde_nodes.specs.Statements.{state_fields}
-use Rattle.dsde_slots.proofs.bodies.see_states.Given as goal
-
-abbrev pub invariant-loop-state : goal.invariant-loop-state
-invariant-loop-state l =
-    with_slots l.scope (state_fields l.known (drop l.state-index l.states)) ≡ with_slots l.fn.scope (state_fields l.known l.states)

@@ -1,0 +1,20 @@
+//! A law of the functions of a model.
+
+ghost use Rattle.dsde_sound_functions.specs.Coded.{FunctionsAgree};
+
+use dsde_sound_blocks::blocks_agree;
+use dsde_sound_expressions::expressions_agree;
+use dsde_sound_grammar::shaped_is_proper;
+use dsde_sound_places::known_is_within;
+
+/// A law: each function of a model in which nothing is wrong takes values of its parameters' types,
+/// comes to a value of its result's type or to a fault, and means in the model's tables what it means
+/// over names.
+pub fn functions_agree()
+    ensures { FunctionsAgree }
+{
+    expressions_agree();
+    blocks_agree();
+    shaped_is_proper();
+    known_is_within();
+}

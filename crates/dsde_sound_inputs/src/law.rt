@@ -1,0 +1,24 @@
+//! Laws of the types, of the ports and of the models of a file.
+
+ghost use Rattle.dsde_sound_inputs.specs.Lawful.{PortsAreLawful, TopIsDeclared, TypesAreLawful};
+
+use dsde_sound_places::tops_stand;
+
+/// A law: in a model in which nothing is wrong each type's name is an identifier, and an enum's
+/// variants are distinct identifiers.
+pub fn types_are_lawful()
+    ensures { TypesAreLawful }
+{}
+
+/// A law: of each model of a file in which nothing is wrong the in ports are at most 2^32, and their
+/// names are distinct identifiers.
+pub fn ports_are_lawful()
+    ensures { PortsAreLawful }
+{}
+
+/// A law: the model that runs is one of the atomic models and networks that the file declares.
+pub fn top_is_declared()
+    ensures { TopIsDeclared }
+{
+    tops_stand();
+}

@@ -1,5 +1,0 @@
-use Rattle.dsde_statements.proofs.StmtLemmas.{let_item-Took}
-use Rattle.dsde_statements.proofs.item.let_item.Goals as goal
-
-pub returns-clause-took : goal.returns-clause-took
-returns-clause-took c = let_item-Took _ _ c.in_ok-key.ensures.took c.in_ok-name.ensures.took

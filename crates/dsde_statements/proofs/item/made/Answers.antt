@@ -1,7 +1,0 @@
-use Rattle.std.proofs.Common.{refl}
-use Rattle.dsde_expressions.proofs.PartLemmas.{one, own, ◌⨟◌, read}
-use Rattle.dsde_statements.proofs.item.made.Goals as goal
-
-pub returns-clause-took : goal.returns-clause-took
-returns-clause-took c =
-    read (one c.in_ok-key.ensures.took ⨟ own c.in_ok-model.ensures.took ⨟ own c.in_ok-args.ensures.took ⨟ one c.in_ok-sign.ensures.took) refl refl c.in_ok-args.ensures.took.good

@@ -1,6 +1,0 @@
-use Rattle.std.proofs.Common.{◌≡◌, drop}
-use Rattle.dsde_rules.specs.Tables.{models_from}
-use Rattle.dsde_tables.proofs.text.add_models.Given as goal
-
-abbrev pub invariant-loop-decl : goal.invariant-loop-decl
-invariant-loop-decl l = models_from l.words l.models (drop l.decl-index l.decls) ≡ models_from l.words l.fn.models l.decls

@@ -1,5 +1,0 @@
-use Rattle.dsde_verdict.proofs.VerdictLemmas.{one_verdict}
-use Rattle.dsde_verdict.proofs.law.one_verdict.Goals as goal
-
-pub returns : goal.returns
-returns c = one_verdict c.one_model.ensures
