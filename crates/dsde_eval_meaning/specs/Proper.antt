@@ -3,7 +3,6 @@
 use Rattle.std.specs.Prelude.{◌^◌, nat_lt, Bool, true, ◌&&◌, not, List, Option}
 use Rattle.std.specs.List.{list_all}
 use Rattle.std.specs.Option.{option_map_or}
-use Rattle.std.specs.Str.{bytes_eq}
 use Rattle.dsde_syntax.specs.declared.expr.Expr.{Expr}
 use Rattle.dsde_syntax.specs.declared.expr.Expr.TheOpen.{Expr-F, Suffix-F, ExprArm-F, FieldSet-F, SignTail-F, Tail-F}
 use Rattle.dsde_syntax.specs.declared.expr.Expr.TheFolds.{fold-Expr}
@@ -20,11 +19,11 @@ use Rattle.dsde_syntax.specs.declared.decl.StateDecl.{StateDecl}
 use Rattle.dsde_syntax.specs.declared.decl.Typed.{Typed}
 use Rattle.dsde_syntax.specs.declared.token.Sign.{Sign}
 use Rattle.dsde_syntax.specs.Levels.{has_first, is_comparison, is_sum_sign, is_mul_sign, is_builtin}
-use Rattle.dsde_program_nodes.specs.Typing.{elapsed_name}
+use Rattle.dsde_words.specs.Words.{is_reserved}
 
--- a name that is not the word `elapsed`
+-- a name that is no word of the language
 abbrev pub is_plain : Id → Bool
-is_plain id = not (bytes_eq id.name elapsed_name)
+is_plain id = not (is_reserved id.name)
 
 -- whether a part that may be left out is so
 abbrev pub if_there : Option Bool → Bool

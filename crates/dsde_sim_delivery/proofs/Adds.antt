@@ -2,6 +2,7 @@
 use Rattle.std.proofs.Common.{◌≡◌, ℕ, zero, suc, Bool, true, false, List, [], ◌∷◌, ◌++◌, sym, ◌∙◌, append_assoc, append-nil}
 use Rattle.std.specs.List.{AllByRecursion}
 use Rattle.std.specs.Prelude.{if◌then◌else◌}
+use Rattle.dsde_values.specs.Path.{EXEC}
 use Rattle.dsde_values.specs.declared.name.Name.{Name}
 use Rattle.dsde_values.specs.declared.path.Path.{Path}
 use Rattle.dsde_values.specs.declared.value.Value.{Value}
@@ -11,7 +12,7 @@ use Rattle.dsde_formalism.specs.System.{System}
 use Rattle.dsde_structure.specs.declared.plan.Entry.{Entry}
 use Rattle.dsde_sim_events.specs.declared.event.Event.{Event}
 use Rattle.dsde_sim_events.specs.declared.event.Event.TheVariants.{AddNet, AddLeaf}
-use Rattle.dsde_sim_events.specs.Told.{EXEC, below, Told, ◌then◌, at, to_boss}
+use Rattle.dsde_sim_events.specs.Told.{below, Told, ◌then◌, at, to_boss}
 use Rattle.dsde_sim_tree.specs.declared.sim.Kid.{Kid}
 use Rattle.dsde_sim_tree.specs.Start.{Starter, entered, start_leaf_at, started_kid, starts, structure_of, with_plan, with_boss, start_net, start_net_at, start_atomic, start}
 use Rattle.dsde_sim_delivery.proofs.Events.{each-weaker, each-then}

@@ -10,7 +10,7 @@ use Rattle.std.specs.declared.cmp.Ordering.TheVariants.{Less, Equal}
 use Rattle.dsde_values.specs.declared.name.Name.{Name}
 use Rattle.dsde_values.specs.declared.path.Path.{Path}
 use Rattle.dsde_values.specs.declared.value.Value.{Value}
-use Rattle.dsde_values.specs.Path.{name_cmp}
+use Rattle.dsde_values.specs.Path.{EXEC, name_cmp}
 use Rattle.dsde_program_nodes.specs.declared.ids.ModelId.{ModelId}
 use Rattle.dsde_formalism.specs.declared.leaf.Leaf.{Leaf}
 use Rattle.dsde_formalism.specs.declared.leaf.MoveKind.{MoveKind}
@@ -24,7 +24,7 @@ use Rattle.dsde_structure.specs.Survival.{AreInOrder}
 use Rattle.dsde_sim_events.specs.declared.event.Event.{Event}
 use Rattle.dsde_sim_events.specs.declared.event.Event.TheVariants.{AddNet, AddLeaf}
 use Rattle.dsde_sim_events.specs.declared.fault.TurnEnd.{TurnEnd}
-use Rattle.dsde_sim_events.specs.Told.{EXEC, below, Told, told, ◌then◌, to_boss}
+use Rattle.dsde_sim_events.specs.Told.{below, Told, told, ◌then◌, to_boss}
 use Rattle.dsde_sim_tree.specs.declared.sim.Kid.{Kid}
 use Rattle.dsde_sim_tree.specs.declared.sim.Net.{Net}
 use Rattle.dsde_sim_tree.specs.declared.sim.Sim.{Sim}

@@ -1,7 +1,8 @@
 -- Steps that tell events, one after another, and the paths at which they do.
-use Rattle.std.specs.Prelude.{◌≡◌, List, [], ◌∷◌, ◌++◌, length, take, codes, None, Result, Ok, Err}
+use Rattle.std.specs.Prelude.{◌≡◌, List, [], ◌∷◌, ◌++◌, length, take, Result, Ok, Err}
 use Rattle.dsde_values.specs.declared.name.Name.{Name}
 use Rattle.dsde_values.specs.declared.path.Path.{Path}
+use Rattle.dsde_values.specs.Path.{EXEC}
 use Rattle.dsde_faults.specs.declared.end.LeafEnd.{LeafEnd}
 use Rattle.dsde_faults.specs.declared.end.LeafEnd.TheVariants as leaf_end
 use Rattle.dsde_sim_events.specs.declared.event.Event.{Event}
@@ -16,10 +17,6 @@ pub record Told (A : Type 0) : Type 0 where
 -- the path of a component of the network at this path
 abbrev pub below : Path → Name → Path
 below path name = record { names = path.names ++ name ∷ [] }
-
--- the name of an executive
-abbrev pub EXEC : Name
-EXEC = record { stem = codes "exec"; index = None }
 
 -- the path of the executive of the network at this path
 abbrev pub to_boss : Path → Path

@@ -1,7 +1,8 @@
 //! Paths of the parts of a tree.
 
 ghost use Rattle.std.specs.Prelude.{◌≡◌, Ok, IfOk};
-ghost use Rattle.dsde_sim_events.specs.Told.{EXEC, at, below, to_boss, Comes};
+ghost use Rattle.dsde_values.specs.Path.{EXEC};
+ghost use Rattle.dsde_sim_events.specs.Told.{at, below, to_boss, Comes};
 
 use dsde_faults::LeafEnd;
 use dsde_sim_events::TurnEnd;

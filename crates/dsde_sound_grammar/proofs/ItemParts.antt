@@ -67,9 +67,10 @@ comp-good at name index model args = record {
       let named : Tokens = front ++ word key.Is ++ id_tokens model in
       let own = both (is_plain name) (plain (named ++ args_tokens args ++ mark sign.Semicolon)) tokens in
       let part = cut named (args_tokens args) (front-plain (named ++ args_tokens args) (mark sign.Semicolon) own.right) in
-      and-true (is_proper_index index) (list_all is_proper args)
+      and-true (is_plain name) (is_proper_index index && list_all is_proper args) own.left
+      (and-true (is_proper_index index) (list_all is_proper args)
       (index-proper index placed.left (front-plain front (word key.Is) (front-plain (front ++ word key.Is) (id_tokens model) part.left)))
-      (args-proper args placed.right part.right);
+      (args-proper args placed.right part.right));
 }
 
 pub link-good : (at : ℕ) (source target : End) (via : Option ViaPart)

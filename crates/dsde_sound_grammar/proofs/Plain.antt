@@ -1,25 +1,22 @@
 -- Tokens that no name and no number of a text can break: their parts, and what they grant.
-use Rattle.std.proofs.Common.{◌≡◌, ℕ, Bool, true, false, ◌&&◌, List, [], ◌∷◌, ◌++◌, map, None, refl, sym, subst, ◌∙◌, arith}
-use Rattle.std.specs.Prelude.{◌≤◌, ◌^◌, nat_lt, nat_le, not, All, Decides, flat_map}
+use Rattle.std.proofs.Common.{◌≡◌, ℕ, Bool, true, false, ◌&&◌, List, [], ◌∷◌, ◌++◌, map, refl, sym, ap, is_some, ◌∙◌, arith}
+use Rattle.std.specs.Prelude.{◌≤◌, ◌^◌, nat_lt, nat_le, not, All, flat_map}
 use Rattle.std.specs.List.{list_all, join_by}
-use Rattle.std.specs.Str.{bytes_eq}
 use Rattle.std.proofs.lemmas.List.Folds.{list_all-append}
 use Rattle.std.proofs.lemmas.List.Elements.{All-head, All-tail}
-use Rattle.std.proofs.lemmas.Slice.Eq.{bytes_eq-Decides}
 use Rattle.std.proofs.lemmas.Bool.Decides.{nat_tests}
-use Rattle.dsde_words.specs.Words.{IsIdentifier, key_of}
+use Rattle.dsde_words.specs.Words.{IsIdentifier, is_reserved}
 use Rattle.dsde_syntax.specs.declared.token.Tok.{Tok}
 use Rattle.dsde_syntax.specs.declared.token.Tok.TheVariants as tok
 use Rattle.dsde_syntax.specs.Spelling.{IsToken, IsNumber}
 use Rattle.dsde_syntax.specs.Grammar.{Tokens}
 use Rattle.dsde_syntax.specs.Levels.{stands_at, level_if}
-use Rattle.dsde_program_nodes.specs.Typing.{elapsed_name}
 
 -- a token that is no name `elapsed` and no number of more than 63 bits
 abbrev pub is_plain_tok : Tok → Bool
 is_plain_tok (tok.Key word) = true
 is_plain_tok (tok.Sign mark) = true
-is_plain_tok (tok.Ident name) = not (bytes_eq name elapsed_name)
+is_plain_tok (tok.Ident name) = not (is_reserved name)
 is_plain_tok (tok.Int value) = nat_lt value (2 ^ 63)
 
 abbrev pub plain : Tokens → Bool
@@ -93,16 +90,9 @@ module _ {Y X A Q : Type 0} (f : Y → X) (T : X → Tokens) (B : X → A) (P : 
   pub all-hold : (ys : List Y) → AllHold ok so (map B (map f ys)) (map T (map f ys)) (map P (map f ys))
   all-hold ys = record { holds = own-hold ys }
 
--- no identifier is the word `elapsed`
-reserved : key_of elapsed_name ≡ None → not true ≡ true
-reserved is = cc
-
-not-elapsed : (name : List ℕ) → IsIdentifier name → (same : Bool) → Decides same (name ≡ elapsed_name) → not same ≡ true
-not-elapsed name own false tells = refl
-not-elapsed name own true tells = reserved (subst (λ (text : List ℕ). key_of text ≡ None) (tells.0 refl) own.free)
-
-name-plain : (name : List ℕ) → IsIdentifier name → not (bytes_eq name elapsed_name) ≡ true
-name-plain name own = not-elapsed name own (bytes_eq name elapsed_name) (bytes_eq-Decides name elapsed_name)
+-- no identifier is a word of the language
+name-plain : (name : List ℕ) → IsIdentifier name → not (is_reserved name) ≡ true
+name-plain name own = ap (λ found. not (is_some found)) own.free
 
 number-plain : (value : ℕ) → IsNumber value → nat_lt value (2 ^ 63) ≡ true
 number-plain value own = grind (arith, nat_tests)

@@ -9,7 +9,6 @@ use Rattle.dsde_syntax.specs.declared.decl.Decl.TheVariants as decl
 use Rattle.dsde_syntax.specs.declared.decl.Typed.{Typed}
 use Rattle.dsde_syntax.specs.declared.type_name.TypeName.{TypeName}
 use Rattle.dsde_values.specs.declared.types.Ty.{Ty}
-use Rattle.dsde_values.specs.declared.types.Ty.TheVariants as ty
 use Rattle.dsde_check_rules.specs.declared.known.Known.{Known}
 use Rattle.dsde_check_rules.specs.declared.seen.Binding.{Binding}
 use Rattle.dsde_check_rules.specs.declared.seen.TypeSeen.{TypeSeen}

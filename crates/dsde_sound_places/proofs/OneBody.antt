@@ -1,6 +1,8 @@
 -- The body of a model in which nothing is wrong stands at its numbers.
-use Rattle.std.proofs.Common.{◌≡◌, ℕ, ◌≤◌, Bool, true, false, ◌||◌, ◌&&◌, List, [], ◌∷◌, ◌++◌, map, Option, Ok, bytes_eq, refl, sym, ap, subst, ◌∙◌, arith, append_assoc, append-nil}
+use Rattle.std.proofs.Common.{◌≡◌, ℕ, ◌≤◌, Bool, true, false, ◌||◌, ◌&&◌, List, [], ◌∷◌, ◌++◌, map, Option, Ok, bytes_eq, Decides, not, refl, sym, ap, subst, ◌∙◌, arith, append_assoc, append-nil}
 use Rattle.std.proofs.lemmas.Bool.{and_parts, and_from}
+use Rattle.std.proofs.lemmas.Slice.Eq.{bytes_eq-Decides}
+use Rattle.dsde_words.specs.Words.{is_reserved}
 use Rattle.std.specs.List.{list_all}
 use Rattle.std.proofs.lemmas.List.Folds.{list_any-append}
 use Rattle.dsde_syntax.specs.declared.decl.Body.{Body}
@@ -49,12 +51,24 @@ new-append [] two before first second = subst (λ (l : List Field). NewFields l 
 new-append (field ∷ one) two before first second =
     (first.0, new-append one two (before ++ field ∷ []) first.1 (subst (λ (l : List Field). NewFields l two) (sym (append_assoc before (field ∷ []) one)) second))
 
+-- A name that is no word of the language is not `elapsed`.
+not-elapsed : (name : List ℕ) (same : Bool) → Decides same (name ≡ elapsed_name) → not (is_reserved name) ≡ true → not same ≡ true
+not-elapsed name false tells free = refl
+not-elapsed name true tells free =
+    absurd (let word : not (is_reserved elapsed_name) ≡ false = refl in let e : true ≡ false = sym free ∙ ap (λ (n : List ℕ). not (is_reserved n)) (tells.0 refl) ∙ word in cc)
+
+none-elapsed : {X : Type 0} (f : X → List ℕ) (xs : List X) → list_all (λ x. not (is_reserved (f x))) xs ≡ true → list_all (λ x. not (bytes_eq (f x) elapsed_name)) xs ≡ true
+none-elapsed f [] all = refl
+none-elapsed f (x ∷ xs) all =
+    let both = and_parts (not (is_reserved (f x))) (list_all (λ x. not (is_reserved (f x))) xs) all in
+    and_from (not (bytes_eq (f x) elapsed_name)) _ (not-elapsed (f x) (bytes_eq (f x) elapsed_name) (bytes_eq-Decides (f x) elapsed_name) both.0) (none-elapsed f xs both.1)
+
 -- No name of these is `elapsed`.
 typed-plain : (known : Known) (params : List Typed) → are_plain params ≡ true → is_among field_name (typed_fields known params) elapsed_name ≡ false
-typed-plain known params plain = any-map _ _ params ∙ none-passes (λ (typed : Typed). bytes_eq typed.name.name elapsed_name) params plain
+typed-plain known params plain = any-map _ _ params ∙ none-passes (λ (typed : Typed). bytes_eq typed.name.name elapsed_name) params (none-elapsed (λ (typed : Typed). typed.name.name) params plain)
 
 states-plain : (known : Known) (states : List StateDecl) → list_all (λ (state : StateDecl). is_plain state.name && is_proper state.value) states ≡ true → is_among field_name (state_fields known states) elapsed_name ≡ false
-states-plain known states plain = any-map _ _ states ∙ none-passes (λ (state : StateDecl). bytes_eq state.name.name elapsed_name) states (names-all states plain)
+states-plain known states plain = any-map _ _ states ∙ none-passes (λ (state : StateDecl). bytes_eq state.name.name elapsed_name) states (none-elapsed (λ (state : StateDecl). state.name.name) states (names-all states plain))
   where
     names-all : (states : List StateDecl) → list_all (λ (state : StateDecl). is_plain state.name && is_proper state.value) states ≡ true → list_all (λ (state : StateDecl). is_plain state.name) states ≡ true
     names-all [] all = refl
@@ -63,7 +77,7 @@ states-plain known states plain = any-map _ _ states ∙ none-passes (λ (state 
         and_from (is_plain state.name) _ (and_parts (is_plain state.name) (is_proper state.value) both.0).0 (names-all states both.1)
 
 ports-plain : (known : Known) (ports : List PortDecl) → list_all (λ (port : PortDecl). is_plain port.name) ports ≡ true → is_among port_name (ports_in known.words ports) elapsed_name ≡ false
-ports-plain known ports plain = any-map _ _ ports ∙ none-passes (λ (port : PortDecl). bytes_eq port.name.name elapsed_name) ports plain
+ports-plain known ports plain = any-map _ _ ports ∙ none-passes (λ (port : PortDecl). bytes_eq port.name.name elapsed_name) ports (none-elapsed (λ (port : PortDecl). port.name.name) ports plain)
 
 -- a body that the grammar grants, part by part
 record ProperBody (body : Body) : Type 0 where

@@ -48,6 +48,7 @@ use Rattle.dsde_executive_plans.specs.Layout.{most, inserted, is_there, with_ent
 use Rattle.dsde_executive_plans.specs.Drafts.{index_at}
 use Rattle.dsde_system.specs.Fitting.{Fill, FitsArgs}
 use Rattle.dsde_sound_typing.specs.Steps.{went, ok-is, unless-is}
+use Rattle.dsde_eval_meaning.specs.Proper.{is_plain}
 use Rattle.dsde_sound_typing.specs.Truths.{and-left, and-right}
 use Rattle.dsde_sound_typing.specs.Places.{Placed, placed}
 use Rattle.dsde_sound_typing.specs.Standing.{stands-left, stands-right}
@@ -162,12 +163,12 @@ module _ (g : Ground) where
                 subst (λ (l : List Field). Shows g l ((item_step g.place g.functions (Item-F.Comp at name index model args)).run next.via before) (one_does g (nodes.item_step g.place (Item-F.Comp at name index model args) slots next).own (shown before))) (sym same2)
                 (shows-by g slots _ _ _ (draw-comp (part_in g) at name.name one.own (model_id whole model.name) two.own (shown before))
                 (shows-over g (λ (own : Option ℕ). Unit {0}) slots (index_of whole g.functions index before.vars) (index_at (part_in g) one.own (values_in before.vars)) _ _
-                (index-gets g scope slots sees before.vars kept.fits index (and-left (proper.is_proper_index index) _ plain) w1.value next w1.first
+                (index-gets g scope slots sees before.vars kept.fits index (and-left (proper.is_proper_index index) _ (and-right (is_plain name) _ plain)) w1.value next w1.first
                 (stands-left g.coded.nodes next.node one.nodes (two.nodes ++ []) ready.code) (omega (arith, low)))
                 (λ own _.
                 shows-over g (AllTyped g.types called.sig.params) slots (values_of [] (map (mean whole g.functions) args) before.vars) (values_from (part_in g) [] two.own (values_in before.vars)) _ _
                 (values-get g scope one.scope (subst (λ (l : List Field). Sees E scope l) (sym same1) sees) before.vars (subst (λ (l : List Field). Fits g.types before.vars l) (sym same1) kept.fits)
-                args (and-right (proper.is_proper_index index) _ plain) called.sig.params 0 w2.value called.fits called.long (omega (arith, low)) next1
+                args (and-right (proper.is_proper_index index) _ (and-right (is_plain name) _ plain)) called.sig.params 0 w2.value called.fits called.long (omega (arith, low)) next1
                 (stands-left g.coded.nodes next1.node two.nodes [] (stands-right g.coded.nodes next.node one.nodes (two.nodes ++ []) ready.code)) [] [] tt)
                 (λ values typed.
                 let entry : Entry = record { name = record { stem = name.name; index = own }; model = model_id whole model.name; args = values } in

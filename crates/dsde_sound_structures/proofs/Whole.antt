@@ -1,7 +1,8 @@
 -- The structure of a network means in tables what it means over names, and its plan fits.
 use Rattle.std.proofs.Common.{◌≡◌, ◌≢◌, ℕ, ◌≤◌, arith, Bool, true, false, List, [], ◌∷◌, ◌++◌, map, Some, Ok, Err, refl, sym, ◌∙◌, ap, subst, slice_get}
-use Rattle.std.specs.List.{AllByRecursion, flat_map}
+use Rattle.std.specs.List.{AllByRecursion, flat_map, list_all}
 use Rattle.std.proofs.lemmas.List.Folds.{list_all-map}
+use Rattle.dsde_values.specs.Path.{EXEC}
 use Rattle.dsde_syntax.specs.declared.decl.Model.{Model}
 use Rattle.dsde_syntax.specs.declared.item.Item.{Item}
 use Rattle.dsde_syntax.specs.declared.item.ViaPart.{ViaPart}
@@ -15,6 +16,7 @@ use Rattle.dsde_program_nodes.specs.Models.{whole_of, types_of, resolved, place_
 use Rattle.dsde_check_rules.specs.Right.{IsRight}
 use Rattle.dsde_structure.specs.declared.plan.Entry.{Entry}
 use Rattle.dsde_structure.specs.declared.plan.Plan.{Plan}
+use Rattle.dsde_structure.specs.Gather.{is_same_name}
 use Rattle.dsde_structure.specs.Survival.{IsInOrder}
 use Rattle.dsde_eval_meaning.specs.Outcome.{Fault, Stuck, Outcome, ◌>>=◌}
 use Rattle.dsde_eval_meaning.specs.Meaning.{Function, Vars}
@@ -48,6 +50,14 @@ use Rattle.dsde_sound_structures.proofs.Tied.{tied-all, tied-sure, entries-fit, 
 abbrev pub PlansInOrder : Type 0
 PlansInOrder = (place : Place) (functions : List Function) (items : List Item) (number : ℕ) (vars : Vars) (plan : Plan)
     → structure place functions items number vars ≡ Ok plan → IsInOrder plan.entries
+
+-- No component of a plan of proper items is named as an executive.
+abbrev pub IsOrdinary : List Entry → Type 0
+IsOrdinary entries = AllByRecursion (λ entry. is_same_name EXEC entry.name ≡ false) entries
+
+abbrev pub PlansOrdinary : Type 0
+PlansOrdinary = (place : Place) (functions : List Function) (items : List Item) (number : ℕ) (vars : Vars) (plan : Plan)
+    → list_all is_proper_item items ≡ true → structure place functions items number vars ≡ Ok plan → IsOrdinary plan.entries
 
 texts-joined : (items : List Item) → joined_texts (map vias_in items) ≡ flat_map vias_in items
 texts-joined [] = refl
@@ -92,20 +102,21 @@ module _ (model : Model) (own : Own) (families : List Family) where
 
   plan-tied : (entries : List Entry) (links : List PlacedLink) (found : Outcome (Unit {0})) → tied entries links ≡ found → (plan : Plan)
       → AllByRecursion (EntryBy model own families) entries → AllByRecursion (LinkBy model own families) links
-      → (found >>= (λ _. Ok (record { entries = entries; links = map (λ (placed : PlacedLink). placed.link) links }))) ≡ Ok plan → IsInOrder plan.entries → FitsPlan model own plan
-  plan-tied entries links (Err halt) is plan all by h order = absurd (cc h)
-  plan-tied entries links (Ok u) is plan all by h order =
+      → (found >>= (λ _. Ok (record { entries = entries; links = map (λ (placed : PlacedLink). placed.link) links }))) ≡ Ok plan → IsInOrder plan.entries → IsOrdinary plan.entries → FitsPlan model own plan
+  plan-tied entries links (Err halt) is plan all by h order ordinary = absurd (cc h)
+  plan-tied entries links (Ok u) is plan all by h order ordinary =
       let own_plan : Plan = record { entries = entries; links = map (λ (placed : PlacedLink). placed.link) links } in
       let same : own_plan ≡ plan = cc h in
       subst (FitsPlan model own) same (record {
         order = subst (λ (p : Plan). IsInOrder p.entries) (sym same) order;
+        ordinary = subst (λ (p : Plan). IsOrdinary p.entries) (sym same) ordinary;
         entries = entries-fit model own families entries all;
         links = links-fit model own families entries all links by (tied-all entries links u is);
       })
 
-  plan-fits : (x : Outcome Layout) → Sound false LaidBy x → (plan : Plan) → (x >>= plan_in) ≡ Ok plan → IsInOrder plan.entries → FitsPlan model own plan
-  plan-fits (Ok after) laid plan h order = plan-tied after.entries after.links (tied after.entries after.links) refl plan laid.entries laid.links h order
-  plan-fits (Err halt) laid plan h order = absurd (cc h)
+  plan-fits : (x : Outcome Layout) → Sound false LaidBy x → (plan : Plan) → (x >>= plan_in) ≡ Ok plan → IsInOrder plan.entries → IsOrdinary plan.entries → FitsPlan model own plan
+  plan-fits (Ok after) laid plan h order ordinary = plan-tied after.entries after.links (tied after.entries after.links) refl plan laid.entries laid.links h order ordinary
+  plan-fits (Err halt) laid plan h order ordinary = absurd (cc h)
 
 laid-by : (model : Model) (own : Own) (families : List Family) (P : Layout → Type 0) → ((layout : Layout) → P layout → LaidBy model own families layout) → (x : Outcome Layout) → Sound false P x → Sound false (LaidBy model own families) x
 laid-by model own families P so (Ok after) h = so after h
@@ -126,7 +137,7 @@ record Left (model : Model) (own : Own) (families : List Family) (items : List I
   laid : Sound false (LaidBy model own families) (layout_of model own items via vars)
   same : draws (means_in (coded_of model) depth).part makes (draft_of (values_in vars) [] []) ≡ seen (layout_of model own items via vars)
 
-module _ (agree : ExpressionsAgree) (functions : FunctionsAgree) (within : KnownIsWithin) (models : ModelsAreKnown) (orders : PlansInOrder) where
+module _ (agree : ExpressionsAgree) (functions : FunctionsAgree) (within : KnownIsWithin) (models : ModelsAreKnown) (orders : PlansInOrder) (ordinary : PlansOrdinary) where
   left-at : (model : Model) (number : ℕ) (own : Own) (items : List Item) (via : ℕ) (makes : List Make) (vars : Vars) → IsRight model → slice_get (owns_of model.decls) number ≡ Some own
       → (is : IsStructure model own items via makes) → Fits (types_of model) vars (body_slots model own) → (depth : ℕ) → 512 ≤ depth
       → Left model own is.families items via makes vars depth
@@ -192,5 +203,6 @@ module _ (agree : ExpressionsAgree) (functions : FunctionsAgree) (within : Known
             let here : Left model own is.families items via makes vars depth = left-at model number own items via makes vars right found is fits depth deep in
             ap (λ (o : Outcome Draft). o >>= (λ draft. plan_of draft.entries draft.links)) here.same ∙ plan-seen x ∙ sym whole;
         fits = λ plan h.
-            plan-fits model own is.families x left.laid plan (sym whole ∙ h) (orders (place_of_items (whole_of model) own.ports own.body items) (functions_of model) items via vars plan h);
+            plan-fits model own is.families x left.laid plan (sym whole ∙ h) (orders (place_of_items (whole_of model) own.ports own.body items) (functions_of model) items via vars plan h)
+            (ordinary (place_of_items (whole_of model) own.ports own.body items) (functions_of model) items via vars plan is.proper h);
       }

@@ -5,6 +5,7 @@ ghost use Rattle.dsde_sound_structures.specs.Agreement.{StructuresAgree};
 use dsde_executive_plans::plans_are_in_order;
 use dsde_sound_expressions::expressions_agree;
 use dsde_sound_functions::functions_agree;
+use dsde_sound_names::plans_are_ordinary;
 use dsde_sound_places::{known_is_within, models_are_known};
 
 /// A law: the structure of a network in which nothing is wrong gives in tables the plan that it gives
@@ -17,4 +18,5 @@ pub fn structures_agree()
     known_is_within();
     models_are_known();
     plans_are_in_order();
+    plans_are_ordinary();
 }

@@ -15,6 +15,7 @@ use Rattle.dsde_check_rules.specs.Steps.{apart}
 use Rattle.dsde_check_rules.specs.Judge as rules
 use Rattle.dsde_program_nodes.specs.Typing.{with_slot, elapsed_name}
 use Rattle.dsde_eval_meaning.specs.Proper.{is_plain}
+use Rattle.dsde_words.specs.Words.{is_reserved}
 use Rattle.dsde_eval_meaning.specs.Scopes.{Slotted, Sees}
 use Rattle.dsde_sound_typing.specs.Truths.{or-left, or-right}
 use Rattle.dsde_sound_typing.specs.Places.{same-name, eq-same, pick, or_last, any-map, added-new, among-snoc, named-map, named-snoc, named-front, unnamed}
@@ -87,8 +88,8 @@ module _ (has_elapsed : Bool) (scope : rules.Scope) (slots : List Field) (sees :
   fresh-new around id u h plain =
       let w1 = went (apart around.reserved id) (λ _. unbound scope id) u h in
       let new : is_among binding_name scope id.name ≡ false = unless-is (is_among binding_name scope id.name) Duplicate id.at u w1.next in
-      let other : bytes_eq id.name elapsed_name ≡ false = not-true (bytes_eq id.name elapsed_name) plain in
-      sees.unseen id.name new (λ same. both_ways _ other (ap (λ (n : List ℕ). bytes_eq n elapsed_name) same ∙ eq-same elapsed_name))
+      let other : is_reserved id.name ≡ false = not-true (is_reserved id.name) plain in
+      sees.unseen id.name new (λ same. both_ways _ other (ap is_reserved same))
 
 -- A name that has no slot gets the one behind the others.
 pub slot-behind : (slots : List Field) (name : List ℕ) (own : Ty) → is_among field_name slots name ≡ false → with_slot slots name own ≡ slots ++ field_of name own ∷ []

@@ -1,6 +1,7 @@
 -- What fits a network: its plans, and what its links carry from.
 use Rattle.std.specs.Prelude.{◌≡◌, ℕ, Bool, true, false, not, is_some, List, [], ◌∷◌, Option, Some, None, slice_get}
 use Rattle.std.specs.List.{AllByRecursion, Contains}
+use Rattle.dsde_values.specs.Path.{EXEC}
 use Rattle.dsde_syntax.specs.declared.decl.Model.{Model}
 use Rattle.dsde_syntax.specs.declared.item.ViaKey.{ViaKey}
 use Rattle.dsde_syntax.specs.declared.item.ViaPart.{ViaPart}
@@ -21,6 +22,7 @@ use Rattle.dsde_structure.specs.declared.plan.Via.{Via}
 use Rattle.dsde_structure.specs.declared.sources.Given.{Given}
 use Rattle.dsde_structure.specs.declared.sources.Sources.{Sources}
 use Rattle.dsde_structure.specs.Gather.{Ports}
+use Rattle.dsde_structure.specs.Gather.{is_same_name}
 use Rattle.dsde_structure.specs.Survival.{IsInOrder}
 use Rattle.dsde_eval_meaning.specs.Typed.{Typed}
 use Rattle.dsde_sound_places.specs.Bodies.{Own, owns_of}
@@ -108,6 +110,7 @@ FitsEntry model entry = FitsArgs model entry.model.0 entry.args
 -- their parameters' types, and its links.
 pub record FitsPlan (model : Model) (own : Own) (plan : Plan) : Type 0 where
   pub order : IsInOrder plan.entries
+  pub ordinary : AllByRecursion (λ entry. is_same_name EXEC entry.name ≡ false) plan.entries
   pub entries : AllByRecursion (FitsEntry model) plan.entries
   pub links : AllByRecursion (FitsLink model own plan.entries) plan.links
 

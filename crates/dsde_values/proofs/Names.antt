@@ -9,14 +9,14 @@ use Rattle.std.proofs.Math.Seq.{take-append_seam, drop-append_seam}
 use borrow.Author.Tests.{ltb-true}
 use Rattle.dsde_values.specs.declared.name.Name.{Name}
 use Rattle.dsde_words.specs.Words.{is_word_byte, is_word, begins_word}
-use Rattle.dsde_values.specs.Path.{index_text, name_text, is_index, is_name, is_component, is_plain, are_below}
+use Rattle.dsde_values.specs.Path.{index_text, name_text, is_index, is_name, is_component, is_plain, is_executive, are_below}
 
 and_assoc : (a b c : Bool) → (a && b) && c ≡ a && (b && c)
 and_assoc true b c = refl
 and_assoc false b c = refl
 
 abbrev pub may_be_last : Name → Bool
-may_be_last name = is_component name || is_plain (codes "exec") name
+may_be_last name = is_component name || is_executive name
 
 -- what stands below, by its last name
 pub are_below-last : (names : List Name) (last : Name) → are_below (names ++ last ∷ []) ≡ list_all is_component names && may_be_last last

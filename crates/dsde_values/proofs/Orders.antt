@@ -6,12 +6,12 @@ use Rattle.std.specs.Cmp.{IsTotalOrder}
 use Rattle.std.specs.Cmp.Lexicographic.{slice_cmp}
 use Rattle.std.specs.Cmp.Rules.{comparing}
 use Rattle.std.specs.Option.{option_cmp}
-use Rattle.std.specs.Ordering.{ordering_then, nat_cmp}
+use Rattle.std.specs.Ordering.{ordering_then, nat_cmp, bool_cmp}
 use Rattle.std.proofs.lemmas.Map.Lookups.{exact_unsigned, exact_bytes}
 use Rattle.std.proofs.lemmas.Cmp.{tied_itself, on_total, lists_total}
 use Rattle.dsde_values.specs.declared.name.Name.{Name}
 use Rattle.dsde_values.specs.declared.path.Path.{Path}
-use Rattle.dsde_values.specs.Path.{name_cmp, path_cmp}
+use Rattle.dsde_values.specs.Path.{name_cmp, path_cmp, is_executive}
 
 both_equal : (first later : Ordering) → ordering_then first later ≡ Equal → (first ≡ Equal) × (later ≡ Equal)
 both_equal Less later h = absurd (let e : Less ≡ Equal = h in cc)
@@ -41,8 +41,10 @@ path_cmp_total = on_total (λ path. path.names) (lists_total name_cmp_total)
 
 pub exact_names : (name other : Name) → name_cmp name other ≡ Equal → name ≡ other
 exact_names name other h =
-    let parts = both_equal (slice_cmp nat_cmp name.stem other.stem) (option_cmp nat_cmp name.index other.index) h in
-    let stem = exact_bytes name.stem other.stem parts.0 in
+    let executives = bool_cmp (is_executive name) (is_executive other) in
+    let stems = slice_cmp nat_cmp name.stem other.stem in
+    let parts = both_equal (ordering_then executives stems) (option_cmp nat_cmp name.index other.index) h in
+    let stem = exact_bytes name.stem other.stem (both_equal executives stems parts.0).1 in
     let index = exact_options nat_cmp exact_unsigned name.index other.index parts.1 in
     λ i. record { stem = stem i; index = index i }
 

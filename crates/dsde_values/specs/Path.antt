@@ -3,7 +3,7 @@ use Rattle.std.specs.Prelude.{◌≡◌, ℕ, ◌^◌, Bool, true, false, ◌&&�
 use Rattle.std.specs.Cmp.Lexicographic.{slice_cmp}
 use Rattle.std.specs.List.{flat_map}
 use Rattle.std.specs.Option.{option_cmp}
-use Rattle.std.specs.Ordering.{nat_cmp, on, then_cmp}
+use Rattle.std.specs.Ordering.{nat_cmp, bool_cmp, on, then_cmp}
 use Rattle.std.specs.declared.cmp.Ordering.{Ordering}
 use Rattle.std.specs.Str.{bytes_eq}
 use Rattle.dsde_values.specs.declared.name.Name.{Name}
@@ -47,10 +47,17 @@ is_component name = is_name name && not (is_reserved name.stem)
 abbrev pub is_plain : List ℕ → Name → Bool
 is_plain word name = bytes_eq name.stem word && is_none name.index
 
+-- the name of an executive
+abbrev pub EXEC : Name
+EXEC = record { stem = codes "exec"; index = None }
+
+abbrev pub is_executive : Name → Bool
+is_executive = is_plain EXEC.stem
+
 -- components' names, of which the last may be an executive's
 abbrev pub are_below : List Name → Bool
 are_below [] = true
-are_below (name ∷ []) = is_component name || is_plain (codes "exec") name
+are_below (name ∷ []) = is_component name || is_executive name
 are_below (name ∷ names) = is_component name && are_below names
 
 -- The first name is `root`, and the others are below it.
@@ -62,9 +69,9 @@ is_path (name ∷ names) = is_plain (codes "root") name && are_below names
 abbrev pub IsPath : Path → Type 0
 IsPath path = is_path path.names ≡ true
 
--- by the identifier's bytes, then plain before indexed, and then by the index
+-- the executive's after all others; these by the identifier's bytes, then plain before indexed, and then by the index
 abbrev pub name_cmp : Name → Name → Ordering
-name_cmp = then_cmp (on (λ name. name.stem) (slice_cmp nat_cmp)) (on (λ name. name.index) (option_cmp nat_cmp))
+name_cmp = then_cmp (then_cmp (on is_executive bool_cmp) (on (λ name. name.stem) (slice_cmp nat_cmp))) (on (λ name. name.index) (option_cmp nat_cmp))
 
 -- name by name, a prefix first
 abbrev pub path_cmp : Path → Path → Ordering

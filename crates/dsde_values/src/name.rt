@@ -5,7 +5,7 @@ ghost use Rattle.std.proofs.Common.{rules, refl};
 ghost use Rattle.std.specs.Cmp.{partial_equiv_from_equiv, partial_order_from_agreeing_total};
 ghost use Rattle.std.specs.Cmp.Rules.{comparing};
 ghost use Rattle.std.specs.Ordering.{as_partial_cmp, eq_by_cmp};
-ghost use Rattle.dsde_values.specs.Path.{name_cmp};
+ghost use Rattle.dsde_values.specs.Path.{name_cmp, is_plain, is_executive};
 
 use dsde_lists::{Memory, Text};
 use std::alloc::Global;
@@ -36,16 +36,32 @@ impl Name {
     {
         self.index == other.index && self.stem.as_slice() == other.stem.as_slice()
     }
+
+    /// Whether this is the name of an executive: `exec` without an index.
+    pub fn is_executive(&self) -> bool
+        ensures { result ≡ is_executive self.now }
+    {
+        self.is_plain(b"exec")
+    }
+
+    /// Whether the name is this word without an index.
+    pub(crate) fn is_plain(&self, word: &[u8]) -> bool
+        ensures { result ≡ is_plain word.now self.now }
+    {
+        self.stem.as_slice() == word && self.index.is_none()
+    }
 }
 
-/// The order of names: by the bytes of the identifier, then one without an index before one with,
-/// then by the index. `Equal` comes exactly where the names are the same.
+/// The order of names: the executive's, `exec`, after all others, and these by the bytes of the
+/// identifier, then one without an index before one with, then by the index. `Equal` comes exactly
+/// where the names are the same.
 pub fn compare_names(name: &Name, other: &Name) -> Ordering
     ensures order { result ≡ name_cmp name.now other.now }
     ensures equal { (result ≡ Ordering.Equal) ↔ (name.now ≡ other.now) }
 {
+    let executives = name.is_executive().cmp(&other.is_executive());
     let stems = name.stem.as_slice().cmp(other.stem.as_slice());
-    stems.then(name.index.cmp(&other.index))
+    executives.then(stems).then(name.index.cmp(&other.index))
 }
 
 impl PartialEq for Name {

@@ -1,7 +1,7 @@
 //! The paths of components.
 
-ghost use Rattle.std.specs.Prelude.{◌≡◌, ◌≢◌, ◌↔◌, ◌++◌, ◌||◌, true, ℕ, codes, Option, length, take, IfOk, OnOk, OnErr, IfSome, IfNone, IsErrOf};
-ghost use Rattle.dsde_values.specs.Path.{root, path_text, name_text, index_text, path_cmp, IsPath, is_path, are_below, is_component, is_plain, is_name, is_index};
+ghost use Rattle.std.specs.Prelude.{◌≡◌, ◌≢◌, ◌↔◌, ◌++◌, ◌||◌, true, ℕ, Option, length, take, IfOk, OnOk, OnErr, IfSome, IfNone, IsErrOf};
+ghost use Rattle.dsde_values.specs.Path.{root, path_text, name_text, index_text, path_cmp, IsPath, is_path, are_below, is_component, is_executive, is_name, is_index};
 ghost use Rattle.dsde_values.specs.declared.name.Name.{Name};
 ghost use Rattle.dsde_values.specs.declared.path.Path.{Path};
 ghost use Rattle.dsde_values.specs.declared.path.ReadPath.TheVariants as read_path;
@@ -160,7 +160,7 @@ fn is_path(names: &[Name]) -> bool
 {
     match names {
         [] => false,
-        [first, others @ ..] => is_plain(b"root", first) && are_below(others),
+        [first, others @ ..] => first.is_plain(b"root") && are_below(others),
     }
 }
 
@@ -176,9 +176,9 @@ fn are_below(names: &[Name]) -> bool
 
 /// Whether a name may stand last.
 fn may_be_last(name: &Name) -> bool
-    ensures { result ≡ is_component name.now || is_plain (codes "exec") name.now }
+    ensures { result ≡ is_component name.now || is_executive name.now }
 {
-    is_component(name) || is_plain(b"exec", name)
+    is_component(name) || name.is_executive()
 }
 
 /// Whether a component may have the name.
@@ -193,11 +193,4 @@ fn is_name(name: &Name) -> bool
     ensures { result ≡ is_name name.now }
 {
     is_word(name.stem.as_slice()) && name.index.is_none_or(|index| index <= LAST_INDEX)
-}
-
-/// Whether a name is this word without an index.
-fn is_plain(word: &[u8], name: &Name) -> bool
-    ensures { result ≡ is_plain word.now name.now }
-{
-    name.stem.as_slice() == word && name.index.is_none()
 }
