@@ -15,7 +15,7 @@ use Rattle.dsde_sim_events.specs.declared.event.Event.TheVariants.{AddNet, AddLe
 use Rattle.dsde_sim_events.specs.Told.{below, Told, ◌then◌, at, to_boss}
 use Rattle.dsde_sim_tree.specs.declared.sim.Kid.{Kid}
 use Rattle.dsde_sim_tree.specs.Start.{Starter, entered, start_leaf_at, started_kid, starts, structure_of, with_plan, with_boss, start_net, start_net_at, start_atomic, start}
-use Rattle.dsde_sim_delivery.proofs.Events.{each-weaker, each-then}
+use Rattle.dsde_sim_delivery.specs.lemmas.Events.{each-weaker, each-then}
 
 -- an event that adds what stands at a path or below
 abbrev pub IsStart : Path → Event → Type 0

@@ -34,7 +34,7 @@ use Rattle.dsde_sim_tree.specs.Start.{net_of}
 use Rattle.dsde_sim_tree.specs.Trees.{each_tree}
 use Rattle.dsde_sim_delivery.specs.Deliveries.{Delivery, KidReceives, shared, deliveries, deliveries_of_kid, gets_of, is_get}
 use Rattle.dsde_sim_delivery.specs.Delivered.{UpTo}
-use Rattle.dsde_sim_delivery.proofs.Opens.{name_of, deliveries-Leaf, deliveries-Net, deliveries-kid}
+use Rattle.dsde_sim_delivery.specs.lemmas.Opens.{name_of, deliveries-Leaf, deliveries-Net, deliveries-kid}
 use Rattle.dsde_sim_delivery.proofs.Adds.{IsStart}
 use Rattle.dsde_sim_delivery.proofs.Telling.{after_boss-told}
 

@@ -1,11 +1,8 @@
-pub mod Events
-pub mod Opens
 pub mod Adds
 pub mod Telling
 pub mod Reaching
 pub mod Calm
 pub mod Delivering
-pub mod Asking
 pub mod Bringing
 pub mod Fronts
 pub mod Turns

@@ -26,8 +26,8 @@ use Rattle.dsde_sim_tree.specs.Output.{sources_of, kid_output}
 use Rattle.dsde_sim_tree.specs.Start.{start}
 use Rattle.dsde_sim_tree.specs.Trees.{each_tree}
 use Rattle.dsde_sim_delivery.specs.Places.{paths_from, paths_of_kid, added, reached}
-use Rattle.dsde_sim_delivery.proofs.Events.{each-weaker, each-then, Among, among-left, among-right}
-use Rattle.dsde_sim_delivery.proofs.Opens.{name_of, paths-Leaf, paths-Net, paths-kid}
+use Rattle.dsde_sim_delivery.specs.lemmas.Events.{each-weaker, each-then, Among, among-left, among-right}
+use Rattle.dsde_sim_delivery.specs.lemmas.Opens.{name_of, paths-Leaf, paths-Net, paths-kid}
 use Rattle.dsde_sim_delivery.proofs.Adds.{IsStart}
 use Rattle.dsde_sim_delivery.proofs.Telling.{leaf-told, boss-told}
 

@@ -21,7 +21,7 @@ use Rattle.dsde_sim_tree.specs.declared.sim.Sim.TheViews.{out-Kid}
 use Rattle.dsde_sim_tree.specs.Move.{left_behind, gets_at, gets_from, take_move, move_leaf_at, drop_of, take_named, refill, refilled, gone, kept, change, replanned, after_boss, boss_moves}
 use Rattle.dsde_sim_tree.specs.Start.{Starter, start, started_kid, net_of, structure_of}
 use Rattle.dsde_sim_tree.specs.Tree.{parts_of_kid, parts_of_kids}
-use Rattle.dsde_sim_delivery.proofs.Events.{each-append, each-weaker, each-then}
+use Rattle.dsde_sim_delivery.specs.lemmas.Events.{each-append, each-weaker, each-then}
 use Rattle.dsde_sim_delivery.proofs.Adds.{IsStart, start-starts, kid-starts}
 
 module _ (system : System) (P : Event → Type 0) where

@@ -20,7 +20,7 @@ use Rattle.dsde_sim_turns.specs.Turn.{without_room, move_phase, turn}
 use Rattle.dsde_sim_delivery.specs.Places.{paths, added, reached, IsInOrder, ReachOnly, ReachNoneAdded}
 use Rattle.dsde_sim_delivery.specs.Deliveries.{deliveries, gets_of, is_get}
 use Rattle.dsde_sim_delivery.specs.Delivered.{UpTo, IsDelivered}
-use Rattle.dsde_sim_delivery.proofs.Events.{each-append, each-then, each-back, Among, among-cases, among-from, contains-from}
+use Rattle.dsde_sim_delivery.specs.lemmas.Events.{each-append, each-then, each-back, Among, among-cases, among-from, contains-from}
 use Rattle.dsde_sim_delivery.proofs.Reaching.{IsOf, AreOf, moves-of, reached-among}
 use Rattle.dsde_sim_delivery.proofs.Calm.{IsApart, AreApart, IsCalm, calm-then, calm-append, calm-addless, AddsNone, apart-addless, apart-still, moves-calmly}
 use Rattle.dsde_sim_delivery.proofs.Delivering.{Gets, upto-last, moves-deliver}

@@ -1,3 +1,4 @@
 pub mod Places
 pub mod Deliveries
 pub mod Delivered
+pub mod lemmas

@@ -1,9 +1,11 @@
 -- The paths of the parts of a tree, and those that events add and reach.
-use Rattle.std.specs.Prelude.{◌≡◌, List, [], ◌∷◌, ◌++◌}
-use Rattle.std.specs.List.{flat_map, AllByRecursion, Contains}
+use Rattle.std.specs.Prelude.{◌≡◌, ◌&&◌, Bool, true, false, List, [], ◌∷◌, ◌++◌}
+use Rattle.std.specs.List.{flat_map, filter, AllByRecursion, Contains}
 use Rattle.std.proofs.Common.{inl, inr}
+use Rattle.dsde_values.specs.declared.name.Name.{Name}
 use Rattle.dsde_values.specs.declared.path.Path.{Path}
 use Rattle.dsde_values.specs.Path.{root}
+use Rattle.dsde_structure.specs.Gather.{is_same_name}
 use Rattle.dsde_structure.specs.Survival as entry
 use Rattle.dsde_sim_events.specs.declared.event.Event.{Event}
 use Rattle.dsde_sim_events.specs.declared.event.Event.TheVariants.{AddNet, AddLeaf, Get, Move}
@@ -43,6 +45,16 @@ paths_of_net = fold-Net Places Places Places paths_step paths_kid paths_net
 -- the paths of the parts of a tree
 abbrev pub paths : Sim → List Path
 paths tree = paths_from tree root
+
+-- names that begin with these
+abbrev pub begin_with : List Name → List Name → Bool
+begin_with [] names = true
+begin_with (name ∷ front) [] = false
+begin_with (name ∷ front) (other ∷ names) = is_same_name name other && begin_with front names
+
+-- the paths of a tree that begin with a path
+abbrev pub beneath : Path → Sim → List Path
+beneath path tree = filter (λ other. begin_with path.names other.names) (paths tree)
 
 -- the same of the atomic components and the executives alone
 abbrev pub leaves_net : Net-F Places Places Places → Places

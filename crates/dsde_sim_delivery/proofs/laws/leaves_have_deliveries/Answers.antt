@@ -1,5 +1,5 @@
 use Rattle.dsde_values.specs.Path.{root}
-use Rattle.dsde_sim_delivery.proofs.Asking.{have-deliveries}
+use Rattle.dsde_sim_delivery.specs.lemmas.Asking.{have-deliveries}
 use Rattle.dsde_sim_delivery.proofs.laws.leaves_have_deliveries.Goals as goal
 
 pub returns : goal.returns

@@ -25,7 +25,7 @@ use Rattle.dsde_sim_tree.specs.Output.{◌>>=◌, sent, Answer, KidAnswer, asked
 use Rattle.dsde_sim_tree.specs.Trees.{each_tree}
 use Rattle.dsde_sim_delivery.specs.Places.{leaves_from, leaves_of_kid}
 use Rattle.dsde_sim_delivery.specs.Deliveries.{Delivery, KidReceives, shared, deliveries, deliveries_of_kid}
-use Rattle.dsde_sim_delivery.proofs.Opens.{name_of, leaves-Leaf, leaves-Net, leaves-kid, deliveries-Leaf, deliveries-Net, deliveries-kid}
+use Rattle.dsde_sim_delivery.specs.lemmas.Opens.{name_of, leaves-Leaf, leaves-Net, leaves-kid, deliveries-Leaf, deliveries-Net, deliveries-kid}
 
 -- where two steps came to a value the first did
 first-ok : {A B : Type 0} (result : Result A TurnEnd) (next : A → Result B TurnEnd) (value : B) → (result >>= next) ≡ Ok value → (first : A) × (result ≡ Ok first) × (next first ≡ Ok value)

@@ -1,6 +1,6 @@
 -- Facts of lists of events, and of steps that tell them.
-use Rattle.std.proofs.Common.{◌≡◌, ℕ, zero, suc, ◌<◌, length, get_or, arith, List, [], ◌∷◌, ◌++◌, Result, Ok, Err, sym, subst, inl, inr, ◌⊎◌}
-use Rattle.std.specs.List.{flat_map, AllByRecursion, Contains}
+use Rattle.std.proofs.Common.{◌≡◌, ℕ, zero, suc, ◌<◌, Bool, true, false, cond, length, get_or, arith, List, [], ◌∷◌, ◌++◌, Result, Ok, Err, sym, subst, inl, inr, ◌⊎◌}
+use Rattle.std.specs.List.{flat_map, filter, AllByRecursion, Contains}
 use Rattle.dsde_sim_events.specs.declared.event.Event.{Event}
 use Rattle.dsde_sim_events.specs.declared.fault.TurnEnd.{TurnEnd}
 use Rattle.dsde_sim_events.specs.Told.{Told, ◌then◌}
@@ -76,3 +76,11 @@ contains-from (y ∷ xs) x (inr among) = let there = contains-from xs x among in
 pub among-flat : {X Y : Type 0} (f : X → List Y) (y : Y) (xs : List X) (G : Type 0) → Among y (flat_map f xs) → AllByRecursion (λ x. Among y (f x) → G) xs → G
 among-flat f y [] G among each = absurd among
 among-flat f y (x ∷ xs) G among each = elim (among-cases y (f x) (flat_map f xs) among) [ inl here ↦ each.0 here | inr behind ↦ among-flat f y xs G behind each.1 ]
+
+each-filter-by : {X : Type 0} (P : X → Type 0) (x : X) (rest : List X) (here : Bool) → P x → AllByRecursion P rest → AllByRecursion P (cond here (x ∷ rest) rest)
+each-filter-by P x rest true own others = (own, others)
+each-filter-by P x rest false own others = others
+
+pub each-filter : {X : Type 0} (P : X → Type 0) (test : X → Bool) (xs : List X) → AllByRecursion P xs → AllByRecursion P (filter test xs)
+each-filter P test [] all = tt
+each-filter P test (x ∷ xs) all = each-filter-by P x (filter test xs) (test x) all.0 (each-filter P test xs all.1)

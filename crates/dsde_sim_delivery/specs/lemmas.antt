@@ -1,0 +1,4 @@
+-- Lemmas that the crates above cite.
+pub mod Events
+pub mod Opens
+pub mod Asking

@@ -1,0 +1,12 @@
+pub mod Moving
+pub mod Turns
+pub mod Walking
+pub mod Finding
+pub mod Seating
+pub mod Taking
+pub mod Telling
+pub mod Asked
+pub mod Measuring
+pub mod Staying
+pub mod Rooms
+pub mod Counting

@@ -1,0 +1,7 @@
+pub mod Parts
+pub mod Movers
+pub mod Names
+pub mod Turns
+pub mod Found
+pub mod Asking
+pub mod lemmas
