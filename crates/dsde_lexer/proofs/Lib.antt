@@ -6,3 +6,4 @@ pub mod OrderLemmas
 pub mod PlacesLemmas
 pub mod PrintedLemmas
 pub mod Sizes
+pub mod CutLemmas
