@@ -9,7 +9,6 @@ use Rattle.dsde_sim_events.specs.declared.fault.TurnEnd.{TurnEnd}
 use Rattle.dsde_sim_tree.specs.declared.sim.Sim.{Sim}
 use Rattle.dsde_sim_tree.specs.Output.{by_port}
 use Rattle.dsde_sim_tree.specs.Move.{ins_of}
-use Rattle.dsde_sim_turns.specs.declared.step.Step.{Step}
 use Rattle.dsde_sim_turns.specs.Engine.{Engine, next_of}
 use Rattle.dsde_sim_turns.specs.Turn.{items_at, turn_time}
 use Rattle.dsde_sim_delivery.specs.Places.{ReachNoneAdded, ReachOnly, paths}
@@ -30,7 +29,7 @@ pub record IsDelivered {A : Type 0} (system : System) (tree : Sim) (time : ℕ) 
   pub received : (path : Path) (port : ℕ) → UpTo end (flat_map (brought path port) events) (received system tree path port time got)
 
 -- So are the events of the turn that an engine takes next with this head of the input, if it takes one.
-abbrev pub IsTurnDelivered : System → Engine → Option Arrival → List Event → Result Step TurnEnd → Type 0
+abbrev pub IsTurnDelivered : {A : Type 0} → System → Engine → Option Arrival → List Event → Result A TurnEnd → Type 0
 IsTurnDelivered system engine head events end =
     IfSome engine.tree (λ tree. IfSome (turn_time (next_of engine) head) (λ time.
     IsDelivered system tree time (by_port (ins_of system tree) (items_at head time)) events end))

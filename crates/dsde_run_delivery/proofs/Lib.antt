@@ -1,0 +1,4 @@
+pub mod Naming
+pub mod Keeping
+pub mod Telling
+pub mod Delivering
