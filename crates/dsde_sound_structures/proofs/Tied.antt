@@ -3,12 +3,12 @@ use Rattle.std.proofs.Common.{◌≡◌, ℕ, suc, ◌<◌, arith, Bool, true, f
 use Rattle.std.specs.Cmp.Lexicographic.{slice_cmp}
 use Rattle.std.specs.List.{AllByRecursion, Contains}
 use Rattle.std.specs.Option.{option_cmp}
-use Rattle.std.specs.Ordering.{is_eq, nat_cmp, ordering_then}
+use Rattle.std.specs.Ordering.{bool_cmp, is_eq, nat_cmp, ordering_then}
 use Rattle.std.proofs.lemmas.Map.Lookups.{exact_bytes, exact_unsigned}
 use Rattle.dsde_syntax.specs.declared.decl.Model.{Model}
 use Rattle.dsde_values.specs.declared.name.Name.{Name}
 use Rattle.dsde_values.specs.declared.types.Field.{Field}
-use Rattle.dsde_values.specs.Path.{name_cmp}
+use Rattle.dsde_values.specs.Path.{is_executive, name_cmp}
 use Rattle.dsde_check_rules.specs.declared.signatures.Family.{Family}
 use Rattle.dsde_check_rules.specs.Structures.{family_named}
 use Rattle.dsde_program_nodes.specs.Items.{model_ports}
@@ -52,8 +52,11 @@ index-exact (Some a) (Some b) h = ap (λ (n : ℕ). Some n) (exact_unsigned a b 
 pub name-exact : (one other : Name) → is_same_name one other ≡ true → one ≡ other
 name-exact one other h =
     let same : name_cmp one other ≡ Equal = equal-is (name_cmp one other) h in
-    let stem : one.stem ≡ other.stem = exact_bytes one.stem other.stem (then-first (slice_cmp nat_cmp one.stem other.stem) (option_cmp nat_cmp one.index other.index) same) in
-    let index : one.index ≡ other.index = index-exact one.index other.index (then-last (slice_cmp nat_cmp one.stem other.stem) (option_cmp nat_cmp one.index other.index) same) in
+    let executives = bool_cmp (is_executive one) (is_executive other) in
+    let stems = slice_cmp nat_cmp one.stem other.stem in
+    let indices = option_cmp nat_cmp one.index other.index in
+    let stem : one.stem ≡ other.stem = exact_bytes one.stem other.stem (then-last executives stems (then-first (ordering_then executives stems) indices same)) in
+    let index : one.index ≡ other.index = index-exact one.index other.index (then-last (ordering_then executives stems) indices same) in
     ap (λ (s : List ℕ). let own : Name = record { stem = s; index = one.index } in own) stem
     ∙ ap (λ (i : Option ℕ). let own : Name = record { stem = other.stem; index = i } in own) index
 
