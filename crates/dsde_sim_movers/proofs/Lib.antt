@@ -10,3 +10,4 @@ pub mod Measuring
 pub mod Staying
 pub mod Rooms
 pub mod Counting
+pub mod Changing

@@ -4,4 +4,5 @@ pub mod Names
 pub mod Turns
 pub mod Found
 pub mod Asking
+pub mod Changes
 pub mod lemmas

@@ -1,6 +1,6 @@
 //! What the definitions of a move and of a turn are, mover by mover. Each law is a call that does nothing.
 
-ghost use Rattle.std.specs.Prelude.{◌≡◌, ◌≤◌, ◌+◌, ◌*◌, ◌↔◌, ℕ, length, true, false, List, Ok, Some, [], filter};
+ghost use Rattle.std.specs.Prelude.{◌≡◌, ◌≤◌, ◌+◌, ◌*◌, ◌↔◌, ℕ, length, true, false, List, Ok, Some, [], filter, map};
 ghost use Rattle.std.specs.List.{AllByRecursion, Contains};
 ghost use Rattle.dsde_values.specs.declared.arrival.Item.{Item};
 ghost use Rattle.dsde_values.specs.declared.name.Name.{Name};
@@ -8,11 +8,14 @@ ghost use Rattle.dsde_values.specs.declared.path.Path.{Path};
 ghost use Rattle.dsde_formalism.specs.declared.leaf.Leaf.{Leaf};
 ghost use Rattle.dsde_sim_delivery.specs.Places.{leaves_from, paths_from};
 ghost use Rattle.dsde_sim_movers.specs.Asking.{IsNext, ending, ask_each, due_ones, seated};
+ghost use Rattle.dsde_sim_movers.specs.Changes.{changed_as};
 ghost use Rattle.dsde_sim_movers.specs.Found.{IsFound, Moves};
 ghost use Rattle.dsde_values.specs.Path.{root};
 ghost use Rattle.dsde_values.specs.declared.value.Value.{Value};
 ghost use Rattle.dsde_program_nodes.specs.declared.ids.ModelId.{ModelId};
+ghost use Rattle.dsde_structure.specs.declared.plan.Entry.{Entry};
 ghost use Rattle.dsde_structure.specs.declared.plan.Link.{Link};
+ghost use Rattle.dsde_structure.specs.Survival.{IsInOrder, compared};
 ghost use Rattle.dsde_sim_events.specs.Told.{told, ◌then◌};
 ghost use Rattle.dsde_sim_tree.specs.declared.sim.Kid.{Kid};
 ghost use Rattle.dsde_sim_tree.specs.Start.{net_of, start};
@@ -20,8 +23,8 @@ ghost use Rattle.dsde_sim_movers.specs.Parts.{are_apart, part_at, with_part};
 ghost use Rattle.dsde_formalism.specs.System.{Ports, System};
 ghost use Rattle.dsde_sim_tree.specs.declared.sim.Sim.{Sim};
 ghost use Rattle.dsde_sim_tree.specs.Output.{by_port, output};
-ghost use Rattle.dsde_sim_tree.specs.Tree.{next_time, parts};
-ghost use Rattle.dsde_sim_tree.specs.Move.{boss_moves, ins_of, move, move_leaf_at};
+ghost use Rattle.dsde_sim_tree.specs.Tree.{entry_of, next_time, parts};
+ghost use Rattle.dsde_sim_tree.specs.Move.{boss_moves, change, ins_of, move, move_leaf_at};
 ghost use Rattle.dsde_sim_turns.specs.declared.step.TheConstants.{MOST_PARTS};
 ghost use Rattle.dsde_sim_turns.specs.Turn.{turn};
 ghost use Rattle.dsde_sim_delivery.specs.Deliveries.{Delivery, deliveries};
@@ -150,3 +153,13 @@ pub fn room_is_kept()
     ensures start { (system : System) (left : ℕ) (model : ModelId) (args : List Value) (path : Path) (time room rest : ℕ) (tree : Sim) →
         (start system left model args path time room).end ≡ Ok (tree, rest) → parts tree + rest ≤ room }
 {}
+
+/// A change of a network's structure drops, keeps and starts those components of which the comparison of
+/// both structures says so.
+pub fn changes_are_compared()
+    ensures { (system : System) (entries : List Entry) (kids : List Kid) (path : Path) (time room : ℕ) → IsInOrder entries → IsInOrder (map entry_of kids) →
+        change system entries kids path time room ≡ changed_as (compared (map entry_of kids) entries) system entries kids path time room }
+{
+    orders_are_total();
+    one_name();
+}

@@ -5,7 +5,8 @@
 mod laws;
 
 pub use laws::{
-    deliveries_are_found, executives_are_few, leaves_have_paths, movers_are_those,
-    movers_stand_in_path_order, movers_take_their_steps, outputs_are_asked, parts_move_one_by_one,
-    places_are_apart, room_is_kept, trees_are_measured, trees_are_named, turns_move_one_by_one,
+    changes_are_compared, deliveries_are_found, executives_are_few, leaves_have_paths,
+    movers_are_those, movers_stand_in_path_order, movers_take_their_steps, outputs_are_asked,
+    parts_move_one_by_one, places_are_apart, room_is_kept, trees_are_measured, trees_are_named,
+    turns_move_one_by_one,
 };
