@@ -1,0 +1,15 @@
+mod Relied
+mod Safe
+mod Fitting
+mod Fits
+mod Stood
+mod Opens
+mod Leaves
+mod Starting
+mod Changing
+mod Sending
+mod Moving
+mod Times
+mod Turning
+mod Running
+mod Arriving

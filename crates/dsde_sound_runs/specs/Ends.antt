@@ -1,0 +1,50 @@
+-- What comes to a model that runs, and that its runs end.
+use Rattle.std.specs.Prelude.{◌≡◌, ℕ, false, List, Some, slice_get}
+use Rattle.dsde_syntax.specs.declared.decl.Model.{Model}
+use Rattle.dsde_values.specs.declared.arrival.Arrival.{Arrival}
+use Rattle.dsde_values.specs.declared.arrival.Item.{Item}
+use Rattle.dsde_values.specs.When.{IsMoment}
+use Rattle.dsde_program_nodes.specs.declared.info.Info.{Info}
+use Rattle.dsde_program_nodes.specs.Models.{infos_of, resolved, types_of}
+use Rattle.dsde_check_rules.specs.Right.{IsRight}
+use Rattle.dsde_input.specs.Reader.{IsOffence}
+use Rattle.dsde_input_records.specs.Records.{Records, end, bad, one}
+use Rattle.dsde_sim_events.specs.declared.event.Finish.{Finish}
+use Rattle.dsde_eval_meaning.specs.Typed.{AllSent}
+use Rattle.dsde_run_meaning.specs.Run.{Run, Spots, run, records_in}
+use Rattle.dsde_sound_places.specs.Bodies.{Own, owns_of}
+use Rattle.dsde_system.specs.Plans.{ways}
+use Rattle.dsde_system.specs.Program.{system}
+
+-- Items come by in ports of the model with this number, each a value of its port's type.
+pub record ComeBy (model : Model) (number : ℕ) (items : List Item) : Type 0 where
+  pub own : Own
+  pub found : slice_get (owns_of model.decls) number ≡ Some own
+  pub come : AllSent (types_of model) (ways model own false) items
+
+-- A record comes to the model that runs, at a moment of a run.
+pub record Arrives (model : Model) (head : Arrival) : Type 0 where
+  pub early : IsMoment head.time
+  pub items : ComeBy model (resolved model).own.top_model.0 head.items
+
+-- All records come to the model that runs, up to the end or to a line that is none; no read failed.
+abbrev pub AllArrive : Model → Records → Type 0
+AllArrive model end = Unit {0}
+AllArrive model (bad offence) = IsOffence offence
+AllArrive model (one head later) = Arrives model head × AllArrive model later
+
+-- A run has an end.
+pub record HasEnd (own : Run) : Type 0 where
+  pub how : Finish
+  pub is : own.end ≡ Some how
+
+abbrev pub RunsEnd : Type 0
+RunsEnd =
+    (model : Model) (spots : Spots) (records : Records) (turns : ℕ)
+    → IsRight model → AllArrive model records → HasEnd (run (system model) spots records turns)
+
+abbrev pub InputsArrive : Type 0
+InputsArrive =
+    (model : Model) (info : Info) (bytes : List ℕ)
+    → IsRight model → slice_get (infos_of model) (resolved model).own.top_model.0 ≡ Some info
+    → AllArrive model (records_in info.ins (types_of model) bytes)

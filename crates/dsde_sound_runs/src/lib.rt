@@ -1,0 +1,6 @@
+//! Runs of a model in which nothing is wrong come to an end. Laws over definitions. No code.
+#![tactic(auto)]
+
+mod laws;
+
+pub use laws::{inputs_arrive, runs_end};
