@@ -1,7 +1,8 @@
 -- The records that bytes spell come to the model that runs.
-use Rattle.std.proofs.Common.{◌≡◌, ◌↔◌, ℕ, suc, Bool, true, false, List, [], ◌∷◌, Option, Some, None, Result, Ok, Err, max, nat_lt, unwrap_or, length, slice_get, refl, ap, subst, ◌∙◌, arith}
+use Rattle.std.proofs.Common.{◌≡◌, ◌↔◌, ℕ, suc, Bool, true, false, List, [], ◌∷◌, Option, Some, None, Result, Ok, Err, max, nat_lt, unwrap_or, length, refl, sym, ap, subst, arith}
 use Rattle.std.specs.Prelude.{if◌then◌else◌}
 use Rattle.std.specs.List.{All}
+use Rattle.std.specs.Option.{option_map_or}
 use Rattle.dsde_syntax.specs.declared.decl.Model.{Model}
 use Rattle.dsde_values.specs.declared.arrival.Arrival.{Arrival}
 use Rattle.dsde_values.specs.declared.arrival.Item.{Item}
@@ -10,7 +11,7 @@ use Rattle.dsde_values.specs.declared.types.Types.{Types}
 use Rattle.dsde_values.specs.Value.{IsLawful}
 use Rattle.dsde_values.proofs.Typed.{HasType-is}
 use Rattle.dsde_program_nodes.specs.declared.info.Info.{Info}
-use Rattle.dsde_program_nodes.specs.Models.{infos_of, resolved, types_of}
+use Rattle.dsde_program_nodes.specs.Models.{resolved, types_of}
 use Rattle.dsde_check_rules.specs.Right.{IsRight}
 use Rattle.dsde_input.specs.Reader.{IsOffence}
 use Rattle.dsde_input_records.specs.declared.end.InputEnd.{InputEnd}
@@ -19,10 +20,10 @@ use Rattle.dsde_input_records.specs.Lines.{lines, without_last}
 use Rattle.dsde_input_records.specs.Record.{ArePorts, IsItem, Spells, record_of}
 use Rattle.dsde_input_records.specs.Records.{Records, before, judged, line_record, next_number, records_of}
 use Rattle.dsde_eval_meaning.specs.Typed.{AllSent}
+use Rattle.dsde_run_meaning.specs.Run.{records_in}
 use Rattle.dsde_sound_inputs.specs.Lawful.{PortsAreLawful, TopIsDeclared, TypesAreLawful}
 use Rattle.dsde_sound_places.specs.Laws.{BodiesStand, HasOwn}
-use Rattle.dsde_system.specs.Plans.{ways}
-use Rattle.dsde_sound_runs.specs.Ends.{AllArrive, Arrives}
+use Rattle.dsde_sound_runs.specs.Ends.{AllArrive, Arrives, top_ins}
 
 all-sent : (ports : List Field) (types : Types) (items : List Item) → All (IsItem ports types) items → AllSent types ports items
 all-sent ports types [] all = tt
@@ -72,31 +73,32 @@ RecordsAreSpelled =
     (ports : List Field) (types : Types) → ArePorts ports → IsLawful types → (number : ℕ) (line : List ℕ) (arrival : Arrival)
     → (record_of ports types number line ≡ Some arrival) ↔ Spells ports types number line arrival
 
-module _ (records : RecordsAreSpelled) (lawful : TypesAreLawful) (ports_are : PortsAreLawful) (declared : TopIsDeclared) (bodies : BodiesStand)
-    (model : Model) (info : Info) (right : IsRight model) (at : slice_get (infos_of model) (resolved model).own.top_model.0 ≡ Some info) where
+module _ (records : RecordsAreSpelled) (lawful : TypesAreLawful) (ports_are : PortsAreLawful) (declared : TopIsDeclared) (bodies : BodiesStand) (model : Model) (right : IsRight model) where
   abbrev number : ℕ
   number = (resolved model).own.top_model.0
 
   has : HasOwn model number
   has = bodies model number right (declared model right)
 
-  some-is : (o : Option Info) (a b : Info) → o ≡ Some a → o ≡ Some b → a ≡ b
-  some-is o a b e h = cc
+  abbrev ins : List Field
+  ins = has.is.info.ins
 
-  ports-are : info.ins ≡ ways model has.own false
-  ports-are = ap (λ (own : Info). own.ins) (some-is (slice_get (infos_of model) number) info has.is.info at has.is.told) ∙ has.is.is.ins
+  top-ins-are : top_ins model ≡ ins
+  top-ins-are = ap (λ (found : Option Info). option_map_or (λ (info : Info). info.ins) found []) has.is.told
 
-  spelled-arrives : (line_number : ℕ) (line : List ℕ) (arrival : Arrival) → record_of info.ins (types_of model) line_number line ≡ Some arrival → Arrives model arrival
+  spelled-arrives : (line_number : ℕ) (line : List ℕ) (arrival : Arrival) → record_of ins (types_of model) line_number line ≡ Some arrival → Arrives model arrival
   spelled-arrives line_number line arrival is =
-      let spells : Spells info.ins (types_of model) line_number line arrival = (records info.ins (types_of model) (ports_are model right number info at) (lawful model right) line_number line arrival).0 is in
+      let spells : Spells ins (types_of model) line_number line arrival = (records ins (types_of model) (ports_are model right number has.is.info has.is.told) (lawful model right) line_number line arrival).0 is in
       record {
         early = spells.early;
         items = record {
           own = has.own;
           found = has.is.found;
-          come = subst (λ (ins : List Field). AllSent (types_of model) ins arrival.items) ports-are (all-sent info.ins (types_of model) arrival.items spells.items.each);
+          come = subst (λ (own_ins : List Field). AllSent (types_of model) own_ins arrival.items) has.is.is.ins (all-sent ins (types_of model) arrival.items spells.items.each);
         };
       }
 
-  pub inputs-arrive : (bytes : List ℕ) → AllArrive model (records_of info.ins (types_of model) 0 (lines bytes) 0 None)
-  inputs-arrive bytes = lines-arrive model info.ins (types_of model) spelled-arrives 0 (lines bytes) 0 None
+  pub inputs-arrive : (bytes : List ℕ) → AllArrive model (records_in (top_ins model) (types_of model) bytes)
+  inputs-arrive bytes =
+      subst (λ (ports : List Field). AllArrive model (records_in ports (types_of model) bytes)) (sym top-ins-are)
+      (lines-arrive model ins (types_of model) spelled-arrives 0 (lines bytes) 0 None)

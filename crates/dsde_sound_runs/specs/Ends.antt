@@ -1,8 +1,10 @@
 -- What comes to a model that runs, and that its runs end.
-use Rattle.std.specs.Prelude.{◌≡◌, ℕ, false, List, Some, slice_get}
+use Rattle.std.specs.Prelude.{◌≡◌, ℕ, false, List, [], Some, slice_get}
+use Rattle.std.specs.Option.{option_map_or}
 use Rattle.dsde_syntax.specs.declared.decl.Model.{Model}
 use Rattle.dsde_values.specs.declared.arrival.Arrival.{Arrival}
 use Rattle.dsde_values.specs.declared.arrival.Item.{Item}
+use Rattle.dsde_values.specs.declared.types.Field.{Field}
 use Rattle.dsde_values.specs.When.{IsMoment}
 use Rattle.dsde_program_nodes.specs.declared.info.Info.{Info}
 use Rattle.dsde_program_nodes.specs.Models.{infos_of, resolved, types_of}
@@ -43,8 +45,9 @@ RunsEnd =
     (model : Model) (spots : Spots) (records : Records) (turns : ℕ)
     → IsRight model → AllArrive model records → HasEnd (run (system model) spots records turns)
 
+-- the in ports of the model that runs
+abbrev pub top_ins : Model → List Field
+top_ins model = option_map_or (λ (info : Info). info.ins) (slice_get (infos_of model) (resolved model).own.top_model.0) []
+
 abbrev pub InputsArrive : Type 0
-InputsArrive =
-    (model : Model) (info : Info) (bytes : List ℕ)
-    → IsRight model → slice_get (infos_of model) (resolved model).own.top_model.0 ≡ Some info
-    → AllArrive model (records_in info.ins (types_of model) bytes)
+InputsArrive = (model : Model) (bytes : List ℕ) → IsRight model → AllArrive model (records_in (top_ins model) (types_of model) bytes)
