@@ -1,4 +1,4 @@
--- How many brackets are open behind one token more.
+-- What is open behind one token more.
 use Rattle.std.proofs.Common.{◌≡◌, ℕ, ◌+◌, ◌<◌, ◌≤◌, zero, suc, List, [], ◌∷◌, ◌++◌, length, map, take, get_or, sym, ap, subst, ◌∙◌, arith, below_more}
 use Rattle.std.proofs.lemmas.List.{length-map, take-map, map_more}
 use Rattle.std.specs.List.{fold}
@@ -12,7 +12,7 @@ use Rattle.dsde_syntax.specs.Grammar.{Tokens}
 use Rattle.dsde_parser.specs.declared.depth.Open.{Open}
 use Rattle.dsde_parser.specs.declared.depth.Last.{Last}
 use Rattle.dsde_parser.specs.declared.depth.Last.TheVariants as last
-use Rattle.dsde_parser.specs.Depth.{behind_less, behind_greater, brackets, opened, none_open, open_after, IsWithin, IsFirstDeep}
+use Rattle.dsde_parser.specs.Depth.{behind_less, behind_greater, brackets_after, opened, none_open, open_after, IsWithin, IsFirstDeep}
 
 abbrev pub toks_of : List Token → Tokens
 toks_of = map (λ (token : Token). token.tok)
@@ -29,16 +29,16 @@ open-more tokens i token inside is =
     ap (fold opened none_open) pushed ∙ fold_push opened none_open (take i (toks_of tokens)) token.tok
 
 -- one token opens at most one bracket of a type
-angles-less : (count angles : ℕ) (before : Last) → (behind_less count angles before).1 ≤ angles + 1
-angles-less count angles last.TypeWord = omega arith
-angles-less count angles _ = omega arith
+angles-less : (before : Open) (last : Last) → (behind_less before last).1 ≤ before.angles + 1
+angles-less before last.TypeWord = omega arith
+angles-less before _ = omega arith
 
-angles-greater : (count angles : ℕ) → (behind_greater count angles).1 ≤ angles + 1
-angles-greater count zero = omega arith
-angles-greater count (suc angles) = omega arith
+angles-greater : (brackets : List ℕ) (angles : ℕ) → (behind_greater brackets angles).1 ≤ angles + 1
+angles-greater brackets zero = omega arith
+angles-greater brackets (suc angles) = omega arith
 
-angles-sign : (before : Open) (which : Sign) → (brackets before which).1 ≤ before.angles + 1
-angles-sign before sign.Less = angles-less before.brackets before.angles before.last
+angles-sign : (before : Open) (which : Sign) → (brackets_after before which).1 ≤ before.angles + 1
+angles-sign before sign.Less = angles-less before before.last
 angles-sign before sign.Greater = angles-greater before.brackets before.angles
 angles-sign before _ = omega arith
 

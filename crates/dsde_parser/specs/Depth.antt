@@ -1,5 +1,5 @@
 -- How many brackets and conditions are open behind some tokens.
-use Rattle.std.specs.Prelude.{ℕ, ◌+◌, ◌-◌, ◌<◌, ◌≤◌, zero, suc, Bool, true, false, not, if◌then◌else◌, length, take}
+use Rattle.std.specs.Prelude.{ℕ, ◌+◌, ◌-◌, ◌<◌, ◌≤◌, zero, suc, List, [], ◌∷◌, ◌++◌, length, take, slice_get, unwrap_or}
 use Rattle.std.specs.List.{fold}
 use Rattle.dsde_syntax.specs.declared.token.Tok.{Tok}
 use Rattle.dsde_syntax.specs.declared.token.Tok.TheVariants as tok
@@ -33,50 +33,64 @@ behind_name last.New = last.RecordName
 behind_name last.Start = last.FieldName
 behind_name _ = last.Other
 
-abbrev pub is_record_or_else : Last → Bool
-is_record_or_else last.RecordName = true
-is_record_or_else last.Else = true
-is_record_or_else _ = false
+-- Behind a "{": it ends the condition that was opened last, unless it is that of a record or of the
+-- last arm of an `if`.
+abbrev pub behind_brace : ℕ → Last → ℕ
+behind_brace conditions last.RecordName = conditions
+behind_brace conditions last.Else = conditions
+behind_brace conditions _ = conditions - 1
 
-abbrev pub is_field : Last → Bool
-is_field last.FieldName = true
-is_field _ = false
+-- how many conditions were open behind the innermost bracket that is open
+abbrev pub innermost : List ℕ → ℕ
+innermost brackets = unwrap_or (slice_get brackets (length brackets - 1)) 0
 
--- A condition ends at the "{" of its arm, in a comprehension at the ":". No other "{" stands behind
--- a condition but that of a record and of the last arm of an `if`, and no other ":" but that of a
--- record's field.
-abbrev pub is_condition_end : Sign → Last → Bool
-is_condition_end sign.OpenBrace before = not (is_record_or_else before)
-is_condition_end sign.Colon before = not (is_field before)
-is_condition_end _ before = false
+-- Behind a ":": unless it is that of a record's field, it ends what was opened in its brackets, in a
+-- comprehension its condition, if there is one.
+abbrev pub behind_colon : ℕ → List ℕ → Last → ℕ
+behind_colon conditions brackets last.FieldName = conditions
+behind_colon conditions brackets _ = innermost brackets
+
+-- how many conditions are open behind a sign
+abbrev pub conditions_after : Open → Sign → ℕ
+conditions_after before sign.OpenBrace = behind_brace before.conditions before.last
+conditions_after before sign.Colon = behind_colon before.conditions before.brackets before.last
+conditions_after before _ = before.conditions
+
+-- a bracket more, behind which so many conditions are open
+abbrev pub with_bracket : List ℕ → ℕ → List ℕ
+with_bracket brackets conditions = brackets ++ conditions ∷ []
+
+-- a bracket less
+abbrev pub without_bracket : List ℕ → List ℕ
+without_bracket brackets = take (length brackets - 1) brackets
 
 -- behind a "<": a bracket more, if it is one of a type
-abbrev pub behind_less : ℕ → ℕ → Last → ℕ × ℕ
-behind_less brackets angles last.TypeWord = (brackets + 1, angles + 1)
-behind_less brackets angles _ = (brackets, angles)
+abbrev pub behind_less : Open → Last → List ℕ × ℕ
+behind_less before last.TypeWord = (with_bracket before.brackets before.conditions, before.angles + 1)
+behind_less before _ = (before.brackets, before.angles)
 
 -- behind a ">": a bracket less, if one of a type is open
-abbrev pub behind_greater : ℕ → ℕ → ℕ × ℕ
+abbrev pub behind_greater : List ℕ → ℕ → List ℕ × ℕ
 behind_greater brackets zero = (brackets, 0)
-behind_greater brackets (suc angles) = (brackets - 1, angles)
+behind_greater brackets (suc angles) = (without_bracket brackets, angles)
 
--- how many brackets are open behind a sign, and how many of them are of types
-abbrev pub brackets : Open → Sign → ℕ × ℕ
-brackets before sign.OpenParen = (before.brackets + 1, before.angles)
-brackets before sign.OpenBracket = (before.brackets + 1, before.angles)
-brackets before sign.OpenBrace = (before.brackets + 1, before.angles)
-brackets before sign.CloseParen = (before.brackets - 1, before.angles)
-brackets before sign.CloseBracket = (before.brackets - 1, before.angles)
-brackets before sign.CloseBrace = (before.brackets - 1, before.angles)
-brackets before sign.Less = behind_less before.brackets before.angles before.last
-brackets before sign.Greater = behind_greater before.brackets before.angles
-brackets before _ = (before.brackets, before.angles)
+-- the brackets that are open behind a sign, and how many of them are of types
+abbrev pub brackets_after : Open → Sign → List ℕ × ℕ
+brackets_after before sign.OpenParen = (with_bracket before.brackets before.conditions, before.angles)
+brackets_after before sign.OpenBracket = (with_bracket before.brackets before.conditions, before.angles)
+brackets_after before sign.OpenBrace = (with_bracket before.brackets (behind_brace before.conditions before.last), before.angles)
+brackets_after before sign.CloseParen = (without_bracket before.brackets, before.angles)
+brackets_after before sign.CloseBracket = (without_bracket before.brackets, before.angles)
+brackets_after before sign.CloseBrace = (without_bracket before.brackets, before.angles)
+brackets_after before sign.Less = behind_less before before.last
+brackets_after before sign.Greater = behind_greater before.brackets before.angles
+brackets_after before _ = (before.brackets, before.angles)
 
 abbrev pub behind_sign : Open → Sign → Open
 behind_sign before which = record {
-  brackets = (brackets before which).0;
-  angles = (brackets before which).1;
-  conditions = if is_condition_end which before.last then before.conditions - 1 else before.conditions;
+  brackets = (brackets_after before which).0;
+  angles = (brackets_after before which).1;
+  conditions = conditions_after before which;
   last = last_of_sign which;
 }
 
@@ -101,7 +115,7 @@ opened before (tok.Ident name) = record { brackets = before.brackets; angles = b
 opened before (tok.Int value) = record { brackets = before.brackets; angles = before.angles; conditions = before.conditions; last = last.Other }
 
 abbrev pub none_open : Open
-none_open = record { brackets = 0; angles = 0; conditions = 0; last = last.Other }
+none_open = record { brackets = []; angles = 0; conditions = 0; last = last.Other }
 
 -- what is open behind some tokens
 unfoldable pub open_after : Tokens → Open
@@ -109,7 +123,7 @@ open_after tokens = fold opened none_open tokens
 
 -- at most 256 brackets and 512 conditions are open
 abbrev pub IsWithin : Open → Type 0
-IsWithin now = (now.brackets ≤ 256) × (now.conditions ≤ 512)
+IsWithin now = (length now.brackets ≤ 256) × (now.conditions ≤ 512)
 
 -- At no place more is open than may be.
 abbrev pub IsShallow : Tokens → Type 0

@@ -1,10 +1,11 @@
 //! How many brackets and conditions are open behind some tokens.
 
-ghost use Rattle.std.specs.Prelude.{◌≡◌, ◌<◌, ◌↔◌, IsTrue, map, MatchOption};
+ghost use Rattle.std.specs.Prelude.{◌≡◌, ◌<◌, ◌↔◌, ◌++◌, ◌∷◌, [], IsTrue, IfOk, OnOk, map, MatchOption};
 ghost use Rattle.dsde_syntax.specs.declared.token.Token.{Token};
-ghost use Rattle.dsde_parser.specs.Depth.{opened, behind_sign, behind_key, behind_name, brackets, last_of_key, last_of_sign, is_condition_end, is_record_or_else, none_open, IsWithin, IsShallow, IsFirstDeep};
+ghost use Rattle.dsde_parser.specs.Depth.{opened, behind_sign, behind_key, behind_name, behind_brace, behind_colon, conditions_after, conditions_behind, with_bracket, without_bracket, innermost, brackets_after, last_of_key, last_of_sign, none_open, IsWithin, IsShallow, IsFirstDeep};
 
-use dsde_syntax::{Key, Sign, Tok, Token};
+use dsde_syntax::{Items, Key, Memory, Sign, Tok, Token};
+use std::alloc::Global;
 
 /// The most brackets that may be open.
 const MOST_BRACKETS: usize = 256;
@@ -40,23 +41,16 @@ impl Last {
             _ => Last::Other,
         }
     }
-
-    /// Whether a `{` behind these tokens is that of a record or of the last arm of an `if`.
-    fn is_record_or_else(self) -> bool
-        ensures { result ≡ is_record_or_else self }
-    {
-        matches!(self, Last::RecordName | Last::Else)
-    }
 }
 
 /// What is open behind some tokens. The brackets are `( [ {`, and the `<` of a type, which stands
 /// behind `list`, `opt`, `none` or `empty`. A condition is open from its `if` to the `{` of its
 /// arm, in a comprehension to the `:`.
-#[derive(Clone, Copy)]
+#[derive(Drop)]
 pub struct Open {
-    /// How many brackets.
-    pub brackets: usize,
-    /// How many of them are `<` of types.
+    /// For each bracket that is open, the innermost last, how many conditions were open behind it.
+    pub brackets: Items<usize>,
+    /// How many of the brackets are `<` of types.
     pub angles: usize,
     pub conditions: usize,
     pub last: Last,
@@ -64,11 +58,11 @@ pub struct Open {
 
 impl Open {
     /// Nothing is open.
-    pub fn nothing() -> Open
+    pub fn nothing(alloc: Global) -> Open
         ensures { result ≡ none_open }
     {
         Open {
-            brackets: 0,
+            brackets: Items::new(alloc),
             angles: 0,
             conditions: 0,
             last: Last::Other,
@@ -76,88 +70,90 @@ impl Open {
     }
 
     /// Whether no more is open than may be.
-    pub fn is_within(self) -> bool
-        ensures { IsTrue result ↔ IsWithin self }
+    pub fn is_within(&self) -> bool
+        ensures { IsTrue result ↔ IsWithin self.now }
     {
-        self.brackets <= MOST_BRACKETS && self.conditions <= MOST_CONDITIONS
+        self.brackets.len() <= MOST_BRACKETS && self.conditions <= MOST_CONDITIONS
     }
 
-    /// What is open behind one token more.
-    pub fn behind(self, tok: &Tok) -> Open
-        requires brackets { self.brackets < usize.MAX }
-        requires angles { self.angles < usize.MAX }
-        requires conditions { self.conditions < usize.MAX }
-        ensures { result ≡ opened self tok.now }
+    /// Goes past a token.
+    pub fn pass(&mut self, tok: &Tok) -> Result<(), Memory>
+        requires angles { self.old.angles < usize.MAX }
+        requires conditions { self.old.conditions < usize.MAX }
+        ensures { OnOk result (self.new ≡ opened self.old tok.now) }
     {
         match tok {
-            Tok::Sign(sign) => self.behind_sign(*sign),
-            Tok::Key(key) => self.behind_key(*key),
-            Tok::Ident(_) => Open {
-                last: self.last.behind_name(),
-                ..self
-            },
-            Tok::Int(_) => Open {
-                last: Last::Other,
-                ..self
-            },
+            Tok::Sign(sign) => self.pass_sign(*sign)?,
+            Tok::Key(key) => self.pass_key(*key),
+            Tok::Ident(_) => self.last = self.last.behind_name(),
+            Tok::Int(_) => self.last = Last::Other,
         }
+        Ok(())
     }
 
-    /// What is open behind a reserved word.
-    fn behind_key(self, key: Key) -> Open
-        requires conditions { self.conditions < usize.MAX }
-        ensures { result ≡ behind_key self key }
+    /// Goes past a reserved word.
+    fn pass_key(&mut self, key: Key)
+        requires conditions { self.old.conditions < usize.MAX }
+        ensures { self.new ≡ behind_key self.old key }
     {
-        let conditions = match key {
-            Key::If => self.conditions + 1,
-            _ => self.conditions,
-        };
-        Open {
-            conditions,
-            last: last_of_key(key),
-            ..self
+        if let Key::If = key {
+            self.conditions += 1;
         }
+        self.last = last_of_key(key);
     }
 
-    /// What is open behind a sign.
-    fn behind_sign(self, sign: Sign) -> Open
-        requires brackets { self.brackets < usize.MAX }
-        requires angles { self.angles < usize.MAX }
-        ensures { result ≡ behind_sign self sign }
+    /// Goes past a sign.
+    fn pass_sign(&mut self, sign: Sign) -> Result<(), Memory>
+        requires angles { self.old.angles < usize.MAX }
+        ensures { OnOk result (self.new ≡ behind_sign self.old sign) }
     {
-        let (brackets, angles) = self.brackets_behind(sign);
-        let conditions = if is_condition_end(sign, self.last) {
-            self.conditions.saturating_sub(1)
-        } else {
-            self.conditions
-        };
-        Open {
-            brackets,
-            angles,
-            conditions,
-            last: last_of_sign(sign),
-        }
-    }
-
-    /// How many brackets are open behind a sign, and how many of them are of types.
-    fn brackets_behind(self, sign: Sign) -> (usize, usize)
-        requires brackets { self.brackets < usize.MAX }
-        requires angles { self.angles < usize.MAX }
-        ensures { result ≡ brackets self sign }
-    {
+        self.conditions = self.conditions_after(sign);
         match sign {
             Sign::OpenParen | Sign::OpenBracket | Sign::OpenBrace => {
-                (self.brackets + 1, self.angles)
+                self.brackets.push(self.conditions)?;
             }
-            Sign::CloseParen | Sign::CloseBracket | Sign::CloseBrace => {
-                (self.brackets.saturating_sub(1), self.angles)
-            }
+            Sign::CloseParen | Sign::CloseBracket | Sign::CloseBrace => self.close(),
             Sign::Less if matches!(self.last, Last::TypeWord) => {
-                (self.brackets + 1, self.angles + 1)
+                self.brackets.push(self.conditions)?;
+                self.angles += 1;
             }
-            Sign::Greater if self.angles > 0 => (self.brackets.saturating_sub(1), self.angles - 1),
-            _ => (self.brackets, self.angles),
+            Sign::Greater if self.angles > 0 => {
+                self.close();
+                self.angles -= 1;
+            }
+            _ => {}
         }
+        self.last = last_of_sign(sign);
+        Ok(())
+    }
+
+    /// Closes the innermost bracket that is open.
+    fn close(&mut self)
+        ensures { self.new ≡ record self.old { brackets = without_bracket self.old.brackets } }
+    {
+        self.brackets
+            .truncate(self.brackets.len().saturating_sub(1));
+    }
+
+    /// How many conditions are open behind a sign.
+    fn conditions_after(&self, sign: Sign) -> usize
+        ensures { result ≡ conditions_after self.now sign }
+    {
+        match (sign, self.last) {
+            (Sign::OpenBrace, Last::RecordName | Last::Else) => self.conditions,
+            (Sign::OpenBrace, _) => self.conditions.saturating_sub(1),
+            (Sign::Colon, Last::FieldName) => self.conditions,
+            (Sign::Colon, _) => self.innermost(),
+            _ => self.conditions,
+        }
+    }
+
+    /// How many conditions were open behind the innermost bracket that is open.
+    fn innermost(&self) -> usize
+        ensures { result ≡ innermost self.now.brackets }
+    {
+        let at = self.brackets.len().saturating_sub(1);
+        self.brackets.get(at).copied().unwrap_or(0)
     }
 }
 
@@ -183,28 +179,17 @@ fn last_of_sign(sign: Sign) -> Last
     }
 }
 
-/// Whether a sign ends the condition that was opened last, if one is open.
-fn is_condition_end(sign: Sign, last: Last) -> bool
-    ensures { result ≡ is_condition_end sign last }
-{
-    match sign {
-        Sign::OpenBrace => !last.is_record_or_else(),
-        Sign::Colon => !matches!(last, Last::FieldName),
-        _ => false,
-    }
-}
-
 /// The index of the first token behind which too many brackets or conditions are open.
-pub fn first_too_deep(tokens: &[Token]) -> Option<usize>
+pub fn first_too_deep(alloc: Global, tokens: &[Token]) -> Result<Option<usize>, Memory>
     ensures { let toks = map (λ (token : Token). token.tok) tokens.now in
-        MatchOption result (IsShallow toks) (λ index. IsFirstDeep toks index) }
+        IfOk result (λ deep. MatchOption deep (IsShallow toks) (λ index. IsFirstDeep toks index)) }
 {
-    let mut open = Open::nothing();
+    let mut open = Open::nothing(alloc);
     for (index, token) in tokens.iter().enumerate() {
-        open = open.behind(&token.tok);
+        open.pass(&token.tok)?;
         if !open.is_within() {
-            return Some(index);
+            return Ok(Some(index));
         }
     }
-    None
+    Ok(None)
 }

@@ -33,7 +33,7 @@ pub fn parse(alloc: Global, tokens: &[Token]) -> Result<Model, ParseError>
 {
     // A law: where the parser stops is the first thing that is wrong.
     stops_are_first_wrong();
-    match first_too_deep(tokens) {
+    match first_too_deep(alloc, tokens)? {
         Some(deep) => Err(parse_deep(alloc, tokens, deep)),
         None => parse_all(alloc, tokens),
     }

@@ -8,8 +8,8 @@ loop-index-init c = so-far-none c.args.tokens.now c.nothing-open.result c.nothin
 
 pub returns-then-not-is_within : goal.returns-then-not-is_within
 returns-then-not-is_within c =
-    so-far-deep c.args.tokens.now c.loop-index.index c.loop-index.open c.behind-open.result c.index-tokens-index.result c.loop-index-test.true c.index-tokens-index.is c.loop-index.invariant c.behind-open.ensures (λ few. false≢true (sym c.if-not-is_within.true ∙ c.is_within.ensures.1 few))
+    so-far-deep c.args.tokens.now c.loop-index.index c.loop-index.open _ c.index-tokens-index.result c.loop-index-test.true c.index-tokens-index.is c.loop-index.invariant c.in_ok-pass.ensures (λ few. false≢true (sym c.if-not-is_within.true ∙ c.is_within.ensures.1 few))
 
 pub loop-index-preserved : goal.loop-index-preserved
 loop-index-preserved c =
-    so-far-more c.args.tokens.now c.loop-index.index c.loop-index.open c.behind-open.result c.index-tokens-index.result c.loop-index-test.true c.index-tokens-index.is c.loop-index.invariant c.behind-open.ensures (c.is_within.ensures.0 c.if-not-is_within.false)
+    so-far-more c.args.tokens.now c.loop-index.index c.loop-index.open _ c.index-tokens-index.result c.loop-index-test.true c.index-tokens-index.is c.loop-index.invariant c.in_ok-pass.ensures (c.is_within.ensures.0 c.if-not-is_within.false)
