@@ -11,13 +11,15 @@ use Rattle.dsde_faults.specs.declared.end.EvalEnd.{EvalEnd}
 use Rattle.dsde_faults.specs.declared.end.EvalEnd.TheVariants as eval_end
 use Rattle.dsde_program_nodes.specs.declared.info.Info.{Info}
 use Rattle.dsde_program_nodes.specs.declared.ids.ExprId.{ExprId}
-use Rattle.dsde_program_nodes.specs.Models.{whole_of, types_of, resolved}
+use Rattle.dsde_declared.specs.Models.{top_number, whole_of, types_of, Own, TopOf, owns_of, param_slots, top_in}
+use Rattle.dsde_program_nodes.specs.Models.{resolved}
 use Rattle.dsde_eval_meaning.specs.Outcome.{Outcome, ◌>>=◌, Gives, present}
 use Rattle.dsde_eval_meaning.specs.Typed.{Typed}
 use Rattle.dsde_sound_places.specs.Places.{IsExpr}
-use Rattle.dsde_sound_places.specs.Bodies.{Own, TopOf, TopStands, ArgsStand, owns_of, param_slots, top_in}
+use Rattle.dsde_sound_places.specs.Bodies.{TopStands, ArgsStand}
 use Rattle.dsde_formalism.specs.System.{Chosen}
-use Rattle.dsde_sound_places.specs.Conditions.{mean_of, CanEval, Came}
+use Rattle.dsde_eval_meaning.specs.Functions.{mean_of}
+use Rattle.dsde_sound_places.specs.Conditions.{CanEval, Came}
 use Rattle.dsde_system.specs.Program.{system, args_from, top_of}
 use Rattle.dsde_system.specs.Fitting.{Fill, FitsArgs, Topped}
 use Rattle.dsde_atomic.specs.Steps.{sited}
@@ -34,7 +36,7 @@ pub record Topping (model : Model) (rest : List ExprId) (done : List Value) : Ty
   pub fields : List Field
   pub args : List Expr
   pub found : top_in model.decls ≡ Some top
-  pub at : slice_get (owns_of model.decls) (resolved model).own.top_model.0 ≡ Some own
+  pub at : slice_get (owns_of model.decls) (top_number model).0 ≡ Some own
   pub stands : ArgsStand model fields args rest
   pub fill : Fill (types_of model) before done
   pub split : before ++ fields ≡ param_slots model own
@@ -104,23 +106,23 @@ module _ (model : Model) where
               goes = next.goes ∙ ap (λ (o : Outcome Value). o >>= (λ own. args_from model (done ++ own ∷ []) next.args)) is;
             }
 
-        top-met : top_of model ≡ (args_from model [] at.top.args >>= (λ args. Ok (record { model = (resolved model).own.top_model; args = args })))
-        top-met = ap (λ (o : Option TopOf). present o >>= (λ top. args_from model [] top.args >>= (λ args. Ok (record { model = (resolved model).own.top_model; args = args })))) at.found
+        top-met : top_of model ≡ (args_from model [] at.top.args >>= (λ args. Ok (record { model = top_number model; args = args })))
+        top-met = ap (λ (o : Option TopOf). present o >>= (λ top. args_from model [] top.args >>= (λ args. Ok (record { model = top_number model; args = args })))) at.found
 
-        fault : (end : EvalEnd) → Gives (top_of model) (let r : Result Chosen EvalEnd = Err end in r) → Topped (system model).top (resolved model).own.top_model (Err (sited site.Top end))
+        fault : (end : EvalEnd) → Gives (top_of model) (let r : Result Chosen EvalEnd = Err end in r) → Topped (system model).top (top_number model) (Err (sited site.Top end))
         unfolding system
         fault (eval_end.Fault kind place) h = rw h refl
         fault eval_end.Memory h = tt
 
-        pub top-end : (end : EvalEnd) → result ≡ Err end → Topped (system model).top (resolved model).own.top_model (Err (sited site.Top end))
+        pub top-end : (end : EvalEnd) → result ≡ Err end → Topped (system model).top (top_number model) (Err (sited site.Top end))
         top-end end given =
             fault end (subst (λ (o : Outcome Chosen). Gives o (let r : Result Chosen EvalEnd = Err end in r)) (sym top-met)
-            (then-end (args_from model [] at.top.args) (λ args. Ok (record { model = (resolved model).own.top_model; args = args })) end
+            (then-end (args_from model [] at.top.args) (λ args. Ok (record { model = top_number model; args = args })) end
             (subst (λ (o : Outcome (List Value)). Gives o (let r : Result (List Value) EvalEnd = Err end in r)) (sym next.goes)
             (then-end (mean_of model next.arg []) (λ own. args_from model (done ++ own ∷ []) next.args) end
             (subst (λ (r : Result Value EvalEnd). Gives (mean_of model next.arg []) r) given gives)))))
 
-  top-done : (done : List Value) → top_of model ≡ Ok (record { model = (resolved model).own.top_model; args = done }) → Topped (system model).top (resolved model).own.top_model (Ok done)
+  top-done : (done : List Value) → top_of model ≡ Ok (record { model = top_number model; args = done }) → Topped (system model).top (top_number model) (Ok done)
   unfolding system
   top-done done h = rw h refl
 
@@ -136,16 +138,16 @@ module _ (model : Model) where
     whole : (args_from model [] at.top.args ≡ Ok done) × Fill (types_of model) (param_slots model at.own) done
     whole = all-done at.own at.before at.fields at.top at.args done at.stands at.split at.goes at.fill
 
-    pub top-gives : Topped (system model).top (resolved model).own.top_model (Ok done)
+    pub top-gives : Topped (system model).top (top_number model) (Ok done)
     top-gives = top-done done
-        (ap (λ (o : Option TopOf). present o >>= (λ top. args_from model [] top.args >>= (λ args. Ok (record { model = (resolved model).own.top_model; args = args })))) at.found
-        ∙ ap (λ (o : Outcome (List Value)). o >>= (λ args. Ok (record { model = (resolved model).own.top_model; args = args }))) whole.0)
+        (ap (λ (o : Option TopOf). present o >>= (λ top. args_from model [] top.args >>= (λ args. Ok (record { model = top_number model; args = args })))) at.found
+        ∙ ap (λ (o : Outcome (List Value)). o >>= (λ args. Ok (record { model = top_number model; args = args }))) whole.0)
 
-    pub top-fits : FitsArgs model (resolved model).own.top_model.0 done
+    pub top-fits : FitsArgs model (top_number model).0 done
     top-fits = record {
-      below = subst (λ (n : ℕ). (resolved model).own.top_model.0 < n)
+      below = subst (λ (n : ℕ). (top_number model).0 < n)
           (sym (ap (λ (l : List Info). length l) (infos-by (whole_of model) [] model.decls) ∙ length-map (owns_of model.decls) (info_by (whole_of model))))
-          (slice_get_within (owns_of model.decls) (resolved model).own.top_model.0 at.own at.at);
+          (slice_get_within (owns_of model.decls) (top_number model).0 at.own at.at);
       own = at.own;
       found = at.at;
       fill = whole.1;

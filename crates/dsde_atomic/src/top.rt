@@ -1,7 +1,7 @@
 //! The model that runs.
 
 ghost use Rattle.std.specs.Prelude.{IfOk};
-ghost use Rattle.dsde_program_nodes.specs.Models.{resolved};
+ghost use Rattle.dsde_declared.specs.Models.{top_number};
 ghost use Rattle.dsde_system.specs.Program.{system};
 ghost use Rattle.dsde_system.specs.Fitting.{FitsArgs, Topped};
 
@@ -15,8 +15,8 @@ use std::alloc::Global;
 
 /// The arguments of the model that runs.
 pub fn top_args(alloc: Global, program: &Program) -> Result<Values, LeafEnd>
-    ensures gives { Topped (system program.now).top (resolved program.now).own.top_model result }
-    ensures fits { IfOk result (λ args. FitsArgs program.now (resolved program.now).own.top_model.0 args) }
+    ensures gives { Topped (system program.now).top (top_number program.now) result }
+    ensures fits { IfOk result (λ args. FitsArgs program.now (top_number program.now).0 args) }
 {
     laws();
     program.right();

@@ -6,12 +6,13 @@ use Rattle.dsde_syntax.specs.declared.decl.Decl.{Decl}
 use Rattle.dsde_syntax.specs.declared.decl.Decl.TheVariants as decl
 use Rattle.dsde_syntax.specs.declared.decl.Model.{Model}
 use Rattle.dsde_syntax.specs.declared.decl.Typed.{Typed}
+use Rattle.dsde_values.specs.declared.types.Field.{Field}
 use Rattle.dsde_values.specs.declared.value.Value.{Value}
 use Rattle.dsde_check_rules.specs.declared.known.Known.{Known}
-use Rattle.dsde_program_nodes.specs.Models.{whole_of}
+use Rattle.dsde_declared.specs.Models.{whole_of}
 use Rattle.dsde_eval_meaning.specs.Outcome.{Outcome, Stuck, ◌>>=◌}
 use Rattle.dsde_eval_meaning.specs.Flow.{lifted}
-use Rattle.dsde_eval_meaning.specs.Meaning.{Vars, Function, mean, block, scene}
+use Rattle.dsde_eval_meaning.specs.Meaning.{Vars, Function, Mean, Walk, mean, block, scene}
 
 -- parameters with their values
 abbrev pub bound_params : List Typed → List Value → Vars
@@ -40,3 +41,10 @@ functions_from known before (own ∷ decls) = functions_from known (with_functio
 -- the functions of a model, in text order; each may call those before it
 abbrev pub functions_of : Model → List Function
 functions_of model = functions_from (whole_of model) [] model.decls
+
+-- what an expression of a model means, and what the statements of a block of it do
+abbrev pub mean_of : Model → Expr → Mean
+mean_of model expr = mean (whole_of model) (functions_of model) expr
+
+abbrev pub block_of : Model → List Field → List Stmt → Walk
+block_of model outs stmts = block (whole_of model) (functions_of model) outs stmts

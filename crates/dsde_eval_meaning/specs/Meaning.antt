@@ -19,10 +19,10 @@ use Rattle.dsde_values.specs.declared.value.Value.TheVariants as value
 use Rattle.dsde_check_rules.specs.declared.known.Known.{Known}
 use Rattle.dsde_check_rules.specs.Tables.{field_name}
 use Rattle.dsde_check_rules.specs.Judge.{fields_at}
-use Rattle.dsde_program_nodes.specs.declared.node.Binary.{Binary}
-use Rattle.dsde_program_nodes.specs.declared.node.Binary.TheVariants as binary
-use Rattle.dsde_program_nodes.specs.Typing.{elapsed_name, slot_of, type_number, variant_number}
-use Rattle.dsde_program_nodes.specs.Expressions.{nested, sign_binary, builtin_of}
+use Rattle.dsde_declared.specs.declared.operator.Binary.{Binary}
+use Rattle.dsde_declared.specs.declared.operator.Binary.TheVariants as binary
+use Rattle.dsde_declared.specs.Names.{elapsed_name, slot_of, type_number, variant_number}
+use Rattle.dsde_declared.specs.Operators.{nested, sign_binary, builtin_of}
 use Rattle.dsde_eval_meaning.specs.Outcome.{Outcome, Stuck, ◌>>=◌, present, truth_of, items_of}
 use Rattle.dsde_eval_meaning.specs.Operators.{combined, denied, negated, or_else, unwrapped, indexed, listed, of_one, of_two, of_three}
 use Rattle.dsde_eval_meaning.specs.Flow.{Flow, stopped, over, inside}

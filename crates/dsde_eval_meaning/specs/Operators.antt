@@ -5,10 +5,10 @@ use Rattle.dsde_values.specs.declared.value.Value.TheOpen as layer
 use Rattle.dsde_values.specs.declared.value.Value.TheVariants as value
 use Rattle.dsde_values.specs.Value.{fits_int}
 use Rattle.dsde_faults.specs.declared.kind.FaultKind.TheVariants.{Overflow, DivideByZero, IndexOutOfRange, EmptyOption, RangeTooLong}
-use Rattle.dsde_program_nodes.specs.declared.node.Binary.{Binary}
-use Rattle.dsde_program_nodes.specs.declared.node.Binary.TheVariants as binary
-use Rattle.dsde_program_nodes.specs.declared.node.Builtin.{Builtin}
-use Rattle.dsde_program_nodes.specs.declared.node.Builtin.TheVariants as builtin
+use Rattle.dsde_declared.specs.declared.operator.Binary.{Binary}
+use Rattle.dsde_declared.specs.declared.operator.Binary.TheVariants as binary
+use Rattle.dsde_declared.specs.declared.operator.Builtin.{Builtin}
+use Rattle.dsde_declared.specs.declared.operator.Builtin.TheVariants as builtin
 use Rattle.dsde_eval_meaning.specs.Outcome.{Outcome, Fault, Stuck, ◌>>=◌, int_of, truth_of, items_of, option_of}
 
 -- Parts are equal, one each in their order, by what each answers of another value.

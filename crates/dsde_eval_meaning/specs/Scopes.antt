@@ -15,7 +15,8 @@ use Rattle.dsde_check_rules.specs.declared.signatures.Port.{Port}
 use Rattle.dsde_check_rules.specs.Tables.{binding_name, field_name, func_name, port_name, type_word, numbered}
 use Rattle.dsde_check_rules.specs.Judge.{bound_to, declared_type, type_at, fields_at, variants_at}
 use Rattle.dsde_check_rules.specs.Judge as rules
-use Rattle.dsde_program_nodes.specs.Typing.{elapsed_name, func_number, func_type}
+use Rattle.dsde_declared.specs.Names.{elapsed_name}
+use Rattle.dsde_program_nodes.specs.Typing.{func_number, func_type}
 use Rattle.dsde_eval_meaning.specs.Meaning.{Function, called}
 use Rattle.dsde_eval_meaning.specs.Tables.{Coded, means_in, called_at}
 use Rattle.dsde_eval_meaning.specs.Typed.{Typed, Sound, AllTyped}

@@ -11,7 +11,7 @@ use Rattle.dsde_program_nodes.specs.declared.act.ActArm.{ActArm}
 use Rattle.dsde_program_nodes.specs.declared.code.FnCode.{FnCode}
 use Rattle.dsde_program_nodes.specs.declared.ids.BlockId.{BlockId}
 use Rattle.dsde_program_nodes.specs.declared.ids.ExprId.{ExprId}
-use Rattle.dsde_program_nodes.specs.declared.node.Builtin.{Builtin}
+use Rattle.dsde_declared.specs.declared.operator.Builtin.{Builtin}
 use Rattle.dsde_program_nodes.specs.declared.node.Node.{Node}
 use Rattle.dsde_program_nodes.specs.declared.node.Node.TheVariants as node
 use Rattle.dsde_program_nodes.specs.declared.node.NodeArm.{NodeArm}

@@ -14,10 +14,11 @@ use Rattle.dsde_program_nodes.specs.declared.make.Make.{Make}
 use Rattle.dsde_program_nodes.specs.declared.ids.ExprId.{ExprId}
 use Rattle.dsde_program_nodes.specs.declared.tables.Tables.{Tables}
 use Rattle.dsde_program_nodes.specs.declared.info.Info.{Info}
-use Rattle.dsde_program_nodes.specs.Models.{Parts, infos_from, place_of_items, with_info}
-use Rattle.dsde_program_nodes.specs.Items.{model_id}
+use Rattle.dsde_declared.specs.Structures.{place_of_items}
+use Rattle.dsde_program_nodes.specs.Models.{Parts, infos_from, with_info}
+use Rattle.dsde_declared.specs.Models.{model_id}
 use Rattle.dsde_program_nodes.specs.Statements.{body_scope}
-use Rattle.dsde_program_nodes.specs.Typing.{Scope}
+use Rattle.dsde_declared.specs.Names.{Scope}
 use Rattle.dsde_program_layout.specs.LayPieces.{LaidPiece, over}
 use Rattle.dsde_program_layout.specs.LayStatements.{lay_phase, lay_body}
 use Rattle.dsde_program_layout.specs.LayItems.{lay_all, lay_items}

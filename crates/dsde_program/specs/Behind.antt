@@ -9,8 +9,8 @@ use Rattle.dsde_syntax.specs.declared.decl.Decl.TheVariants as decl
 use Rattle.dsde_syntax.specs.declared.decl.PortDecl.{PortDecl}
 use Rattle.dsde_syntax.specs.declared.decl.Typed.{Typed}
 use Rattle.dsde_check_rules.specs.declared.known.Known.{Known}
-use Rattle.dsde_program_nodes.specs.Models.{place_of_items}
-use Rattle.dsde_program_nodes.specs.Items.{model_id}
+use Rattle.dsde_declared.specs.Structures.{place_of_items}
+use Rattle.dsde_declared.specs.Models.{model_id}
 use Rattle.dsde_program_nodes.specs.Statements.{body_scope}
 use Rattle.dsde_program_layout.specs.LayPieces.{over}
 use Rattle.dsde_program_layout.specs.LayStatements.{lay_func, lay_body}

@@ -2,7 +2,8 @@
 use Rattle.std.specs.Prelude.{◌≡◌, List, [], length}
 use Rattle.dsde_syntax.specs.declared.decl.Decl.{Decl}
 use Rattle.dsde_check_rules.specs.declared.known.Known.{Known}
-use Rattle.dsde_program_nodes.specs.Models.{defs_from, infos_from}
+use Rattle.dsde_declared.specs.Models.{defs_from}
+use Rattle.dsde_program_nodes.specs.Models.{infos_from}
 use Rattle.dsde_program_layout.specs.LayModels.{lay_decls, no_tables}
 use Rattle.dsde_program.specs.declared.whole.Whole.{Whole}
 

@@ -1,15 +1,16 @@
 //! A model that is right, with all that it is resolved to.
 
 ghost use Rattle.std.specs.Prelude.{◌≡◌, ◌<◌, Some, length, slice_get, IfOk};
-ghost use Rattle.dsde_program_nodes.specs.Models.{infos_of, resolved, types_of};
+ghost use Rattle.dsde_declared.specs.Models.{top_number, types_of};
+ghost use Rattle.dsde_program_nodes.specs.Models.{infos_of, resolved};
 ghost use Rattle.dsde_check_rules.specs.Right.{IsRight};
 
 use crate::whole::{Declared, Laid, Whole, whole_in};
+use dsde_declared::{ModelId, ViaId};
 use dsde_lists::Memory;
+use dsde_program_declared::top_is_named;
 use dsde_program_layout::model_laid;
-use dsde_program_nodes::{
-    Act, BlockId, Code, ExprId, FnCode, Info, Make, ModelId, Node, Tables, ViaCode, ViaId,
-};
+use dsde_program_nodes::{Act, BlockId, Code, ExprId, FnCode, Info, Make, Node, Tables, ViaCode};
 use dsde_syntax::Model;
 use dsde_values::{Seq, Types};
 use std::alloc::Global;
@@ -28,7 +29,8 @@ impl<'m> std::marker::Model for Program<'m> {
     ghost use Rattle.std.specs.Prelude.{◌≡◌, length};
     ghost use Rattle.dsde_syntax.specs.declared.decl.Model.{Model};
     ghost use Rattle.dsde_syntax.specs.contracts.decl.Model as whole;
-    ghost use Rattle.dsde_program_nodes.specs.Models.{infos_of, resolved, types_of};
+    ghost use Rattle.dsde_declared.specs.Models.{types_of};
+    ghost use Rattle.dsde_program_nodes.specs.Models.{infos_of, resolved};
     ghost use Rattle.dsde_check_rules.specs.Right.{IsRight};
 
     ghost Value = { Model };
@@ -86,8 +88,10 @@ impl Program<'_> {
 
     /// The model that runs.
     pub fn top_model(&self) -> ModelId
-        ensures { result ≡ (resolved self.now).own.top_model }
+        ensures { result ≡ top_number self.now }
     {
+        // A law: it is the one that `top` names.
+        top_is_named();
         self.laid.top_model
     }
 

@@ -2,8 +2,6 @@
 use Rattle.std.specs.Prelude.{ℕ, ◌+◌, pos, List, [], ◌∷◌, ◌++◌, length, map, Option, Some, None}
 use Rattle.dsde_words.specs.declared.key.Key.{Key}
 use Rattle.dsde_words.specs.declared.key.Key.TheVariants as key
-use Rattle.dsde_syntax.specs.declared.token.Sign.{Sign}
-use Rattle.dsde_syntax.specs.declared.token.Sign.TheVariants as sign
 use Rattle.dsde_syntax.specs.declared.id.Id.{Id}
 use Rattle.dsde_syntax.specs.declared.expr.Expr.{Expr}
 use Rattle.dsde_syntax.specs.declared.expr.Expr.TheOpen.{Expr-F, Suffix-F, ExprArm-F, FieldSet-F, SignTail-F, Tail-F}
@@ -13,14 +11,14 @@ use Rattle.dsde_values.specs.declared.types.Ty.TheVariants as ty
 use Rattle.dsde_check_rules.specs.declared.known.Known.{Known}
 use Rattle.dsde_check_rules.specs.Tables.{by_text}
 use Rattle.dsde_program_nodes.specs.declared.ids.ExprId.{ExprId}
-use Rattle.dsde_program_nodes.specs.declared.node.Binary.{Binary}
-use Rattle.dsde_program_nodes.specs.declared.node.Binary.TheVariants as binary
-use Rattle.dsde_program_nodes.specs.declared.node.Builtin.{Builtin}
-use Rattle.dsde_program_nodes.specs.declared.node.Builtin.TheVariants as builtin
+use Rattle.dsde_declared.specs.declared.operator.Binary.{Binary}
+use Rattle.dsde_declared.specs.declared.operator.Binary.TheVariants as binary
 use Rattle.dsde_program_nodes.specs.declared.node.Node.{Node}
 use Rattle.dsde_program_nodes.specs.declared.node.Node.TheVariants as node
 use Rattle.dsde_program_nodes.specs.declared.node.NodeArm.{NodeArm}
-use Rattle.dsde_program_nodes.specs.Typing.{with_slot, Scope, slot_of, slot_type, elapsed_name, item_in, held_in, type_number, variant_number, field_number, field_type, func_number, func_type, builtin_type}
+use Rattle.dsde_declared.specs.Names.{with_slot, Scope, slot_of, elapsed_name, type_number, variant_number}
+use Rattle.dsde_program_nodes.specs.Typing.{slot_type, item_in, held_in, field_number, field_type, func_number, func_type, builtin_type}
+use Rattle.dsde_declared.specs.Operators.{nested, sign_binary, builtin_of}
 
 -- the expression with a number
 abbrev pub expr_id : ℕ → ExprId
@@ -42,11 +40,6 @@ of_type own nodes = record { ty = λ scope. own; nodes = nodes }
 -- what a link of a chain makes of all that stands before it
 abbrev pub Link : Type 0
 Link = Resolved → Resolved
-
--- A chain is nested to the left: each link makes one of what stands before it.
-abbrev pub nested : {A : Type 0} → A → List (A → A) → A
-nested left [] = left
-nested left (link ∷ links) = nested (link left) links
 
 -- the nodes of parts, one part after another, and the number of each part
 abbrev pub all_nodes : List Resolved → Nodes
@@ -81,23 +74,6 @@ pub record Arm : Type 0 where
 abbrev pub tail_step : Binary → Tail-F Resolved Link Arm Resolved Link (Binary → Link) → Link
 tail_step which tail left = of_type ty.Bool (over_two (node.Binary which tail.at) left.nodes tail.value.nodes)
 
-abbrev pub sign_binary : Sign → Binary
-sign_binary sign.Plus = binary.Add
-sign_binary sign.Minus = binary.Sub
-sign_binary sign.PlusBar = binary.CapAdd
-sign_binary sign.MinusBar = binary.CapSub
-sign_binary sign.PlusPlus = binary.Join
-sign_binary sign.Star = binary.Mul
-sign_binary sign.Slash = binary.Div
-sign_binary sign.Percent = binary.Rem
-sign_binary sign.StarBar = binary.CapMul
-sign_binary sign.EqualEqual = binary.Equal
-sign_binary sign.NotEqual = binary.NotEqual
-sign_binary sign.Less = binary.Less
-sign_binary sign.LessEqual = binary.LessEqual
-sign_binary sign.Greater = binary.Greater
-sign_binary _ = binary.GreaterEqual
-
 -- "+" and the other signs between two of one type
 abbrev pub sign_tail_step : SignTail-F Resolved Link Arm Resolved Link (Binary → Link) → Link
 sign_tail_step tail left =
@@ -117,17 +93,6 @@ suffix_step known (Suffix-F.Unwrap at) left =
 abbrev pub head_type : List Resolved → Scope → Ty
 head_type [] scope = ty.Int
 head_type (part ∷ parts) scope = part.ty scope
-
-abbrev pub builtin_of : Key → Builtin
-builtin_of key.Len = builtin.Len
-builtin_of key.Range = builtin.Range
-builtin_of key.Push = builtin.Push
-builtin_of key.Put = builtin.Put
-builtin_of key.Take = builtin.Take
-builtin_of key.Skip = builtin.Skip
-builtin_of key.Min = builtin.Min
-builtin_of key.Max = builtin.Max
-builtin_of _ = builtin.IsSome
 
 -- the node of a builtin; `some` has one of its own
 abbrev pub builtin_node : Key → ℕ → List ExprId → Node

@@ -1,7 +1,6 @@
 -- What the items of a structure are resolved to.
-use Rattle.std.specs.Prelude.{ℕ, true, false, Bool, not, if◌then◌else◌, List, [], ◌∷◌, map, Option, Some, None, unwrap_or, slice_get}
-use Rattle.std.specs.Option.{option_map, option_map_or}
-use Rattle.dsde_names.specs.Table.{place_of, named}
+use Rattle.std.specs.Prelude.{ℕ, true, false, Bool, List, [], ◌∷◌, map, Option, Some, None}
+use Rattle.std.specs.Option.{option_map}
 use Rattle.dsde_syntax.specs.declared.expr.Expr.{Expr}
 use Rattle.dsde_syntax.specs.declared.item.Bracket.{Bracket}
 use Rattle.dsde_syntax.specs.declared.item.End.{End}
@@ -12,15 +11,9 @@ use Rattle.dsde_syntax.specs.declared.item.Item.TheOpen.{Item-F, ItemArm-F}
 use Rattle.dsde_syntax.specs.declared.item.Item.TheFolds.{fold-Item}
 use Rattle.dsde_syntax.specs.declared.item.ViaKey.{ViaKey}
 use Rattle.dsde_syntax.specs.declared.item.ViaPart.{ViaPart}
-use Rattle.dsde_values.specs.declared.types.Field.{Field}
 use Rattle.dsde_values.specs.declared.types.Ty.{Ty}
 use Rattle.dsde_check_rules.specs.declared.known.Known.{Known}
-use Rattle.dsde_check_rules.specs.declared.signatures.Family.{Family}
-use Rattle.dsde_check_rules.specs.declared.signatures.ModelSig.{ModelSig}
-use Rattle.dsde_check_rules.specs.declared.signatures.Port.{Port}
-use Rattle.dsde_check_rules.specs.Tables.{added, family_name, model_name}
 use Rattle.dsde_program_nodes.specs.declared.ids.ExprId.{ExprId}
-use Rattle.dsde_program_nodes.specs.declared.ids.ModelId.{ModelId}
 use Rattle.dsde_program_nodes.specs.declared.make.Make.{Make}
 use Rattle.dsde_program_nodes.specs.declared.make.Make.TheVariants as make
 use Rattle.dsde_program_nodes.specs.declared.make.MakeArm.{MakeArm}
@@ -29,68 +22,12 @@ use Rattle.dsde_program_nodes.specs.declared.make.MakeIndex.{MakeIndex}
 use Rattle.dsde_program_nodes.specs.declared.make.MakePart.{MakePart}
 use Rattle.dsde_program_nodes.specs.declared.make.MakePart.TheVariants as make_part
 use Rattle.dsde_program_nodes.specs.declared.make.MakeVia.{MakeVia}
-use Rattle.dsde_program_nodes.specs.Typing.{with_slot, with_slots, Scope, slot_of, slot_type, item_in}
+use Rattle.dsde_declared.specs.Names.{with_slot, Scope, slot_of}
+use Rattle.dsde_program_nodes.specs.Typing.{slot_type, item_in}
 use Rattle.dsde_program_nodes.specs.Expressions.{resolve, expr_id}
 use Rattle.dsde_program_nodes.specs.Pieces.{Step, ◌>>=◌, give, all, maybe, expr, bound, binding, inside}
-
--- where an item stands: the in ports and the out ports of the network and of its executive, and the
--- models of its components by their identifiers
-pub record Place : Type 0 where
-  pub known : Known
-  pub ins : List Field
-  pub outs : List Field
-  pub boss_ins : List Field
-  pub boss_outs : List Field
-  pub families : List Family
-
--- the number of a model
-abbrev pub model_number : Known → List ℕ → ℕ
-model_number known name = unwrap_or (place_of model_name known.models name) 0
-
-abbrev pub model_id : Known → List ℕ → ModelId
-model_id known name = record { 0 = model_number known name }
-
--- the models of components by their identifiers, in text order
-abbrev pub Kin : Type 0
-Kin = List Family → List Family
-
-abbrev pub kin_all : List Kin → Kin
-kin_all [] families = families
-kin_all (kin ∷ kins) families = kin_all kins (kin families)
-
-abbrev pub kin_step : Known → Item-F Kin Kin → Kin
-kin_step known (Item-F.Comp at name index model args) families =
-    added family_name families (record { name = name.name; model = model_number known model.name })
-kin_step known (Item-F.Link at source target via) families = families
-kin_step known (Item-F.Let name value) families = families
-kin_step known (Item-F.If arms other) families = kin_all (unwrap_or other []) (kin_all arms families)
-kin_step known (Item-F.For name list body) families = kin_all body families
-
-abbrev pub kin_arm_step : ItemArm-F Kin Kin → Kin
-kin_arm_step arm = kin_all arm.body
-
-abbrev pub kin_of : Known → Item → Kin
-kin_of known = fold-Item Kin Kin (kin_step known) kin_arm_step
-
--- the ports of one direction of the component with this identifier
-abbrev pub directed : Bool → List Port → List Field
-directed out [] = []
-directed out (port ∷ ports) =
-    if (if out then port.out else not port.out) then record { name = port.name; ty = port.ty } ∷ directed out ports else directed out ports
-
-abbrev pub model_ports : Known → Bool → ℕ → List Field
-model_ports known out model = with_slots [] (option_map_or (λ (own : ModelSig). directed out own.ports) (slice_get known.models model) [])
-
-abbrev pub kid_ports : Place → Bool → List ℕ → List Field
-kid_ports place out name =
-    option_map_or (λ (family : Family). model_ports place.known out family.model) (named family_name place.families name) []
-
--- the ports that an end of a link may be at: a source is an in port of `net` or an out port of
--- others, and a target is an out port of `net` or an in port of others
-abbrev pub end_ports : Place → Bool → EndPart → List Field
-end_ports place is_source end_part.Net = if is_source then place.ins else place.outs
-end_ports place is_source end_part.Exec = if is_source then place.boss_outs else place.boss_ins
-end_ports place is_source (end_part.Kid name index) = kid_ports place is_source name.name
+use Rattle.dsde_declared.specs.Models.{model_id}
+use Rattle.dsde_declared.specs.Structures.{Place, end_ports}
 
 -- an index, if there is one
 abbrev pub resolve_index : Known → Option Bracket → Step (Option MakeIndex)

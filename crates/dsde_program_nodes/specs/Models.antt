@@ -1,41 +1,20 @@
 -- What a whole model is resolved to: its tables, in text order.
-use Rattle.std.specs.Prelude.{true, false, List, [], ◌∷◌, ◌++◌, map}
-use Rattle.dsde_syntax.specs.declared.item.Item.{Item}
-use Rattle.dsde_syntax.specs.declared.decl.Body.{Body}
+use Rattle.std.specs.Prelude.{true, false, List, [], ◌∷◌, ◌++◌}
 use Rattle.dsde_syntax.specs.declared.decl.Decl.{Decl}
 use Rattle.dsde_syntax.specs.declared.decl.Decl.TheVariants as decl
 use Rattle.dsde_syntax.specs.declared.decl.Model.{Model}
-use Rattle.dsde_syntax.specs.declared.decl.PortDecl.{PortDecl}
-use Rattle.dsde_values.specs.declared.types.Def.{Def}
-use Rattle.dsde_values.specs.declared.types.Shape.{Shape}
-use Rattle.dsde_values.specs.declared.types.Types.{Types}
 use Rattle.dsde_check_rules.specs.declared.known.Known.{Known}
-use Rattle.dsde_check_rules.specs.declared.signatures.TypeWord.{TypeWord}
-use Rattle.dsde_check_rules.specs.Tables.{added, by_text, func_name, known_of, text_params}
 use Rattle.dsde_program_nodes.specs.declared.code.Code.{Code}
 use Rattle.dsde_program_nodes.specs.declared.code.FnCode.{FnCode}
 use Rattle.dsde_program_nodes.specs.declared.ids.ExprId.{ExprId}
-use Rattle.dsde_program_nodes.specs.declared.ids.ModelId.{ModelId}
+use Rattle.dsde_declared.specs.declared.ids.ModelId.{ModelId}
 use Rattle.dsde_program_nodes.specs.declared.info.Info.{Info}
 use Rattle.dsde_program_nodes.specs.declared.make.Make.{Make}
-use Rattle.dsde_program_nodes.specs.Typing.{with_slots}
 use Rattle.dsde_program_nodes.specs.Pieces.{Step, ◌>>=◌, Piece, give, over}
-use Rattle.dsde_program_nodes.specs.Statements.{resolve_func, resolve_body, body_scope, typed_fields, state_fields, port_fields}
-use Rattle.dsde_program_nodes.specs.Items.{Place, kin_all, kin_of, model_id, resolve_all, resolve_items}
-
--- the functions of a file by their text, each at its number
-abbrev pub with_func : Known → Decl → Known
-with_func known (decl.Func name params result stmts value) =
-    record known { funcs = added func_name known.funcs (record { name = name.name; params = text_params known.words params; result = by_text known.words result; height = 0 }) }
-with_func known _ = known
-
-abbrev pub with_funcs : Known → List Decl → Known
-with_funcs known [] = known
-with_funcs known (own ∷ decls) = with_funcs (with_func known own) decls
-
--- all that is known of a file by its text
-abbrev pub whole_of : Model → Known
-whole_of model = with_funcs (known_of model.decls) model.decls
+use Rattle.dsde_declared.specs.Models.{typed_fields, state_fields, port_fields, model_id, whole_of}
+use Rattle.dsde_program_nodes.specs.Statements.{resolve_func, resolve_body, body_scope}
+use Rattle.dsde_declared.specs.Structures.{place_of_items}
+use Rattle.dsde_program_nodes.specs.Items.{resolve_all, resolve_items}
 
 -- what declarations are resolved to: functions, and the body and the items of each model; an atomic
 -- model has no items
@@ -48,17 +27,6 @@ pub record Parts : Type 0 where
 
 abbrev pub no_parts : Parts
 no_parts = record { functions = []; codes = []; makes = []; top_model = record { 0 = 0 }; top_args = [] }
-
--- where the items of a network stand
-abbrev pub place_of_items : Known → List PortDecl → Body → List Item → Place
-place_of_items known ports body items = record {
-  known = known;
-  ins = with_slots [] (port_fields known false ports);
-  outs = with_slots [] (port_fields known true ports);
-  boss_ins = with_slots [] (port_fields known false body.ports);
-  boss_outs = with_slots [] (port_fields known true body.ports);
-  families = kin_all (map (kin_of known) items) [];
-}
 
 -- a declaration, before those behind it
 abbrev pub resolve_decl : Known → Decl → Step Parts → Step Parts
@@ -117,11 +85,3 @@ infos_from known infos (own ∷ decls) = infos_from known (with_info known infos
 
 abbrev pub infos_of : Model → List Info
 infos_of model = infos_from (whole_of model) [] model.decls
-
--- the table of types
-abbrev pub defs_from : List TypeWord → List Shape → List Def
-defs_from (word ∷ words) (own ∷ shapes) = record { name = word.name; shape = own } ∷ defs_from words shapes
-defs_from _ _ = []
-
-abbrev pub types_of : Model → Types
-types_of model = record { defs = defs_from (whole_of model).words (whole_of model).types }

@@ -1,5 +1,5 @@
 -- What statements, functions and bodies are resolved to.
-use Rattle.std.specs.Prelude.{ℕ, ◌+◌, true, false, List, [], ◌∷◌, ◌++◌, map, Bool, not, if◌then◌else◌, Option}
+use Rattle.std.specs.Prelude.{ℕ, ◌+◌, true, false, List, [], ◌∷◌, ◌++◌, map, Option}
 use Rattle.std.specs.Option.{option_map, option_map_or}
 use Rattle.dsde_syntax.specs.declared.expr.Expr.{Expr}
 use Rattle.dsde_syntax.specs.declared.stmt.Stmt.{Stmt}
@@ -7,7 +7,6 @@ use Rattle.dsde_syntax.specs.declared.stmt.Stmt.TheOpen.{Stmt-F, StmtArm-F}
 use Rattle.dsde_syntax.specs.declared.stmt.Stmt.TheFolds.{fold-Stmt}
 use Rattle.dsde_syntax.specs.declared.decl.Body.{Body}
 use Rattle.dsde_syntax.specs.declared.decl.Phase.{Phase}
-use Rattle.dsde_syntax.specs.declared.decl.PortDecl.{PortDecl}
 use Rattle.dsde_syntax.specs.declared.decl.StateDecl.{StateDecl}
 use Rattle.dsde_syntax.specs.declared.decl.Typed.{Typed}
 use Rattle.dsde_values.specs.declared.types.Field.{Field}
@@ -21,9 +20,11 @@ use Rattle.dsde_program_nodes.specs.declared.code.Code.{Code}
 use Rattle.dsde_program_nodes.specs.declared.code.FnCode.{FnCode}
 use Rattle.dsde_program_nodes.specs.declared.ids.BlockId.{BlockId}
 use Rattle.dsde_program_nodes.specs.declared.ids.ExprId.{ExprId}
-use Rattle.dsde_program_nodes.specs.Typing.{with_slots, Scope, slot_of, elapsed_name, item_in}
+use Rattle.dsde_declared.specs.Names.{with_slots, Scope, slot_of, elapsed_name}
+use Rattle.dsde_program_nodes.specs.Typing.{item_in}
 use Rattle.dsde_program_nodes.specs.Expressions.{resolve}
 use Rattle.dsde_program_nodes.specs.Pieces.{Block, Step, ◌>>=◌, give, all, maybe, expr, bound, binding, seeing, over, braced}
+use Rattle.dsde_declared.specs.Models.{typed_fields, state_fields, port_fields}
 
 -- over what is known of the file, and the out ports of the body
 abbrev pub stmt_step : Known → List Field → Stmt-F (Step Act) (Step ActArm) → Step Act
@@ -49,21 +50,6 @@ resolve_stmt known outs = fold-Stmt (Step Act) (Step ActArm) (stmt_step known ou
 -- statements of a block
 abbrev pub resolve_stmts : Known → List Field → List Stmt → Step Block
 resolve_stmts known outs stmts = all (map (resolve_stmt known outs) stmts)
-
--- names with their types, by their text
-abbrev pub typed_fields : Known → List Typed → List Field
-typed_fields known = map (λ (typed : Typed). record { name = typed.name.name; ty = by_text known.words typed.ty })
-
-abbrev pub state_fields : Known → List StateDecl → List Field
-state_fields known = map (λ (state : StateDecl). record { name = state.name.name; ty = by_text known.words state.ty })
-
--- the ports of one direction
-abbrev pub port_fields : Known → Bool → List PortDecl → List Field
-port_fields known out [] = []
-port_fields known out (port ∷ ports) =
-    if (if out then port.out else not port.out)
-    then record { name = port.name.name; ty = by_text known.words port.ty } ∷ port_fields known out ports
-    else port_fields known out ports
 
 -- what stands in the braces of a function
 pub record FuncParts : Type 0 where

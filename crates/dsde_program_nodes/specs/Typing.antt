@@ -1,8 +1,7 @@
 -- The types of expressions in which nothing is wrong, and the numbers of what they name. Each is
 -- found from what the file says alone; where something is wrong it is of no account.
-use Rattle.std.specs.Prelude.{ℕ, List, [], ◌∷◌, codes, unwrap_or, position}
+use Rattle.std.specs.Prelude.{ℕ, List, [], ◌∷◌, unwrap_or}
 use Rattle.std.specs.Option.{option_map_or}
-use Rattle.std.specs.Str.{bytes_eq}
 use Rattle.dsde_names.specs.Table.{place_of, named}
 use Rattle.dsde_words.specs.declared.key.Key.{Key}
 use Rattle.dsde_values.specs.declared.types.Ty.{Ty, out-Ty}
@@ -13,31 +12,12 @@ use Rattle.dsde_check_rules.specs.declared.builtin.Part.{Part}
 use Rattle.dsde_check_rules.specs.declared.builtin.Part.TheVariants as part
 use Rattle.dsde_check_rules.specs.declared.known.Known.{Known}
 use Rattle.dsde_check_rules.specs.declared.signatures.Func.{Func}
-use Rattle.dsde_check_rules.specs.Tables.{added, field_name, func_name, type_word}
-use Rattle.dsde_check_rules.specs.Judge.{fields_of, given_type, row_of, variants_at}
-
--- the names that are seen with their types, each at its slot
-abbrev pub Scope : Type 0
-Scope = List Field
-
--- a scope with one name more, and with more; a name that is seen already has its slot
-abbrev pub with_slot : Scope → List ℕ → Ty → Scope
-with_slot scope name own = added field_name scope (record { name = name; ty = own })
-
-abbrev pub with_slots : Scope → List Field → Scope
-with_slots scope [] = scope
-with_slots scope (field ∷ fields) = with_slots (with_slot scope field.name field.ty) fields
-
--- the slot of a name, and its type
-abbrev pub slot_of : Scope → List ℕ → ℕ
-slot_of scope name = unwrap_or (place_of field_name scope name) 0
+use Rattle.dsde_check_rules.specs.Tables.{field_name, func_name}
+use Rattle.dsde_check_rules.specs.Judge.{fields_of, given_type, row_of}
+use Rattle.dsde_declared.specs.Names.{Scope, slot_of}
 
 abbrev pub slot_type : Scope → List ℕ → Ty
 slot_type scope name = option_map_or (λ (field : Field). field.ty) (named field_name scope name) ty.Int
-
--- the name of `elapsed` in a scope, which no identifier is
-abbrev pub elapsed_name : List ℕ
-elapsed_name = codes "elapsed"
 
 -- the type of a list's items, and of what an option holds
 abbrev pub item_in : Ty → Ty
@@ -45,14 +25,6 @@ item_in own = elim (out-Ty own) [ layer.List inner ↦ inner | _ ↦ ty.Int ]
 
 abbrev pub held_in : Ty → Ty
 held_in own = elim (out-Ty own) [ layer.Opt inner ↦ inner | _ ↦ ty.Int ]
-
--- the number of a type, and of a variant of it
-abbrev pub type_number : Known → List ℕ → ℕ
-type_number known name = unwrap_or (place_of type_word known.words name) 0
-
-abbrev pub variant_number : Known → List ℕ → List ℕ → ℕ
-variant_number known owner name =
-    unwrap_or (position (λ own. bytes_eq own name) (unwrap_or (variants_at known (type_number known owner)) [])) 0
 
 -- the number of a field of a record, and its type
 abbrev pub fields_in : Known → Ty → List Field

@@ -1,9 +1,5 @@
 //! Numbers of what stands in a model, counted from 0 in text order.
 
-/// The number of an atomic model or a network.
-#[derive(Clone, Copy, Debug)]
-pub struct ModelId(pub u32);
-
 /// The number of an expression, where each comes before its parts. Parentheses have none, and a
 /// chain of operators or suffixes is nested to the left.
 #[derive(Clone, Copy, Debug)]
@@ -13,7 +9,3 @@ pub struct ExprId(pub u32);
 /// one block.
 #[derive(Clone, Copy, Debug)]
 pub struct BlockId(pub u32);
-
-/// The number of a translation.
-#[derive(Clone, Copy, Debug)]
-pub struct ViaId(pub u32);

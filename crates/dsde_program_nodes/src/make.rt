@@ -1,6 +1,7 @@
 //! Items of a structure with numbers for names, expressions, ports and models.
 
-use crate::{ExprId, ModelId, ViaId};
+use crate::ExprId;
+use dsde_declared::{ModelId, ViaId};
 use dsde_values::{Seq, Text};
 
 /// An item of a structure with numbers for names, expressions, ports and models.

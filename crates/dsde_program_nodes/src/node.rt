@@ -1,6 +1,7 @@
 //! Expressions with numbers for names and parts.
 
 use crate::ExprId;
+use dsde_declared::{Binary, Builtin};
 use dsde_values::Seq;
 
 /// An expression with numbers for names and parts. A place is the index of a token.
@@ -52,44 +53,4 @@ pub enum Node {
 pub struct NodeArm {
     pub cond: ExprId,
     pub value: ExprId,
-}
-
-/// A builtin, but `some`.
-#[derive(Clone, Copy, Debug)]
-pub enum Builtin {
-    Len,
-    Range,
-    Push,
-    Put,
-    Take,
-    Skip,
-    Min,
-    Max,
-    IsSome,
-}
-
-/// An operator of two parts.
-#[derive(Clone, Copy, Debug)]
-pub enum Binary {
-    Or,
-    And,
-    Equal,
-    NotEqual,
-    Less,
-    LessEqual,
-    Greater,
-    GreaterEqual,
-    Add,
-    Sub,
-    Mul,
-    Div,
-    Rem,
-    /// `+|`
-    CapAdd,
-    /// `-|`
-    CapSub,
-    /// `*|`
-    CapMul,
-    /// `++`
-    Join,
 }

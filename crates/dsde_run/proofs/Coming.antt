@@ -10,18 +10,16 @@ use Rattle.dsde_values.proofs.Typed.{HasType-is}
 use Rattle.dsde_input_records.specs.Record.{IsItem}
 use Rattle.dsde_sound_inputs.specs.Lawful.{TopIsDeclared}
 use Rattle.dsde_eval_meaning.specs.Typed.{AllSent}
-use Rattle.dsde_program_nodes.specs.declared.info.Info.{Info}
-use Rattle.dsde_program_nodes.specs.declared.ids.ModelId.{ModelId}
-use Rattle.dsde_program_nodes.specs.Models.{resolved, types_of}
+use Rattle.dsde_declared.specs.declared.ids.ModelId.{ModelId}
+use Rattle.dsde_declared.specs.Models.{top_ins, Own, own_ins, owns_of, top_number, types_of}
 use Rattle.dsde_check_rules.specs.Right.{IsRight}
 use Rattle.dsde_sim.specs.Working as sim
-use Rattle.dsde_sound_places.specs.Bodies.{owns_of}
 use Rattle.dsde_sound_places.specs.Laws.{BodiesStand}
 use Rattle.dsde_system.specs.Plans.{ways}
 use Rattle.dsde_sim_tree.specs.declared.sim.Sim.{Sim}
 use Rattle.dsde_sim_tree.specs.Tree.{model_of}
 use Rattle.dsde_run.specs.Heads.{Comes}
-use Rattle.dsde_run.specs.Run.{Running, info_of, no_info}
+use Rattle.dsde_run.specs.Run.{Running}
 use Rattle.dsde_run.specs.Steps.{ItemsCome}
 
 -- items with values of their ports' types
@@ -34,23 +32,22 @@ all-sent ports types (item ∷ items) all =
     )
 
 module _ (bodies : BodiesStand) (declared : TopIsDeclared) (own : Running) (right : IsRight own.model) where
-  comes-root : (root : ModelId) (head : Arrival) → root ≡ (resolved own.model).own.top_model → Comes (info_of own.model).ins (types_of own.model) head → sim.Comes own.model root head
+  comes-root : (root : ModelId) (head : Arrival) → root ≡ top_number own.model → Comes (top_ins own.model) (types_of own.model) head → sim.Comes own.model root head
   comes-root root head is_root comes =
-      let number : ℕ = (resolved own.model).own.top_model.0 in
+      let number : ℕ = (top_number own.model).0 in
       let has = bodies own.model number right (declared own.model right) in
-      let is_info : info_of own.model ≡ has.is.info = ap (λ (found : Option Info). option_map_or (λ (info : Info). info) found no_info) has.is.told in
-      let ports : (info_of own.model).ins ≡ ways own.model has.own false = ap (λ (info : Info). info.ins) is_info ∙ has.is.is.ins in
+      let ports : top_ins own.model ≡ ways own.model has.own false = ap (λ (found : Option Own). option_map_or (own_ins own.model) found []) has.is.found in
       record {
         early = comes.early;
         fits = record {
           own = has.own;
           found = ap (λ (m : ModelId). slice_get (owns_of own.model.decls) m.0) is_root ∙ has.is.found;
-          come = subst (λ (ins : List Field). AllSent (types_of own.model) ins head.items) ports (all-sent (info_of own.model).ins (types_of own.model) head.items comes.items.each);
+          come = subst (λ (ins : List Field). AllSent (types_of own.model) ins head.items) ports (all-sent (top_ins own.model) (types_of own.model) head.items comes.items.each);
         };
       }
 
-  comes-tree : (tree : Option Sim) (head : Option Arrival) → IfSome tree (λ tree. model_of tree ≡ (resolved own.model).own.top_model) →
-      IfSome head (Comes (info_of own.model).ins (types_of own.model)) → IfSome tree (λ tree. IfSome head (sim.Comes own.model (model_of tree)))
+  comes-tree : (tree : Option Sim) (head : Option Arrival) → IfSome tree (λ tree. model_of tree ≡ top_number own.model) →
+      IfSome head (Comes (top_ins own.model) (types_of own.model)) → IfSome tree (λ tree. IfSome head (sim.Comes own.model (model_of tree)))
   comes-tree None head root comes = tt
   comes-tree (Some tree) None root comes = tt
   comes-tree (Some tree) (Some head) root comes = comes-root (model_of tree) head root comes

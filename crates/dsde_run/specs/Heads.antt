@@ -10,9 +10,9 @@ use Rattle.dsde_input_records.specs.declared.end.InputEnd.TheVariants.{ReadFault
 use Rattle.dsde_input_records.specs.Record.{ArePorts, AreItems}
 use Rattle.dsde_input_records.specs.Records.{Records, end, bad, one}
 use Rattle.dsde_input.specs.Reader.{Reader, fresh, to_come, records, IsOffence}
-use Rattle.dsde_program_nodes.specs.Models.{types_of}
+use Rattle.dsde_declared.specs.Models.{top_ins, types_of}
 use Rattle.dsde_run.specs.Reading.{feeds, front}
-use Rattle.dsde_run.specs.Run.{Running, info_of}
+use Rattle.dsde_run.specs.Run.{Running}
 
 -- The head of an input: the next record, which stays the head until a turn takes it; with the ports
 -- and the types of the input, and what is held of the bytes behind it.
@@ -28,7 +28,7 @@ fresh_heads ports types = record { reader = fresh; ports = ports; types = types;
 
 -- The input is one to the model that runs.
 pub record IsInput (own : Running) (heads : Heads) : Type 0 where
-  pub ports : heads.ports ≡ (info_of own.model).ins
+  pub ports : heads.ports ≡ top_ins own.model
   pub types : heads.types ≡ types_of own.model
   pub named : ArePorts heads.ports
   pub lawful : IsLawful heads.types

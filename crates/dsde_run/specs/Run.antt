@@ -1,11 +1,9 @@
 -- A run of a program, by the definitions of runs of a system.
-use Rattle.std.specs.Prelude.{ℕ, Bool, false, List, [], Option, slice_get}
-use Rattle.std.specs.Option.{option_map_or}
+use Rattle.std.specs.Prelude.{ℕ, Bool, List, [], Option}
 use Rattle.dsde_syntax.specs.declared.decl.Model.{Model}
 use Rattle.dsde_values.specs.declared.arrival.Arrival.{Arrival}
 use Rattle.dsde_input_records.specs.Records.{Records}
-use Rattle.dsde_program_nodes.specs.declared.info.Info.{Info}
-use Rattle.dsde_program_nodes.specs.Models.{infos_of, types_of, resolved}
+use Rattle.dsde_declared.specs.Models.{top_ins, types_of}
 use Rattle.dsde_system.specs.Program.{system}
 use Rattle.dsde_sim_events.specs.declared.event.Event.{Event}
 use Rattle.dsde_sim_events.specs.declared.fault.TurnEnd.{TurnEnd}
@@ -24,14 +22,6 @@ pub record Running : Type 0 where
 
 abbrev pub running : Model → Spots → Running
 running model spots = record { model = model; spots = spots }
-
--- nothing that a model declares
-abbrev pub no_info : Info
-no_info = record { name = []; at = 0; network = false; params = []; ins = []; outs = []; boss_ins = []; boss_outs = []; states = [] }
-
--- what the model that runs declares
-abbrev pub info_of : Model → Info
-info_of model = option_map_or (λ (info : Info). info) (slice_get (infos_of model) (resolved model).own.top_model.0) no_info
 
 -- its start, a turn of it, and its runs
 abbrev pub start : Running → Told Engine
@@ -54,7 +44,7 @@ run own = runs.run (system own.model) own.spots
 
 -- the records of an input to it
 abbrev pub records_in : Running → List ℕ → Records
-records_in own bytes = runs.records_in (info_of own.model).ins (types_of own.model) bytes
+records_in own bytes = runs.records_in (top_ins own.model) (types_of own.model) bytes
 
 -- the line of an event of it, and the text of its trace
 abbrev pub event_text : Running → Event → List ℕ

@@ -6,8 +6,8 @@ use Rattle.dsde_input_records.specs.declared.end.InputEnd.{InputEnd}
 use Rattle.dsde_input.specs.Reader.{IsOffence}
 use Rattle.dsde_input_records.specs.Records.{Records, end, one}
 use Rattle.dsde_sim_events.specs.declared.event.Finish.{Finish}
-use Rattle.dsde_program_nodes.specs.declared.ids.ModelId.{ModelId}
-use Rattle.dsde_program_nodes.specs.Models.{resolved, types_of}
+use Rattle.dsde_declared.specs.declared.ids.ModelId.{ModelId}
+use Rattle.dsde_declared.specs.Models.{top_ins, top_number, types_of}
 use Rattle.dsde_sim.specs.Working as sim
 use Rattle.dsde_sim.specs.Working.{Working, HeadComes, working}
 use Rattle.dsde_sim_turns.specs.Engine.{Engine}
@@ -18,7 +18,7 @@ use Rattle.dsde_run.specs.declared.run.After.TheVariants.{Turned, Ended}
 use Rattle.dsde_run.specs.Heads.{Heads, Comes, with_head, behind_head}
 use Rattle.dsde_run.specs.Reading.{feeds, front, cut_after}
 use Rattle.dsde_run_meaning.specs.Run.{Run, offended, ended}
-use Rattle.dsde_run.specs.Run.{info_of, turn_on}
+use Rattle.dsde_run.specs.Run.{turn_on}
 
 -- The text gained the run's trace, and the answer is how the run ended.
 pub record Tells (model : Running) (run : Run) (old new : List ℕ) (how : Finish) : Type 0 where
@@ -41,12 +41,12 @@ Turns model before head after old new (Ended how) =
 
 -- The root of the tree is of the model that runs.
 abbrev pub IsRoot : Running → Engine → Type 0
-IsRoot own engine = sim.IsRoot (resolved own.model).own.top_model engine
+IsRoot own engine = sim.IsRoot (top_number own.model) engine
 
 -- A record that comes by the in ports of the model comes to the root.
 abbrev pub ItemsCome : Running → Type 0
 ItemsCome own =
-    (engine : Engine) (head : Option Arrival) → IsRoot own engine → IfSome head (Comes (info_of own.model).ins (types_of own.model))
+    (engine : Engine) (head : Option Arrival) → IsRoot own engine → IfSome head (Comes (top_ins own.model) (types_of own.model))
     → HeadComes (working own.model engine) head
 
 -- An engine is ready for the turn behind that of this engine.

@@ -3,14 +3,14 @@
 ghost use Rattle.std.specs.Prelude.{◌≡◌, ◌++◌, OnOk, OnErr};
 ghost use Rattle.dsde_values.specs.Value.{IsLawful};
 ghost use Rattle.dsde_input_records.specs.Record.{ArePorts};
-ghost use Rattle.dsde_program_nodes.specs.Models.{types_of};
+ghost use Rattle.dsde_declared.specs.Models.{top_ins, types_of};
 ghost use Rattle.dsde_run_meaning.specs.Run.{spot_at};
-ghost use Rattle.dsde_run.specs.Run.{info_of, running, event_text};
+ghost use Rattle.dsde_run.specs.Run.{running, event_text};
 ghost use Rattle.dsde_run.specs.Steps.{ItemsCome};
 
 use dsde_lexer::Places;
 use dsde_program::Program;
-use dsde_program_nodes::Info;
+use dsde_program_declared::infos_are_declared;
 use dsde_sim_events::Event;
 use dsde_sound_inputs::{ports_are_lawful, top_is_declared, types_are_lawful};
 use dsde_sound_places::bodies_stand;
@@ -24,7 +24,7 @@ use std::marker::Model;
 pub struct Running<'p> {
     program: &'p Program<'p>,
     places: &'p Places,
-    info: &'p Info,
+    ins: &'p Seq<Field>,
 }
 
 impl<'p> Model for Running<'p> {
@@ -33,6 +33,8 @@ impl<'p> Model for Running<'p> {
     ghost use Rattle.dsde_syntax.specs.contracts.decl.Model as model;
     ghost use Rattle.dsde_run.specs.Run as own;
     ghost use Rattle.dsde_check_rules.specs.Right.{IsRight};
+    ghost use Rattle.dsde_declared.specs.Models.{top_ins};
+    ghost use Rattle.dsde_input_records.specs.Record.{ArePorts};
 
     ghost Value = { own.Running };
 
@@ -40,7 +42,21 @@ impl<'p> Model for Running<'p> {
 
     ghost view = { λ running. own.running running.program.now running.places.now };
 
-    ghost invariant = { λ running. IsRight running.program.now × (running.info.now ≡ own.info_of running.program.now) };
+    ghost invariant = { λ running. IsRight running.program.now × (running.ins.now ≡ top_ins running.program.now) × ArePorts running.ins.now };
+}
+
+/// The in ports of the model that runs.
+fn ins_of<'p>(program: &'p Program<'p>) -> &'p Seq<Field>
+    ensures value { result.now ≡ top_ins program.now }
+    ensures lawful { ArePorts result.now }
+{
+    // Laws: the model that runs is one of the program's, what is told of it is what its declaration
+    // says, and its in ports are what an input may come to.
+    top_is_declared();
+    infos_are_declared();
+    ports_are_lawful();
+    program.right();
+    &program.info(program.top_model()).ins
 }
 
 impl<'p> Running<'p> {
@@ -48,13 +64,11 @@ impl<'p> Running<'p> {
     pub fn new(program: &'p Program<'p>, places: &'p Places) -> Running<'p>
         ensures { result ≡ running program.now places.now }
     {
-        // A law: the model that runs is one of the program's.
-        top_is_declared();
         program.right();
         Running {
             program,
             places,
-            info: program.info(program.top_model()),
+            ins: ins_of(program),
         }
     }
 
@@ -67,13 +81,10 @@ impl<'p> Running<'p> {
 
     /// The in ports of the model that runs.
     pub fn ins(&self) -> &'p Seq<Field>
-        ensures value { result.now ≡ (info_of self.now.model).ins }
+        ensures value { result.now ≡ top_ins self.now.model }
         ensures lawful { ArePorts result.now }
     {
-        // Laws: the in ports of a model in which nothing is wrong are what an input may come to.
-        top_is_declared();
-        ports_are_lawful();
-        &self.info.ins
+        self.ins
     }
 
     /// The types of the program.
@@ -92,7 +103,7 @@ impl<'p> Running<'p> {
     {
         bodies_stand();
         top_is_declared();
-        let _ = &self.info;
+        let _ = &self.ins;
     }
 
     /// The line and the column of a place of the model's text, both counted from 1; both are 0 where

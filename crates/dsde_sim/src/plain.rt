@@ -6,8 +6,8 @@ ghost use Rattle.dsde_values.specs.Path.{root};
 ghost use Rattle.dsde_sim_events.specs.Told.{Comes, Tells, at};
 ghost use Rattle.dsde_system.specs.Program.{system};
 ghost use Rattle.dsde_system.specs.Fitting.{FitsArgs};
-ghost use Rattle.dsde_program_nodes.specs.declared.ids.ModelId.{ModelId};
-ghost use Rattle.dsde_program_nodes.specs.Models.{resolved};
+ghost use Rattle.dsde_declared.specs.declared.ids.ModelId.{ModelId};
+ghost use Rattle.dsde_declared.specs.Models.{top_number};
 ghost use Rattle.dsde_sim_tree.specs.Tree.{model_of};
 ghost use Rattle.dsde_sim_turns.specs.Engine.{next_of};
 ghost use Rattle.dsde_sim_turns.specs.Turn.{start, started_tree, advance, turn_time};
@@ -67,10 +67,10 @@ fn started(
     args: Values,
     events: &mut Seq<Event>,
 ) -> Result<Sim, TurnEnd>
-    requires { FitsArgs program.now (resolved program.now).own.top_model.0 args }
-    ensures told { Tells (started_tree (system program.now) (resolved program.now).own.top_model args) events.old events.new result }
+    requires { FitsArgs program.now (top_number program.now).0 args }
+    ensures told { Tells (started_tree (system program.now) (top_number program.now) args) events.old events.new result }
     ensures stands { IfOk result (Stands program.now) }
-    ensures model { IfOk result (λ tree. model_of tree ≡ (resolved program.now).own.top_model) }
+    ensures model { IfOk result (λ tree. model_of tree ≡ top_number program.now) }
 {
     let root = Path::root(alloc)?;
     let (tree, _room) = start(
@@ -89,8 +89,8 @@ fn started(
 
 /// What `top` comes to: the arguments of the model that runs.
 fn chosen(alloc: Global, program: &Program) -> Result<Values, TurnEnd>
-    ensures comes { Comes (at root (system program.now).top) (chosen_by (resolved program.now).own.top_model result) }
-    ensures fits { IfOk result (λ args. FitsArgs program.now (resolved program.now).own.top_model.0 args) }
+    ensures comes { Comes (at root (system program.now).top) (chosen_by (top_number program.now) result) }
+    ensures fits { IfOk result (λ args. FitsArgs program.now (top_number program.now).0 args) }
 {
     let root = Path::root(alloc)?;
     at(alloc, &root, top_args(alloc, program))
@@ -107,7 +107,7 @@ impl<'p> Plain<'p> {
         ensures program { IfOk result (λ plain. plain.program ≡ program.now) }
         ensures ok { IfOk result (λ plain. Tells (start (system program.now)) events.old events.new (Ok plain.engine)) }
         ensures err { IfErr result (λ end. Tells (start (system program.now)) events.old events.new (Err end)) }
-        ensures root { IfOk result (λ plain. IsRoot (resolved program.now).own.top_model plain.engine) }
+        ensures root { IfOk result (λ plain. IsRoot (top_number program.now) plain.engine) }
     {
         let args = chosen(alloc, program)?;
         let tree = started(alloc, program, args, events)?;

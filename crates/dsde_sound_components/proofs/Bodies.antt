@@ -16,8 +16,8 @@ use Rattle.dsde_faults.specs.declared.kind.FaultKind.TheVariants.{TimeTooFar, Ra
 use Rattle.dsde_program_nodes.specs.declared.code.Code.{Code}
 use Rattle.dsde_program_nodes.specs.declared.ids.BlockId.{BlockId}
 use Rattle.dsde_program_nodes.specs.declared.ids.ExprId.{ExprId}
-use Rattle.dsde_program_nodes.specs.Models.{whole_of, types_of}
-use Rattle.dsde_program_nodes.specs.Statements.{state_fields, input_fields}
+use Rattle.dsde_declared.specs.Models.{whole_of, types_of, state_fields, Own, body_ins, body_outs, param_slots, state_slots}
+use Rattle.dsde_program_nodes.specs.Statements.{input_fields}
 use Rattle.dsde_check_rules.specs.Tables.{by_text}
 use Rattle.dsde_check_rules.specs.Right.{IsRight}
 use Rattle.dsde_eval_meaning.specs.Agreement.{ExpressionsAgree, BlocksAgree}
@@ -29,8 +29,9 @@ use Rattle.dsde_sound_typing.specs.Outcomes.{sound-then, sound-if}
 use Rattle.dsde_sound_typing.specs.Values.{Held, int-sound, option-sound}
 use Rattle.dsde_sound_places.specs.Places.{IsBlock}
 use Rattle.dsde_sound_places.specs.Laws.{KnownIsWithin}
-use Rattle.dsde_sound_places.specs.Bodies.{Own, BodyStands, InitsStand, body_slots, body_ins, body_outs, moved_slots, param_slots, state_slots}
-use Rattle.dsde_sound_places.specs.Conditions.{mean_of, block_of, Grown}
+use Rattle.dsde_sound_places.specs.Bodies.{BodyStands, InitsStand, body_slots, moved_slots}
+use Rattle.dsde_eval_meaning.specs.Functions.{mean_of, block_of}
+use Rattle.dsde_sound_places.specs.Conditions.{Grown}
 use Rattle.dsde_sound_functions.specs.Coded.{FunctionsAgree}
 use Rattle.dsde_formalism.specs.System.{State, Ports}
 use Rattle.dsde_system.specs.Body.{vars_of, body_vars, inits_from, after, due_after, due, sends, state_in, moved_by, internal, input_vars, is_flooded, seeing, external}

@@ -7,14 +7,14 @@ use Rattle.dsde_values.specs.When.{IsMoment}
 use Rattle.dsde_faults.specs.declared.kind.Site.TheVariants as site
 use Rattle.dsde_faults.specs.declared.end.LeafEnd.{LeafEnd}
 use Rattle.dsde_program_nodes.specs.declared.ids.BlockId.{BlockId}
-use Rattle.dsde_program_nodes.specs.declared.ids.ModelId.{ModelId}
-use Rattle.dsde_program_nodes.specs.Models.{types_of}
+use Rattle.dsde_declared.specs.declared.ids.ModelId.{ModelId}
+use Rattle.dsde_declared.specs.Models.{types_of, Own, owns_of, body_ins, body_outs, param_slots, state_slots}
 use Rattle.dsde_check_rules.specs.Right.{IsRight}
 use Rattle.dsde_eval_meaning.specs.Agreement.{ExpressionsAgree, BlocksAgree}
 use Rattle.dsde_eval_meaning.specs.Typed.{AllSent}
 use Rattle.dsde_sound_places.specs.Places.{IsBlock}
 use Rattle.dsde_sound_places.specs.Laws.{KnownIsWithin, BodiesStand, HasOwn}
-use Rattle.dsde_sound_places.specs.Bodies.{Own, BodyStands, PhaseStands, owns_of, body_ins, body_outs, moved_slots, param_slots, state_slots}
+use Rattle.dsde_sound_places.specs.Bodies.{BodyStands, PhaseStands, moved_slots}
 use Rattle.dsde_sound_functions.specs.Coded.{FunctionsAgree}
 use Rattle.dsde_formalism.specs.Leaf as formalism
 use Rattle.dsde_formalism.specs.System.{Component, State, Ports}

@@ -4,14 +4,15 @@ use Rattle.dsde_syntax.specs.declared.decl.Model.{Model}
 use Rattle.dsde_syntax.specs.declared.item.Item.{Item}
 use Rattle.dsde_values.specs.declared.value.Value.{Value}
 use Rattle.dsde_faults.specs.declared.kind.Site.TheVariants as site
-use Rattle.dsde_program_nodes.specs.declared.ids.ModelId.{ModelId}
-use Rattle.dsde_program_nodes.specs.Models.{types_of}
+use Rattle.dsde_declared.specs.declared.ids.ModelId.{ModelId}
+use Rattle.dsde_declared.specs.Models.{types_of, Own, owns_of, param_slots, state_slots}
 use Rattle.dsde_check_rules.specs.Right.{IsRight}
 use Rattle.dsde_eval_meaning.specs.Outcome.{Fault, Stuck, Outcome}
 use Rattle.dsde_eval_meaning.specs.Meaning.{Vars}
 use Rattle.dsde_eval_meaning.specs.Typed.{Sound, Fits}
-use Rattle.dsde_sound_places.specs.Bodies.{Own, owns_of, body_slots, param_slots, state_slots}
-use Rattle.dsde_sound_places.specs.Structures.{HasStructure, StructuresStand, structures_of, first_via}
+use Rattle.dsde_sound_places.specs.Bodies.{body_slots}
+use Rattle.dsde_declared.specs.Structures.{structures_of, first_via}
+use Rattle.dsde_sound_places.specs.Structures.{HasStructure, StructuresStand}
 use Rattle.dsde_sound_structures.specs.Agreement.{StructureAgrees, StructuresAgree}
 use Rattle.dsde_formalism.specs.System.{State}
 use Rattle.dsde_system.specs.Body.{at_site, vars_of, body_vars}

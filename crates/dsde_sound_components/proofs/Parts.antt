@@ -8,20 +8,20 @@ use Rattle.dsde_values.specs.declared.types.Field.{Field}
 use Rattle.dsde_values.specs.declared.types.Ty.{Ty}
 use Rattle.dsde_values.specs.declared.types.Types.{Types}
 use Rattle.dsde_program_nodes.specs.declared.ids.BlockId.{BlockId}
-use Rattle.dsde_program_nodes.specs.Models.{whole_of, types_of}
+use Rattle.dsde_declared.specs.Models.{whole_of, types_of}
 use Rattle.dsde_program_nodes.specs.Expressions.{resolve}
 use Rattle.dsde_check_rules.specs.Judge.{judge}
 use Rattle.dsde_check_rules.specs.Right.{IsRight}
 use Rattle.dsde_eval_meaning.specs.Agreement.{Agrees, ExpressionsAgree, BlockAgrees, BlocksAgree}
 use Rattle.dsde_eval_meaning.specs.Flow.{Flow, lifted}
-use Rattle.dsde_eval_meaning.specs.Functions.{functions_of}
+use Rattle.dsde_eval_meaning.specs.Functions.{functions_of, mean_of, block_of}
 use Rattle.dsde_eval_meaning.specs.Meaning.{Vars, Scene, scene}
 use Rattle.dsde_eval_meaning.specs.Outcome.{Halt, Fault, Stuck, Outcome}
 use Rattle.dsde_eval_meaning.specs.Typed.{Typed, Sound, Fits, AllSent, Faults, Lands}
 use Rattle.dsde_sound_places.specs.Places.{IsExpr, IsBlock, piece_of}
 use Rattle.dsde_sound_places.specs.Bodies.{PhaseStands}
 use Rattle.dsde_sound_places.specs.Laws.{KnownIsWithin}
-use Rattle.dsde_sound_places.specs.Conditions.{mean_of, block_of, Grown}
+use Rattle.dsde_sound_places.specs.Conditions.{Grown}
 use Rattle.dsde_sound_functions.specs.Coded.{coded_of, FuncsAgree, FunctionsAgree}
 
 module _ (model : Model) (right : IsRight model) (agree : ExpressionsAgree) (within : KnownIsWithin) (functions : FunctionsAgree) where

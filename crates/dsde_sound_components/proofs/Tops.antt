@@ -7,15 +7,16 @@ use Rattle.dsde_values.specs.declared.types.Field.{Field}
 use Rattle.dsde_values.specs.declared.value.Value.{Value}
 use Rattle.dsde_faults.specs.declared.kind.Site.TheVariants as site
 use Rattle.dsde_program_nodes.specs.declared.ids.ExprId.{ExprId}
-use Rattle.dsde_program_nodes.specs.Models.{types_of, resolved}
+use Rattle.dsde_declared.specs.Models.{top_number, types_of, TopOf, param_slots}
+use Rattle.dsde_program_nodes.specs.Models.{resolved}
 use Rattle.dsde_check_rules.specs.Right.{IsRight}
 use Rattle.dsde_eval_meaning.specs.Agreement.{ExpressionsAgree}
 use Rattle.dsde_eval_meaning.specs.Outcome.{Outcome, ◌>>=◌, present}
 use Rattle.dsde_eval_meaning.specs.Typed.{Typed, Sound}
 use Rattle.dsde_sound_typing.specs.Outcomes.{sound-then}
 use Rattle.dsde_sound_inputs.specs.Lawful.{TopIsDeclared}
-use Rattle.dsde_sound_places.specs.Bodies.{TopOf, TopStands, ArgsStand, param_slots}
-use Rattle.dsde_sound_places.specs.Conditions.{mean_of}
+use Rattle.dsde_sound_places.specs.Bodies.{TopStands, ArgsStand}
+use Rattle.dsde_eval_meaning.specs.Functions.{mean_of}
 use Rattle.dsde_sound_places.specs.Laws.{KnownIsWithin, TopsStand}
 use Rattle.dsde_sound_functions.specs.Coded.{FunctionsAgree}
 use Rattle.dsde_formalism.specs.System.{Chosen}
@@ -47,12 +48,12 @@ module _ (model : Model) (right : IsRight model) (expressions : ExpressionsAgree
   stands = tops model right
 
   abbrev choose : TopOf → Outcome Chosen
-  choose top = args_from model [] top.args >>= (λ args. Ok (record { model = (resolved model).own.top_model; args = args }))
+  choose top = args_from model [] top.args >>= (λ args. Ok (record { model = top_number model; args = args }))
 
   chosen-sound : Sound false (FitsChosen model) (choose stands.top)
   chosen-sound =
       sound-then false (Fill (types_of model) (param_slots model stands.own)) (FitsChosen model) (args_from model [] stands.top.args)
-      (λ args. Ok (record { model = (resolved model).own.top_model; args = args }))
+      (λ args. Ok (record { model = top_number model; args = args }))
       (args-sound [] (param_slots model stands.own) [] stands.top.args (resolved model).own.top_args stands.args tt)
       (λ args fill. record { is = refl; args = record { below = declared model right; own = stands.own; found = stands.at; fill = fill } })
 

@@ -5,11 +5,10 @@ use Rattle.dsde_values.specs.declared.value.Value.{Value}
 use Rattle.dsde_values.specs.When.{IsMoment}
 use Rattle.dsde_faults.specs.declared.end.LeafEnd.{LeafEnd}
 use Rattle.dsde_faults.specs.declared.end.LeafEnd.TheVariants as leaf_end
-use Rattle.dsde_program_nodes.specs.declared.ids.ModelId.{ModelId}
-use Rattle.dsde_program_nodes.specs.Models.{resolved}
+use Rattle.dsde_declared.specs.declared.ids.ModelId.{ModelId}
 use Rattle.dsde_check_rules.specs.Right.{IsRight}
 use Rattle.dsde_structure.specs.declared.plan.Plan.{Plan}
-use Rattle.dsde_sound_places.specs.Bodies.{Own, owns_of}
+use Rattle.dsde_declared.specs.Models.{top_number, Own, owns_of}
 use Rattle.dsde_formalism.specs.System.{State, Ports, Chosen}
 use Rattle.dsde_system.specs.Program.{system}
 use Rattle.dsde_system.specs.Fitting.{FitsArgs, FitsState, FitsInputs, FitsSends, IsInTime}
@@ -50,7 +49,7 @@ StructuresAreSure =
 
 -- The model that runs is chosen, with arguments that fit it.
 pub record FitsChosen (model : Model) (chosen : Chosen) : Type 0 where
-  pub is : chosen.model ≡ (resolved model).own.top_model
+  pub is : chosen.model ≡ top_number model
   pub args : FitsArgs model chosen.model.0 chosen.args
 
 abbrev pub TopIsSure : Type 0

@@ -25,7 +25,8 @@ use Rattle.dsde_check_rules.specs.Judge.{Scope}
 use Rattle.dsde_check_rules.specs.Blocks.{body_names, params_all, ports_all, body_of}
 use Rattle.dsde_check_rules.specs.Rules.{around_with, atomic_rule, inside_rule, network_rule, decl_rule, decls_rule}
 use Rattle.dsde_program_nodes.specs.declared.info.Info.{Info}
-use Rattle.dsde_program_nodes.specs.Models.{whole_of, with_info, infos_from, infos_of}
+use Rattle.dsde_declared.specs.Models.{whole_of}
+use Rattle.dsde_program_nodes.specs.Models.{with_info, infos_from, infos_of}
 use Rattle.dsde_check_rules.specs.Right.{IsRight}
 use Rattle.dsde_sound_inputs.proofs.Heads.{atomic-headed, network-headed}
 use Rattle.dsde_sound_inputs.proofs.Ports.{ports-are}

@@ -23,7 +23,7 @@ use Rattle.dsde_check_rules.specs.Steps.{◌>>=◌, unless}
 use Rattle.dsde_check_rules.specs.Tables.{port_name, by_text}
 use Rattle.dsde_check_rules.specs.Judge.{Scope, unbound, type_of}
 use Rattle.dsde_check_rules.specs.Blocks.{new_port, ports_all}
-use Rattle.dsde_program_nodes.specs.Statements.{port_fields}
+use Rattle.dsde_declared.specs.Models.{port_fields}
 use Rattle.dsde_sound_inputs.proofs.Steps.{went, holds-not}
 use Rattle.dsde_sound_inputs.proofs.Words.{worded, both, or-parts}
 

@@ -10,8 +10,8 @@ use Rattle.dsde_syntax.specs.declared.id.Id.{Id}
 use Rattle.dsde_syntax.specs.declared.item.Item.{Item}
 use Rattle.dsde_check_rules.specs.declared.known.Known.{Known}
 use Rattle.dsde_program_nodes.specs.declared.info.Info.{Info}
-use Rattle.dsde_program_nodes.specs.Models.{infos_from, resolved, whole_of, with_info}
-use Rattle.dsde_sound_places.specs.Bodies.{Own, owns_of}
+use Rattle.dsde_declared.specs.Models.{top_number, whole_of, Own, owns_of}
+use Rattle.dsde_program_nodes.specs.Models.{infos_from, with_info}
 use Rattle.dsde_sound_places.specs.Laws.{TopsStand}
 use Rattle.dsde_sound_inputs.specs.Lawful.{TopIsDeclared}
 
@@ -49,5 +49,5 @@ within (first ∷ owns) (suc number) own found = let rest = within owns number o
 pub top-is-declared : TopsStand → TopIsDeclared
 top-is-declared tops model right =
     let top = tops model right in
-    let below = within (owns_of model.decls) (resolved model).own.top_model.0 top.own top.at in
+    let below = within (owns_of model.decls) (top_number model).0 top.own top.at in
     omega (arith, below, as-many (whole_of model) [] model.decls)

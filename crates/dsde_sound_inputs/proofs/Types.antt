@@ -21,7 +21,7 @@ use Rattle.dsde_values.specs.Value.{are_distinct, is_lawful_shape, is_lawful_def
 use Rattle.dsde_check_rules.specs.declared.known.Known.{Known}
 use Rattle.dsde_check_rules.specs.declared.signatures.TypeWord.{TypeWord}
 use Rattle.dsde_check_rules.specs.Tables.{type_word, with_name, with_names, with_word, declared_word, declared_words, used_in, used_word, used_typed, used_ports, used_decl, used_words, type_words, text_fields, with_shape, shapes_from, known_of}
-use Rattle.dsde_program_nodes.specs.Models.{with_func, with_funcs, whole_of, defs_from, types_of}
+use Rattle.dsde_declared.specs.Models.{with_func, with_funcs, whole_of, defs_from, types_of}
 use Rattle.dsde_check_rules.specs.Right.{IsRight}
 use Rattle.dsde_sound_inputs.proofs.Heads.{record-worded, enum-worded, atomic-headed, network-headed}
 use Rattle.dsde_sound_inputs.proofs.Words.{worded, Both, both, and-true, or-parts, front-worded, flat-worded, tokens-worded, is_word_used, used-worded}

@@ -4,7 +4,8 @@ use Rattle.dsde_syntax.specs.declared.decl.Model.{Model}
 use Rattle.dsde_values.specs.Value.{IsLawful}
 use Rattle.dsde_input_records.specs.Record.{ArePorts}
 use Rattle.dsde_program_nodes.specs.declared.info.Info.{Info}
-use Rattle.dsde_program_nodes.specs.Models.{types_of, infos_of, resolved}
+use Rattle.dsde_declared.specs.Models.{top_number, types_of}
+use Rattle.dsde_program_nodes.specs.Models.{infos_of}
 use Rattle.dsde_check_rules.specs.Right.{IsRight}
 
 -- Types have identifiers as names, and enums have distinct identifiers as variants.
@@ -17,4 +18,4 @@ PortsAreLawful = (model : Model) → IsRight model → (number : ℕ) (info : In
 
 -- The model that runs is one of the file's.
 abbrev pub TopIsDeclared : Type 0
-TopIsDeclared = (model : Model) → IsRight model → (resolved model).own.top_model.0 < length (infos_of model)
+TopIsDeclared = (model : Model) → IsRight model → (top_number model).0 < length (infos_of model)

@@ -19,10 +19,10 @@ use Rattle.dsde_program_nodes.specs.declared.ids.ExprId.{ExprId}
 use Rattle.dsde_program_nodes.specs.declared.node.Node.{Node}
 use Rattle.dsde_program_nodes.specs.Expressions.{resolve, expr_id}
 use Rattle.dsde_program_nodes.specs.Items.{resolve_all}
-use Rattle.dsde_program_nodes.specs.Models.{whole_of, resolved}
+use Rattle.dsde_declared.specs.Models.{whole_of, typed_fields}
+use Rattle.dsde_program_nodes.specs.Models.{resolved}
 use Rattle.dsde_program_nodes.specs.Pieces as piece
 use Rattle.dsde_program_nodes.specs.Pieces.{Block, Next, Step}
-use Rattle.dsde_program_nodes.specs.Statements.{typed_fields}
 use Rattle.dsde_eval_meaning.specs.Proper.{is_proper}
 use Rattle.dsde_sound_places.specs.Places.{KnownAt}
 use Rattle.dsde_sound_places.specs.Bodies.{ArgsStand}

@@ -12,13 +12,14 @@ use Rattle.dsde_check_rules.specs.Rules.{around_with, atomic_rule, network_rule,
 use Rattle.dsde_program_nodes.specs.declared.code.Code.{Code}
 use Rattle.dsde_program_nodes.specs.declared.info.Info.{Info}
 use Rattle.dsde_program_nodes.specs.declared.node.Node.{Node}
-use Rattle.dsde_program_nodes.specs.Models.{Parts, whole_of, infos_of, infos_from, resolve_decls, resolved}
+use Rattle.dsde_declared.specs.Models.{whole_of, typed_fields, state_fields, port_fields, Own, owns_of}
+use Rattle.dsde_program_nodes.specs.Models.{Parts, infos_of, infos_from, resolve_decls, resolved}
 use Rattle.dsde_program_nodes.specs.Pieces.{Block, Next}
-use Rattle.dsde_program_nodes.specs.Statements.{typed_fields, state_fields, port_fields, resolve_body}
-use Rattle.dsde_program_nodes.specs.Typing as nodes
+use Rattle.dsde_program_nodes.specs.Statements.{resolve_body}
+use Rattle.dsde_declared.specs.Names as nodes
 use Rattle.dsde_check_rules.specs.Right.{IsRight}
 use Rattle.dsde_eval_meaning.specs.Proper.{is_proper_decl, are_plain, is_proper_body}
-use Rattle.dsde_sound_places.specs.Bodies.{Own, owns_of, BodyStands, InfoIs}
+use Rattle.dsde_sound_places.specs.Bodies.{BodyStands, InfoIs}
 use Rattle.dsde_sound_places.specs.Laws.{HasOwn}
 use Rattle.dsde_sound_typing.specs.Steps.{went}
 use Rattle.dsde_sound_places.proofs.Within.{ruled}

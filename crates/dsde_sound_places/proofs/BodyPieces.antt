@@ -7,10 +7,11 @@ use Rattle.dsde_program_nodes.specs.declared.code.Code.{Code}
 use Rattle.dsde_program_nodes.specs.declared.ids.BlockId.{BlockId}
 use Rattle.dsde_program_nodes.specs.declared.ids.ExprId.{ExprId}
 use Rattle.dsde_program_nodes.specs.declared.node.Node.{Node}
-use Rattle.dsde_program_nodes.specs.Typing.{with_slots, Scope}
+use Rattle.dsde_declared.specs.Names.{with_slots, Scope}
 use Rattle.dsde_program_nodes.specs.Expressions.{resolve}
 use Rattle.dsde_program_nodes.specs.Pieces.{Block, Next, Step, ◌>>=◌, behind, give, expr, over}
-use Rattle.dsde_program_nodes.specs.Statements.{Blocks, typed_fields, port_fields, input_fields, phase_at, resolve_states, resolve_phase, resolve_blocks, resolve_body, body_scope}
+use Rattle.dsde_declared.specs.Models.{typed_fields, port_fields}
+use Rattle.dsde_program_nodes.specs.Statements.{Blocks, input_fields, phase_at, resolve_states, resolve_phase, resolve_blocks, resolve_body, body_scope}
 use Rattle.dsde_eval_meaning.specs.Scopes.{Stands}
 use Rattle.dsde_sound_places.proofs.Pieces.{Put, put-first, put-next, put-own}
 

@@ -21,11 +21,13 @@ use Rattle.dsde_program_nodes.specs.declared.act.ActArm.{ActArm}
 use Rattle.dsde_program_nodes.specs.declared.code.Code.{Code}
 use Rattle.dsde_program_nodes.specs.declared.ids.BlockId.{BlockId}
 use Rattle.dsde_program_nodes.specs.declared.ids.ExprId.{ExprId}
-use Rattle.dsde_program_nodes.specs.Typing.{Scope, with_slots, slot_of, item_in}
+use Rattle.dsde_declared.specs.Names.{Scope, with_slots, slot_of}
+use Rattle.dsde_program_nodes.specs.Typing.{item_in}
 use Rattle.dsde_program_nodes.specs.Expressions.{Resolved, resolve, expr_id}
 use Rattle.dsde_program_nodes.specs.Items.{resolve_all}
 use Rattle.dsde_program_nodes.specs.Pieces.{Block, Next, Step, ◌>>=◌, behind, give, all, maybe, expr, bound, binding, seeing, inside, over, braced}
-use Rattle.dsde_program_nodes.specs.Statements.{Blocks, FuncParts, func_parts, resolve_func, typed_fields, port_fields, input_fields, phase_at, resolve_states, resolve_phase, resolve_blocks, resolve_body, body_scope, resolve_stmt, resolve_stmts, stmt_step, arm_step}
+use Rattle.dsde_declared.specs.Models.{typed_fields, port_fields}
+use Rattle.dsde_program_nodes.specs.Statements.{Blocks, FuncParts, func_parts, resolve_func, input_fields, phase_at, resolve_states, resolve_phase, resolve_blocks, resolve_body, body_scope, resolve_stmt, resolve_stmts, stmt_step, arm_step}
 
 -- a piece of text with this number of translations
 pub record Counts {A : Type 0} (step : Step A) (count : ℕ) : Type 0 where

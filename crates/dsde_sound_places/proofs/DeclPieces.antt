@@ -16,9 +16,11 @@ use Rattle.dsde_program_nodes.specs.declared.code.FnCode.{FnCode}
 use Rattle.dsde_program_nodes.specs.declared.ids.ExprId.{ExprId}
 use Rattle.dsde_program_nodes.specs.declared.make.Make.{Make}
 use Rattle.dsde_program_nodes.specs.declared.node.Node.{Node}
-use Rattle.dsde_program_nodes.specs.Typing.{Scope}
-use Rattle.dsde_program_nodes.specs.Items.{model_id, resolve_all, resolve_items}
-use Rattle.dsde_program_nodes.specs.Models.{Parts, place_of_items, resolve_decl}
+use Rattle.dsde_declared.specs.Names.{Scope}
+use Rattle.dsde_declared.specs.Models.{model_id}
+use Rattle.dsde_program_nodes.specs.Items.{resolve_all, resolve_items}
+use Rattle.dsde_declared.specs.Structures.{place_of_items}
+use Rattle.dsde_program_nodes.specs.Models.{Parts, resolve_decl}
 use Rattle.dsde_program_nodes.specs.Pieces.{Block, Next, Step, ◌>>=◌, behind, give, over}
 use Rattle.dsde_program_nodes.specs.Statements.{resolve_phase, resolve_func, resolve_body, body_scope}
 use Rattle.dsde_sound_places.proofs.Pieces.{Put, put-first, put-next}
@@ -49,13 +51,9 @@ module _ (nodes : List Node) (blocks : List Block) (known : Known) (rest : Step 
     pub codes : parts.codes ≡ front ++ (rest names next).own.codes
 
   -- the `top` is one behind
-  pub record TopBehind (parts behind : Parts) : Type 0 where
-    pub top_model : parts.top_model ≡ behind.top_model
-    pub top_args : parts.top_args ≡ behind.top_args
-
   pub record OtherPut (scope : Scope) (front : List Code) (parts : Parts) : Type 0 where
     pub own : RestPut scope front parts
-    pub top : TopBehind parts (rest own.names own.next).own
+    pub top_args : parts.top_args ≡ (rest own.names own.next).own.top_args
 
   module _ (name : Id) (params : List Typed) (result : TypeName) (stmts : List Stmt) (value : Expr) where
     abbrev func_parts : FnCode → Parts → Step Parts
@@ -73,7 +71,7 @@ module _ (nodes : List Node) (blocks : List Block) (known : Known) (rest : Step 
         let put1 = put-next nodes blocks first behind_func scope next put in
         record {
           own = record { names = scope; next = next1; put = put-first nodes blocks rest (func_parts one.own) scope next1 put1; names_are = refl; codes = refl };
-          top = record { top_model = refl; top_args = refl };
+          top_args = refl;
         }
 
   -- a body, and what stands behind it
@@ -99,7 +97,7 @@ module _ (nodes : List Node) (blocks : List Block) (known : Known) (rest : Step 
           own = put-first nodes blocks first behind_atomic scope next put;
           other = record {
             own = record { names = one.scope; next = next1; put = put-first nodes blocks rest (atomic_parts one.own) one.scope next1 put1; names_are = body-names known params at body scope next; codes = refl };
-            top = record { top_model = refl; top_args = refl };
+            top_args = refl;
           };
         }
 
@@ -130,14 +128,13 @@ module _ (nodes : List Node) (blocks : List Block) (known : Known) (rest : Step 
           own = put-first nodes blocks first behind_exec scope next put;
           other = record {
             own = record { names = one.scope; next = next2; put = put-first nodes blocks rest (network_parts one.own two.own) one.scope next2 put2; names_are = body-names known params exec_at body scope next; codes = refl };
-            top = record { top_model = refl; top_args = refl };
+            top_args = refl;
           };
         }
 
   -- the `top`, and what stands behind it
   pub record TopPut (scope : Scope) (next : Next) (name : Id) (args : List Expr) (parts : Parts) : Type 0 where
     pub own : Put nodes blocks next (resolve_all known args scope next)
-    pub top_model : parts.top_model ≡ model_id known name.name
     pub top_args : parts.top_args ≡ (resolve_all known args scope next).own
     pub other : RestPut scope [] parts
 
@@ -157,7 +154,6 @@ module _ (nodes : List Node) (blocks : List Block) (known : Known) (rest : Step 
         let put1 = put-next nodes blocks first behind_args scope next put in
         record {
           own = put-first nodes blocks first behind_args scope next put;
-          top_model = refl;
           top_args = refl;
           other = record { names = one.scope; next = next1; put = put-first nodes blocks rest (top_parts one.own) one.scope next1 put1; names_are = args-names known args scope next; codes = refl };
         }

@@ -20,7 +20,7 @@ use Rattle.dsde_check_rules.specs.Tables.{added, by_text, text_params, func_name
 use Rattle.dsde_check_rules.specs.Judge.{Scope, type_of}
 use Rattle.dsde_check_rules.specs.Blocks.{func_of, func_height, around_func, params_all}
 use Rattle.dsde_check_rules.specs.Rules.{apart_all}
-use Rattle.dsde_program_nodes.specs.Models.{with_func, with_funcs}
+use Rattle.dsde_declared.specs.Models.{with_func, with_funcs}
 use Rattle.dsde_sound_typing.specs.Places.{added-new}
 use Rattle.dsde_sound_typing.specs.Steps.{ok-is, Went, went}
 use Rattle.dsde_sound_places.proofs.Steps.{is_name, apart-parts, Among, among-more, among-new}

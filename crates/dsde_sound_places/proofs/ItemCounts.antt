@@ -25,11 +25,13 @@ use Rattle.dsde_program_nodes.specs.declared.make.MakeEnd.{MakeEnd}
 use Rattle.dsde_program_nodes.specs.declared.make.MakeIndex.{MakeIndex}
 use Rattle.dsde_program_nodes.specs.declared.make.MakePart.TheVariants as make_part
 use Rattle.dsde_program_nodes.specs.declared.make.MakeVia.{MakeVia}
-use Rattle.dsde_program_nodes.specs.Typing.{slot_of, slot_type, item_in, with_slot}
+use Rattle.dsde_declared.specs.Names.{slot_of, with_slot}
+use Rattle.dsde_program_nodes.specs.Typing.{slot_type, item_in}
 use Rattle.dsde_program_nodes.specs.Expressions.{resolve}
-use Rattle.dsde_program_nodes.specs.Items.{Place, end_ports, model_id, resolve_index, resolve_part, resolve_end, resolve_all, via_body, via_by, resolve_via, maybe_via, item_step, item_arm_step, resolve_item, resolve_items}
+use Rattle.dsde_declared.specs.Structures.{Place, end_ports, vias_there, via_step, via_arm_step, vias_in}
+use Rattle.dsde_declared.specs.Models.{model_id}
+use Rattle.dsde_program_nodes.specs.Items.{resolve_index, resolve_part, resolve_end, resolve_all, via_body, via_by, resolve_via, maybe_via, item_step, item_arm_step, resolve_item, resolve_items}
 use Rattle.dsde_program_nodes.specs.Pieces.{Step, ◌>>=◌, give, all, maybe, expr, bound, binding, inside}
-use Rattle.dsde_sound_places.specs.Structures.{vias_there, via_step, via_arm_step, vias_in}
 use Rattle.dsde_sound_places.proofs.Counts.{Counts, counts-as, counts-give, counts-then, counts-expr, counts-bound, counts-binding, counts-inside, counts-maybe, counts-none, counts-first, args-count}
 
 module _ (known : Known) where

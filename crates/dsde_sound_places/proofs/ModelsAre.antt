@@ -19,13 +19,12 @@ use Rattle.dsde_check_rules.specs.Judge.{Scope}
 use Rattle.dsde_check_rules.specs.Blocks.{body_names}
 use Rattle.dsde_check_rules.specs.Rules.{around_with, atomic_rule, network_rule, decl_rule, decls_rule}
 use Rattle.dsde_program_nodes.specs.declared.info.Info.{Info}
-use Rattle.dsde_program_nodes.specs.Items.{directed}
-use Rattle.dsde_program_nodes.specs.Models.{whole_of, infos_of}
-use Rattle.dsde_program_nodes.specs.Statements.{typed_fields, port_fields}
-use Rattle.dsde_program_nodes.specs.Typing.{with_slots}
+use Rattle.dsde_declared.specs.Structures.{directed}
+use Rattle.dsde_declared.specs.Models.{whole_of, typed_fields, port_fields, Own, owns_of}
+use Rattle.dsde_program_nodes.specs.Models.{infos_of}
+use Rattle.dsde_declared.specs.Names.{with_slots}
 use Rattle.dsde_check_rules.specs.Right.{IsRight}
 use Rattle.dsde_eval_meaning.specs.Proper.{is_proper_decl, are_plain, is_proper_body}
-use Rattle.dsde_sound_places.specs.Bodies.{Own, owns_of}
 use Rattle.dsde_sound_places.specs.Structures.{ModelIs, PortsApart, ModelsAre}
 use Rattle.dsde_sound_typing.specs.Places.{added-new}
 use Rattle.dsde_sound_typing.specs.Steps.{went}

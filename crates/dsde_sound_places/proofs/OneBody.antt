@@ -28,15 +28,16 @@ use Rattle.dsde_program_nodes.specs.declared.code.Code.{Code}
 use Rattle.dsde_program_nodes.specs.declared.ids.BlockId.{BlockId}
 use Rattle.dsde_program_nodes.specs.declared.ids.ExprId.{ExprId}
 use Rattle.dsde_program_nodes.specs.declared.node.Node.{Node}
-use Rattle.dsde_program_nodes.specs.Items.{directed}
-use Rattle.dsde_program_nodes.specs.Models.{whole_of, resolved}
+use Rattle.dsde_declared.specs.Structures.{directed}
+use Rattle.dsde_declared.specs.Models.{whole_of, typed_fields, state_fields, port_fields, Own, param_slots, body_ins, body_outs}
+use Rattle.dsde_program_nodes.specs.Models.{resolved}
 use Rattle.dsde_program_nodes.specs.Pieces.{Block, Next}
-use Rattle.dsde_program_nodes.specs.Statements.{typed_fields, state_fields, port_fields, list_fields, input_fields, body_scope, resolve_states}
-use Rattle.dsde_program_nodes.specs.Typing.{with_slots, elapsed_name}
+use Rattle.dsde_program_nodes.specs.Statements.{list_fields, input_fields, body_scope, resolve_states}
+use Rattle.dsde_declared.specs.Names.{with_slots, elapsed_name}
 use Rattle.dsde_eval_meaning.specs.Proper.{is_plain, are_plain, is_proper, is_proper_body, is_proper_phase}
 use Rattle.dsde_eval_meaning.specs.Scopes.{Sees, AreOuts}
 use Rattle.dsde_sound_places.specs.Places.{KnownAt, IsExpr}
-use Rattle.dsde_sound_places.specs.Bodies.{Own, BodyStands, PhaseStands, InitsStand, param_slots, body_slots, body_ins, body_outs, moved_slots}
+use Rattle.dsde_sound_places.specs.Bodies.{BodyStands, PhaseStands, InitsStand, body_slots, moved_slots}
 use Rattle.dsde_sound_typing.specs.Places.{any-map}
 use Rattle.dsde_sound_typing.specs.Seeing.{own_slot, among-slots}
 use Rattle.dsde_sound_places.proofs.Slots.{NewFields, slots-are, none-passes, elapsed_field, sees-slots, sees-moved}

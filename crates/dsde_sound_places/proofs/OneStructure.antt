@@ -14,14 +14,16 @@ use Rattle.dsde_check_rules.specs.Structures.{enter, enter_all, item_walk}
 use Rattle.dsde_program_nodes.specs.declared.code.Code.{Code}
 use Rattle.dsde_program_nodes.specs.declared.code.ViaCode.{ViaCode}
 use Rattle.dsde_program_nodes.specs.declared.node.Node.{Node}
-use Rattle.dsde_program_nodes.specs.Items.{Place, directed, resolve_items}
-use Rattle.dsde_program_nodes.specs.Models.{whole_of, place_of_items, resolved}
+use Rattle.dsde_declared.specs.Structures.{Place, directed, place_of_items, vias_in, vias_of}
+use Rattle.dsde_program_nodes.specs.Items.{resolve_items}
+use Rattle.dsde_declared.specs.Models.{whole_of, Own}
+use Rattle.dsde_program_nodes.specs.Models.{resolved}
 use Rattle.dsde_program_nodes.specs.Pieces.{Block, Next}
 use Rattle.dsde_program_nodes.specs.Statements.{body_scope}
 use Rattle.dsde_eval_meaning.specs.Scopes.{Stands}
 use Rattle.dsde_sound_grammar.specs.Items.{is_proper_item}
-use Rattle.dsde_sound_places.specs.Bodies.{Own, body_slots}
-use Rattle.dsde_sound_places.specs.Structures.{vias_in, vias_of, IsStructure}
+use Rattle.dsde_sound_places.specs.Bodies.{body_slots}
+use Rattle.dsde_sound_places.specs.Structures.{IsStructure}
 use Rattle.dsde_sound_typing.specs.Steps.{went}
 use Rattle.dsde_sound_places.proofs.Params.{PortsAre, ports-are, directed-is}
 use Rattle.dsde_sound_places.proofs.BodyPieces.{BodyPut}

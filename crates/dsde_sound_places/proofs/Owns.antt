@@ -20,12 +20,12 @@ use Rattle.dsde_check_rules.specs.Blocks.{Passed, body_names, params_all, ports_
 use Rattle.dsde_check_rules.specs.Structures.{structure_of}
 use Rattle.dsde_check_rules.specs.Rules.{around_with, atomic_rule, network_rule, inside_rule, decl_rule}
 use Rattle.dsde_program_nodes.specs.declared.node.Node.{Node}
-use Rattle.dsde_program_nodes.specs.Models.{whole_of, resolved}
+use Rattle.dsde_declared.specs.Models.{whole_of, Own}
+use Rattle.dsde_program_nodes.specs.Models.{resolved}
 use Rattle.dsde_program_nodes.specs.Pieces.{Block}
 use Rattle.dsde_check_rules.specs.Right.{IsRight}
 use Rattle.dsde_eval_meaning.specs.Proper.{are_plain, is_proper_body}
 use Rattle.dsde_sound_places.specs.Places.{KnownAt, known_behind}
-use Rattle.dsde_sound_places.specs.Bodies.{Own}
 use Rattle.dsde_sound_typing.specs.Steps.{ok-is, unless-is, Went, went}
 use Rattle.dsde_sound_typing.specs.Written.{written}
 use Rattle.dsde_sound_places.proofs.Within.{known-is-within}

@@ -20,8 +20,9 @@ use Rattle.dsde_check_rules.specs.Steps.{◌>>=◌, unless}
 use Rattle.dsde_check_rules.specs.Tables.{added, by_text, binding_name, field_name, port_name}
 use Rattle.dsde_check_rules.specs.Judge.{Scope, unbound, fixed, type_of}
 use Rattle.dsde_check_rules.specs.Blocks.{params_all, new_port, ports_all, inputs_seen}
-use Rattle.dsde_program_nodes.specs.Items.{directed}
-use Rattle.dsde_program_nodes.specs.Statements.{typed_fields, port_fields, list_fields}
+use Rattle.dsde_declared.specs.Structures.{directed}
+use Rattle.dsde_declared.specs.Models.{typed_fields, port_fields}
+use Rattle.dsde_program_nodes.specs.Statements.{list_fields}
 use Rattle.dsde_eval_meaning.specs.Scopes.{Slotted, AreOuts}
 use Rattle.dsde_sound_typing.specs.Places.{any-left, added-new, named-cons}
 use Rattle.dsde_sound_typing.specs.Truths.{or-left, or-right}

@@ -3,7 +3,7 @@ use Rattle.std.proofs.Common.{◌+◌, List, length}
 use Rattle.dsde_values.specs.declared.types.Ty.{Ty}
 use Rattle.dsde_program_nodes.specs.declared.ids.ExprId.{ExprId}
 use Rattle.dsde_program_nodes.specs.declared.node.Node.{Node}
-use Rattle.dsde_program_nodes.specs.Typing.{Scope}
+use Rattle.dsde_declared.specs.Names.{Scope}
 use Rattle.dsde_program_nodes.specs.Expressions.{Resolved, expr_id}
 use Rattle.dsde_program_nodes.specs.Pieces.{Block, Next, Piece, Step, ◌>>=◌, behind, expr}
 use Rattle.dsde_eval_meaning.specs.Scopes.{Stands}

@@ -7,7 +7,7 @@ use Rattle.dsde_values.specs.declared.types.Field.{Field}
 use Rattle.dsde_values.specs.declared.types.Ty.TheVariants as ty
 use Rattle.dsde_check_rules.specs.Judge as rules
 use Rattle.dsde_check_rules.specs.Tables.{field_name}
-use Rattle.dsde_program_nodes.specs.Typing.{with_slots, elapsed_name}
+use Rattle.dsde_declared.specs.Names.{with_slots, elapsed_name}
 use Rattle.dsde_eval_meaning.specs.Scopes.{Sees}
 use Rattle.dsde_sound_typing.specs.Places.{added-new, among-snoc, other-name}
 use Rattle.dsde_sound_typing.specs.Fitting.{field_of}

@@ -29,11 +29,12 @@ use Rattle.dsde_check_rules.specs.Rules.{around_with}
 use Rattle.dsde_program_nodes.specs.declared.ids.ExprId.{ExprId}
 use Rattle.dsde_program_nodes.specs.declared.node.Node.{Node}
 use Rattle.dsde_program_nodes.specs.Expressions.{resolve, expr_id}
-use Rattle.dsde_program_nodes.specs.Models.{whole_of, resolved}
+use Rattle.dsde_declared.specs.Models.{whole_of, state_fields}
+use Rattle.dsde_program_nodes.specs.Models.{resolved}
 use Rattle.dsde_program_nodes.specs.Pieces as piece
 use Rattle.dsde_program_nodes.specs.Pieces.{Block, Next, Step}
-use Rattle.dsde_program_nodes.specs.Statements.{state_fields, resolve_states, resolve_stmts, resolve_phase}
-use Rattle.dsde_program_nodes.specs.Typing.{with_slot}
+use Rattle.dsde_program_nodes.specs.Statements.{resolve_states, resolve_stmts, resolve_phase}
+use Rattle.dsde_declared.specs.Names.{with_slot}
 use Rattle.dsde_eval_meaning.specs.Proper.{is_plain, is_proper, is_proper_phase}
 use Rattle.dsde_eval_meaning.specs.Scopes.{Sees, AreOuts}
 use Rattle.dsde_sound_places.specs.Places.{KnownAt}

@@ -17,13 +17,14 @@ use Rattle.dsde_program_nodes.specs.declared.code.ViaCode.{ViaCode}
 use Rattle.dsde_program_nodes.specs.declared.ids.ExprId.{ExprId}
 use Rattle.dsde_program_nodes.specs.declared.make.Make.{Make}
 use Rattle.dsde_program_nodes.specs.declared.node.Node.{Node}
-use Rattle.dsde_program_nodes.specs.Typing.{Scope}
-use Rattle.dsde_program_nodes.specs.Items.{model_id, resolve_all, resolve_items}
-use Rattle.dsde_program_nodes.specs.Models.{Parts, place_of_items, resolve_decl}
+use Rattle.dsde_declared.specs.Names.{Scope}
+use Rattle.dsde_declared.specs.Models.{model_id}
+use Rattle.dsde_program_nodes.specs.Items.{resolve_all, resolve_items}
+use Rattle.dsde_declared.specs.Structures.{place_of_items, vias_in}
+use Rattle.dsde_program_nodes.specs.Models.{Parts, resolve_decl}
 use Rattle.dsde_program_nodes.specs.Pieces.{Block, Next, Piece, Step, ◌>>=◌, behind, give, over}
 use Rattle.dsde_program_nodes.specs.Statements.{resolve_func, resolve_body, body_scope}
 use Rattle.dsde_eval_meaning.specs.Scopes.{Stands}
-use Rattle.dsde_sound_places.specs.Structures.{vias_in}
 use Rattle.dsde_sound_typing.specs.Standing.{stands-left, stands-right}
 use Rattle.dsde_sound_places.proofs.Pieces.{Put, put-first, put-next}
 use Rattle.dsde_sound_places.proofs.Counts.{args-count, func-count, body-counts}

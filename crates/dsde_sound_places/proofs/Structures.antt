@@ -16,16 +16,17 @@ use Rattle.dsde_program_nodes.specs.declared.code.ViaCode.{ViaCode}
 use Rattle.dsde_program_nodes.specs.declared.make.Make.{Make}
 use Rattle.dsde_program_nodes.specs.declared.node.Node.{Node}
 use Rattle.dsde_program_nodes.specs.Items.{resolve_items}
-use Rattle.dsde_program_nodes.specs.Models.{Parts, place_of_items, whole_of, resolve_decls, resolved}
+use Rattle.dsde_declared.specs.Structures.{place_of_items, structures_of, vias_in, vias_of_structures, vias_of}
+use Rattle.dsde_declared.specs.Models.{whole_of, Own, owns_of}
+use Rattle.dsde_program_nodes.specs.Models.{Parts, resolve_decls, resolved}
 use Rattle.dsde_program_nodes.specs.Pieces.{Block, Next}
 use Rattle.dsde_program_nodes.specs.Statements.{body_scope, resolve_body}
-use Rattle.dsde_program_nodes.specs.Typing as nodes
+use Rattle.dsde_declared.specs.Names as nodes
 use Rattle.dsde_check_rules.specs.Right.{IsRight}
 use Rattle.dsde_eval_meaning.specs.Proper.{is_proper_decl, are_plain, is_proper_body}
 use Rattle.dsde_eval_meaning.specs.Scopes.{Stands}
 use Rattle.dsde_sound_grammar.specs.Items.{has_proper_items}
-use Rattle.dsde_sound_places.specs.Bodies.{Own, owns_of}
-use Rattle.dsde_sound_places.specs.Structures.{structures_of, vias_in, vias_of_structures, vias_of, IsStructure, HasStructure}
+use Rattle.dsde_sound_places.specs.Structures.{IsStructure, HasStructure}
 use Rattle.dsde_sound_typing.specs.Steps.{went}
 use Rattle.dsde_sound_places.proofs.Within.{ruled}
 use Rattle.dsde_sound_typing.specs.Standing.{stands-left, stands-right, stands-whole}

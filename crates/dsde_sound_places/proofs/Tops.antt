@@ -5,6 +5,7 @@ use Rattle.std.proofs.lemmas.Bool.Decides.{nat_tests}
 use Rattle.std.proofs.lemmas.Option.{slice_get-map}
 use Rattle.std.specs.Cmp.Lexicographic.{bytes_decides}
 use Rattle.std.specs.List.{list_any, list_all}
+use Rattle.std.specs.Option.{option_map_or}
 use Rattle.dsde_syntax.specs.declared.expr.Expr.{Expr}
 use Rattle.dsde_syntax.specs.declared.decl.Decl.{Decl}
 use Rattle.dsde_syntax.specs.declared.decl.Decl.TheVariants as decl
@@ -23,16 +24,17 @@ use Rattle.dsde_check_rules.specs.Structures.{args_of, model_named}
 use Rattle.dsde_check_rules.specs.Rules.{around_with, top_rule, decl_rule, decls_rule, is_top}
 use Rattle.dsde_program_nodes.specs.declared.code.Code.{Code}
 use Rattle.dsde_program_nodes.specs.declared.ids.ExprId.{ExprId}
-use Rattle.dsde_program_nodes.specs.declared.ids.ModelId.{ModelId}
+use Rattle.dsde_declared.specs.declared.ids.ModelId.{ModelId}
 use Rattle.dsde_program_nodes.specs.declared.node.Node.{Node}
-use Rattle.dsde_program_nodes.specs.Items.{model_id, resolve_all}
-use Rattle.dsde_program_nodes.specs.Models.{Parts, whole_of, resolve_decls, resolved}
+use Rattle.dsde_declared.specs.Models.{top_number, model_id, whole_of, Own, owns_of, TopOf, top_in, param_slots}
+use Rattle.dsde_program_nodes.specs.Items.{resolve_all}
+use Rattle.dsde_program_nodes.specs.Models.{Parts, resolve_decls, resolved}
 use Rattle.dsde_program_nodes.specs.Pieces.{Block, Next}
-use Rattle.dsde_program_nodes.specs.Typing.{Scope}
+use Rattle.dsde_declared.specs.Names.{Scope}
 use Rattle.dsde_check_rules.specs.Right.{IsRight}
 use Rattle.dsde_eval_meaning.specs.Proper.{is_proper, is_proper_decl}
 use Rattle.dsde_sound_places.specs.Places.{KnownAt}
-use Rattle.dsde_sound_places.specs.Bodies.{Own, owns_of, ArgsStand, TopOf, top_in, TopStands, param_slots}
+use Rattle.dsde_sound_places.specs.Bodies.{ArgsStand, TopStands}
 use Rattle.dsde_sound_typing.specs.Places.{Placed, placed, position-at, Passes}
 use Rattle.dsde_sound_typing.specs.Steps.{unless-is, went}
 use Rattle.dsde_sound_places.proofs.Steps.{among-none}
@@ -77,7 +79,6 @@ module _ (model : Model) (right : IsRight model) where
     proper : list_all is_proper args ≡ true
     next : Next
     put : Put node_table block_table next (resolve_all whole args [] next)
-    top_model : parts.top_model ≡ model_id whole name.name
     top_args : parts.top_args ≡ (resolve_all whole args [] next).own
 
   abbrev HasTop : List Decl → Type 0
@@ -104,8 +105,7 @@ module _ (model : Model) (right : IsRight model) where
         proper = top.proper;
         next = top.next;
         put = top.put;
-        top_model = here.top.top_model ∙ ap (λ (p : Parts). p.top_model) same_parts ∙ top.top_model;
-        top_args = here.top.top_args ∙ ap (λ (p : Parts). p.top_args) same_parts ∙ top.top_args;
+        top_args = here.top_args ∙ ap (λ (p : Parts). p.top_args) same_parts ∙ top.top_args;
       }
 
   type-behind : (own : Decl) (rest : List Decl) (parts : Parts) → TopAt rest parts → top_in (own ∷ rest) ≡ top_in rest → TopAt (own ∷ rest) parts
@@ -120,7 +120,6 @@ module _ (model : Model) (right : IsRight model) where
     proper = top.proper;
     next = top.next;
     put = top.put;
-    top_model = top.top_model;
     top_args = top.top_args;
   }
 
@@ -162,7 +161,6 @@ module _ (model : Model) (right : IsRight model) where
         proper = (and_parts (is_proper_decl own) (list_all is_proper_decl rest) proper).0;
         next = next;
         put = here.own;
-        top_model = here.top_model;
         top_args = here.top_args;
       }
 
@@ -217,7 +215,9 @@ module _ (model : Model) (right : IsRight model) where
       let named : called.sig.name ≡ top.name.name = ap (λ (s : ModelSig). s.name) (sym same) ∙ (bytes_decides passes.own.name top.name.name).0 passes.passes in
       let models : whole.models ≡ top.known.models = models-stay (known_of model.decls) model.decls ∙ sym (known-models model top.known right top.known_here) in
       let place : place_of model_name whole.models top.name.name ≡ Some here.place = ap (λ (l : List ModelSig). place_of model_name l top.name.name) models ∙ here.found in
-      let number : (resolved model).own.top_model.0 ≡ here.place = ap (λ (id : ModelId). id.0) top.top_model ∙ ap (λ (o : Option ℕ). unwrap_or o 0) place in
+      let named_top : top_number model ≡ model_id whole top.name.name =
+      ap (λ (o : Option TopOf). option_map_or (λ (own : TopOf). model_id whole own.name) o (let first : ModelId = record { 0 = 0 } in first)) top.found in
+      let number : (top_number model).0 ≡ here.place = ap (λ (id : ModelId). id.0) named_top ∙ ap (λ (o : Option ℕ). unwrap_or o 0) place in
       let params : called.sig.params ≡ text_params whole.words text.own.params =
       ap (λ (s : ModelSig). s.params) (sym text.is) ∙ ap (λ (l : List TypeWord). text_params l text.own.params) (sym (words-stay (known_of model.decls) model.decls)) in
       record {

@@ -19,7 +19,7 @@ use Rattle.dsde_check_rules.specs.declared.signatures.TypeWord.{TypeWord}
 use Rattle.dsde_check_rules.specs.Tables.{type_word, with_word, with_name, with_names, declared_words, used_in, used_word, used_typed, used_ports, used_decl, used_words, type_words, numbered, text_fields, shapes_from, added}
 use Rattle.dsde_check_rules.specs.Judge.{variants_in}
 use Rattle.dsde_check_rules.specs.Rules.{own_name, apart_all}
-use Rattle.dsde_program_nodes.specs.Models.{defs_from}
+use Rattle.dsde_declared.specs.Models.{defs_from}
 use Rattle.dsde_sound_typing.specs.Places.{added-new}
 use Rattle.dsde_sound_places.proofs.Steps.{is_name, apart-parts, Among, among-none, among-more, among-new}
 

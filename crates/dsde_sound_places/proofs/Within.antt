@@ -22,7 +22,7 @@ use Rattle.dsde_check_rules.specs.Tables.{func_name, type_word, type_words, with
 use Rattle.dsde_check_rules.specs.Judge.{declared_type, variants_at, variants_in}
 use Rattle.dsde_check_rules.specs.Blocks.{body_names, func_of}
 use Rattle.dsde_check_rules.specs.Rules.{own_name, apart_all, distinct, record_rule, atomic_rule, network_rule, top_rule, around_with, behind_type, behind_func, decl_rule, decls_rule, top_rules, rules}
-use Rattle.dsde_program_nodes.specs.Models.{with_funcs, whole_of, types_of, defs_from}
+use Rattle.dsde_declared.specs.Models.{with_funcs, whole_of, types_of, defs_from}
 use Rattle.dsde_program_nodes.specs.Typing.{func_type}
 use Rattle.dsde_check_rules.specs.Right.{IsRight}
 use Rattle.dsde_eval_meaning.specs.Scopes.{Within, IsDeclared, AreVariants}

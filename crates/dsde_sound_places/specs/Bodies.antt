@@ -1,15 +1,9 @@
 -- Bodies of a model: of its atomic models, and of the executives of its networks.
-use Rattle.std.specs.Prelude.{◌≡◌, ℕ, Bool, true, false, List, [], ◌∷◌, ◌++◌, Option, Some, None, slice_get}
+use Rattle.std.specs.Prelude.{◌≡◌, ℕ, true, false, List, [], ◌∷◌, ◌++◌, Option, Some, None, slice_get}
 use Rattle.dsde_syntax.specs.declared.expr.Expr.{Expr}
-use Rattle.dsde_syntax.specs.declared.id.Id.{Id}
-use Rattle.dsde_syntax.specs.declared.decl.Body.{Body}
-use Rattle.dsde_syntax.specs.declared.decl.Decl.{Decl}
-use Rattle.dsde_syntax.specs.declared.decl.Decl.TheVariants as decl
 use Rattle.dsde_syntax.specs.declared.decl.Model.{Model}
 use Rattle.dsde_syntax.specs.declared.decl.Phase.{Phase}
-use Rattle.dsde_syntax.specs.declared.decl.PortDecl.{PortDecl}
 use Rattle.dsde_syntax.specs.declared.decl.StateDecl.{StateDecl}
-use Rattle.dsde_syntax.specs.declared.decl.Typed.{Typed}
 use Rattle.dsde_values.specs.declared.types.Field.{Field}
 use Rattle.dsde_values.specs.declared.types.Ty.TheVariants as ty
 use Rattle.dsde_check_rules.specs.Tables.{by_text}
@@ -17,47 +11,13 @@ use Rattle.dsde_program_nodes.specs.declared.code.Code.{Code}
 use Rattle.dsde_program_nodes.specs.declared.ids.BlockId.{BlockId}
 use Rattle.dsde_program_nodes.specs.declared.ids.ExprId.{ExprId}
 use Rattle.dsde_program_nodes.specs.declared.info.Info.{Info}
-use Rattle.dsde_program_nodes.specs.Models.{whole_of, infos_of, resolved}
-use Rattle.dsde_program_nodes.specs.Statements.{typed_fields, state_fields, port_fields, input_fields, phase_at}
+use Rattle.dsde_declared.specs.Models.{top_number, whole_of, port_fields, Own, owns_of, param_slots, state_slots, body_ins, body_outs, TopOf, top_in}
+use Rattle.dsde_program_nodes.specs.Models.{infos_of, resolved}
+use Rattle.dsde_program_nodes.specs.Statements.{input_fields, phase_at}
 use Rattle.dsde_sound_places.specs.Places.{IsExpr, IsBlock}
-
--- an atomic model, or a network with the body of its executive; its own ports
-pub record Own : Type 0 where
-  pub name : Id
-  pub at : ℕ
-  pub network : Bool
-  pub params : List Typed
-  pub ports : List PortDecl
-  pub start_at : ℕ
-  pub body : Body
-
-abbrev pub own_of : Decl → List Own
-own_of (decl.Atomic at name params body) =
-    record { name = name; at = at; network = false; params = params; ports = body.ports; start_at = at; body = body } ∷ []
-own_of (decl.Network at name params ports exec_at body items) =
-    record { name = name; at = at; network = true; params = params; ports = ports; start_at = exec_at; body = body } ∷ []
-own_of _ = []
-
--- the atomic models and networks of a file, in text order
-abbrev pub owns_of : List Decl → List Own
-owns_of [] = []
-owns_of (own ∷ decls) = own_of own ++ owns_of decls
-
--- the slots of parameters, of state variables, and of what external and confluent see beside them
-abbrev pub param_slots : Model → Own → List Field
-param_slots model own = typed_fields (whole_of model) own.params
-
-abbrev pub state_slots : Model → Own → List Field
-state_slots model own = state_fields (whole_of model) own.body.states
 
 abbrev pub body_slots : Model → Own → List Field
 body_slots model own = param_slots model own ++ state_slots model own
-
-abbrev pub body_ins : Model → Own → List Field
-body_ins model own = port_fields (whole_of model) false own.body.ports
-
-abbrev pub body_outs : Model → Own → List Field
-body_outs model own = port_fields (whole_of model) true own.body.ports
 
 abbrev pub moved_slots : Model → Own → List Field
 moved_slots model own = body_slots model own ++ input_fields (body_ins model own)
@@ -115,21 +75,11 @@ ArgsStand model (field ∷ fields) (arg ∷ args) (number ∷ numbers) =
     IsExpr model false [] number.0 arg field.ty × ArgsStand model fields args numbers
 ArgsStand model _ _ _ = ⊥
 
--- the identifier and the arguments of `top`
-pub record TopOf : Type 0 where
-  pub name : List ℕ
-  pub args : List Expr
-
-abbrev pub top_in : List Decl → Option TopOf
-top_in [] = None
-top_in (decl.Top at name args ∷ decls) = Some (record { name = name.name; args = args })
-top_in (_ ∷ decls) = top_in decls
-
 -- The model that runs, by the number that its name has, and its arguments, each at its number.
 pub record TopStands (model : Model) : Type 0 where
   pub top : TopOf
   pub found : top_in model.decls ≡ Some top
   pub own : Own
-  pub at : slice_get (owns_of model.decls) (resolved model).own.top_model.0 ≡ Some own
+  pub at : slice_get (owns_of model.decls) (top_number model).0 ≡ Some own
   pub named : own.name.name ≡ top.name
   pub args : ArgsStand model (param_slots model own) top.args (resolved model).own.top_args

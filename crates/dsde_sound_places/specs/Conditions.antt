@@ -11,20 +11,14 @@ use Rattle.dsde_values.specs.declared.value.Value.{Value}
 use Rattle.dsde_values.specs.declared.value.Value.TheVariants as value
 use Rattle.dsde_faults.specs.declared.end.EvalEnd.{EvalEnd}
 use Rattle.dsde_program_nodes.specs.declared.code.ViaCode.{ViaCode}
-use Rattle.dsde_program_nodes.specs.Models.{whole_of, types_of, resolved}
+use Rattle.dsde_declared.specs.Models.{types_of}
+use Rattle.dsde_program_nodes.specs.Models.{resolved}
 use Rattle.dsde_eval_meaning.specs.Outcome.{Stuck, Gives, option_of}
-use Rattle.dsde_eval_meaning.specs.Meaning.{Vars, Mean, Walk, mean, block, scene}
-use Rattle.dsde_eval_meaning.specs.Functions.{functions_of}
+use Rattle.dsde_eval_meaning.specs.Meaning.{Vars, scene}
+use Rattle.dsde_eval_meaning.specs.Functions.{mean_of, block_of}
 use Rattle.dsde_eval_meaning.specs.Tables.{Flows}
 use Rattle.dsde_eval_meaning.specs.Typed.{Typed, Sound, Fits, AllSent, Lands, values_in, seen}
 use Rattle.dsde_sound_places.specs.Places.{IsExpr, IsBlock, piece_of}
-
--- what an expression of a model means, and what the statements of a block of it do
-abbrev pub mean_of : Model → Expr → Mean
-mean_of model expr = mean (whole_of model) (functions_of model) expr
-
-abbrev pub block_of : Model → List Field → List Stmt → Walk
-block_of model outs stmts = block (whole_of model) (functions_of model) outs stmts
 
 -- Some expression has this number, and these are values of what it sees.
 pub record CanEval (model : Model) (number : ℕ) (values : List Value) : Type 0 where

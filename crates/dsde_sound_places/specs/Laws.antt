@@ -2,11 +2,12 @@
 use Rattle.std.specs.Prelude.{ℕ, ◌<◌, length}
 use Rattle.dsde_syntax.specs.declared.decl.Model.{Model}
 use Rattle.dsde_check_rules.specs.declared.known.Known.{Known}
-use Rattle.dsde_program_nodes.specs.Models.{whole_of, infos_of, types_of}
+use Rattle.dsde_declared.specs.Models.{whole_of, types_of, Own}
+use Rattle.dsde_program_nodes.specs.Models.{infos_of}
 use Rattle.dsde_check_rules.specs.Right.{IsRight}
 use Rattle.dsde_eval_meaning.specs.Scopes.{Within}
 use Rattle.dsde_sound_places.specs.Places.{KnownAt}
-use Rattle.dsde_sound_places.specs.Bodies.{Own, IsOwn, TopStands}
+use Rattle.dsde_sound_places.specs.Bodies.{IsOwn, TopStands}
 
 abbrev pub KnownIsWithin : Type 0
 KnownIsWithin = (model : Model) (known : Known) → IsRight model → KnownAt model known → Within (types_of model) known (whole_of model)

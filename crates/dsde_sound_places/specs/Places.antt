@@ -21,7 +21,8 @@ use Rattle.dsde_check_rules.specs.Rules.{decl_rule}
 use Rattle.dsde_program_nodes.specs.Expressions.{resolve}
 use Rattle.dsde_program_nodes.specs.Pieces.{Block, Next, Piece}
 use Rattle.dsde_program_nodes.specs.Statements.{resolve_stmts}
-use Rattle.dsde_program_nodes.specs.Models.{whole_of, resolved}
+use Rattle.dsde_declared.specs.Models.{whole_of}
+use Rattle.dsde_program_nodes.specs.Models.{resolved}
 use Rattle.dsde_eval_meaning.specs.Proper.{is_proper, is_proper_stmt}
 use Rattle.dsde_eval_meaning.specs.Scopes.{Stands, Sees, AreOuts}
 

@@ -1,13 +1,8 @@
 -- Structures of a model: where the items of its networks stand, in its file and in its tables.
-use Rattle.std.specs.Prelude.{◌≡◌, ℕ, ◌<◌, ◌≤◌, Bool, true, false, List, [], ◌∷◌, ◌++◌, length, map, take, Option, Some, None, Ok, slice_get}
+use Rattle.std.specs.Prelude.{◌≡◌, ℕ, ◌<◌, ◌≤◌, Bool, true, false, List, [], length, map, Some, Ok, slice_get}
 use Rattle.std.specs.List.{flat_map, list_all}
-use Rattle.dsde_syntax.specs.declared.decl.Decl.{Decl}
-use Rattle.dsde_syntax.specs.declared.decl.Decl.TheVariants as decl
 use Rattle.dsde_syntax.specs.declared.decl.Model.{Model}
 use Rattle.dsde_syntax.specs.declared.item.Item.{Item}
-use Rattle.dsde_syntax.specs.declared.item.Item.TheOpen.{Item-F, ItemArm-F}
-use Rattle.dsde_syntax.specs.declared.item.Item.TheFolds.{fold-Item}
-use Rattle.dsde_syntax.specs.declared.item.ViaPart.{ViaPart}
 use Rattle.dsde_values.specs.declared.types.Field.{Field}
 use Rattle.dsde_check_rules.specs.declared.known.Around.{Around}
 use Rattle.dsde_check_rules.specs.declared.known.Known.{Known}
@@ -19,56 +14,17 @@ use Rattle.dsde_check_rules.specs.Judge as rules
 use Rattle.dsde_check_rules.specs.Structures.{enter, enter_all, item_walk}
 use Rattle.dsde_program_nodes.specs.declared.make.Make.{Make}
 use Rattle.dsde_program_nodes.specs.Items.{resolve_items}
-use Rattle.dsde_program_nodes.specs.Items as nodes
-use Rattle.dsde_program_nodes.specs.Models.{whole_of, infos_of, place_of_items, resolved}
+use Rattle.dsde_declared.specs.Structures as nodes
+use Rattle.dsde_declared.specs.Models.{whole_of, port_fields, Own, owns_of, param_slots}
+use Rattle.dsde_declared.specs.Structures.{place_of_items, structures_of, vias_in, vias_of, first_via}
+use Rattle.dsde_program_nodes.specs.Models.{infos_of, resolved}
 use Rattle.dsde_program_nodes.specs.Pieces.{Next, Piece}
-use Rattle.dsde_program_nodes.specs.Statements.{port_fields}
-use Rattle.dsde_program_nodes.specs.Typing.{with_slots}
+use Rattle.dsde_declared.specs.Names.{with_slots}
 use Rattle.dsde_check_rules.specs.Right.{IsRight}
 use Rattle.dsde_eval_meaning.specs.Scopes.{Stands, Sees}
 use Rattle.dsde_sound_grammar.specs.Items.{is_proper_item}
 use Rattle.dsde_sound_places.specs.Places.{KnownAt}
-use Rattle.dsde_sound_places.specs.Bodies.{Own, owns_of, param_slots, body_slots}
-
--- the items of the structure of an atomic model, which has none, or of a network
-abbrev pub structure_in : Decl → List (List Item)
-structure_in (decl.Atomic at name params body) = [] ∷ []
-structure_in (decl.Network at name params ports exec_at body items) = items ∷ []
-structure_in _ = []
-
--- those of all atomic models and networks of a file, in text order
-abbrev pub structures_of : List Decl → List (List Item)
-structures_of decls = flat_map structure_in decls
-
--- the translations of a link
-abbrev pub vias_there : Option ViaPart → List ViaPart
-vias_there None = []
-vias_there (Some via) = via ∷ []
-
-abbrev pub last_vias : Option (List (List ViaPart)) → List ViaPart
-last_vias None = []
-last_vias (Some body) = flat_map (λ own. own) body
-
-abbrev pub via_step : Item-F (List ViaPart) (List ViaPart) → List ViaPart
-via_step (Item-F.Comp at name index model args) = []
-via_step (Item-F.Link at source target via) = vias_there via
-via_step (Item-F.Let name value) = []
-via_step (Item-F.If arms other) = flat_map (λ own. own) arms ++ last_vias other
-via_step (Item-F.For name list body) = flat_map (λ own. own) body
-
-abbrev pub via_arm_step : ItemArm-F (List ViaPart) (List ViaPart) → List ViaPart
-via_arm_step arm = flat_map (λ own. own) arm.body
-
--- the translations of an item, in text order
-abbrev pub vias_in : Item → List ViaPart
-vias_in = fold-Item (List ViaPart) (List ViaPart) via_step via_arm_step
-
-abbrev pub vias_of_structures : List (List Item) → List ViaPart
-vias_of_structures structures = flat_map (λ items. flat_map vias_in items) structures
-
--- the translations of a model, in text order: each has its index here as its number
-abbrev pub vias_of : Model → List ViaPart
-vias_of model = vias_of_structures (structures_of model.decls)
+use Rattle.dsde_sound_places.specs.Bodies.{body_slots}
 
 -- the items of a structure, from these numbers on
 abbrev pub piece_of_items : Model → Own → List Item → Next → Piece (List Make)
@@ -105,10 +61,6 @@ pub record IsStructure (model : Model) (own : Own) (items : List Item) (via : �
   pub texts : Stands (vias_of model) next.via (flat_map vias_in items)
   pub at : next.via ≡ via
   pub made : makes ≡ (piece_of_items model own items next).own
-
--- the number of the first translation of the structure with a number
-abbrev pub first_via : Model → ℕ → ℕ
-first_via model number = length (vias_of_structures (take number (structures_of model.decls)))
 
 -- The network with a number has a structure in which nothing is wrong.
 pub record HasStructure (model : Model) (number : ℕ) (own : Own) : Type 0 where

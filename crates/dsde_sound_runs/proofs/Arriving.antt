@@ -1,5 +1,5 @@
 -- The records that bytes spell come to the model that runs.
-use Rattle.std.proofs.Common.{◌≡◌, ◌↔◌, ℕ, suc, Bool, true, false, List, [], ◌∷◌, Option, Some, None, Result, Ok, Err, max, nat_lt, unwrap_or, length, refl, sym, ap, subst, arith}
+use Rattle.std.proofs.Common.{◌≡◌, ◌∙◌, ◌↔◌, ℕ, suc, Bool, true, false, List, [], ◌∷◌, Option, Some, None, Result, Ok, Err, max, nat_lt, unwrap_or, length, refl, sym, ap, subst, arith}
 use Rattle.std.specs.Prelude.{if◌then◌else◌}
 use Rattle.std.specs.List.{All}
 use Rattle.std.specs.Option.{option_map_or}
@@ -10,8 +10,7 @@ use Rattle.dsde_values.specs.declared.types.Field.{Field}
 use Rattle.dsde_values.specs.declared.types.Types.{Types}
 use Rattle.dsde_values.specs.Value.{IsLawful}
 use Rattle.dsde_values.proofs.Typed.{HasType-is}
-use Rattle.dsde_program_nodes.specs.declared.info.Info.{Info}
-use Rattle.dsde_program_nodes.specs.Models.{resolved, types_of}
+use Rattle.dsde_declared.specs.Models.{Own, own_ins, top_ins, top_number, types_of}
 use Rattle.dsde_check_rules.specs.Right.{IsRight}
 use Rattle.dsde_input.specs.Reader.{IsOffence}
 use Rattle.dsde_input_records.specs.declared.end.InputEnd.{InputEnd}
@@ -23,7 +22,7 @@ use Rattle.dsde_eval_meaning.specs.Typed.{AllSent}
 use Rattle.dsde_run_meaning.specs.Run.{records_in}
 use Rattle.dsde_sound_inputs.specs.Lawful.{PortsAreLawful, TopIsDeclared, TypesAreLawful}
 use Rattle.dsde_sound_places.specs.Laws.{BodiesStand, HasOwn}
-use Rattle.dsde_sound_runs.specs.Ends.{AllArrive, Arrives, top_ins}
+use Rattle.dsde_sound_runs.specs.Ends.{AllArrive, Arrives}
 
 all-sent : (ports : List Field) (types : Types) (items : List Item) → All (IsItem ports types) items → AllSent types ports items
 all-sent ports types [] all = tt
@@ -75,7 +74,7 @@ RecordsAreSpelled =
 
 module _ (records : RecordsAreSpelled) (lawful : TypesAreLawful) (ports_are : PortsAreLawful) (declared : TopIsDeclared) (bodies : BodiesStand) (model : Model) (right : IsRight model) where
   abbrev number : ℕ
-  number = (resolved model).own.top_model.0
+  number = (top_number model).0
 
   has : HasOwn model number
   has = bodies model number right (declared model right)
@@ -84,7 +83,7 @@ module _ (records : RecordsAreSpelled) (lawful : TypesAreLawful) (ports_are : Po
   ins = has.is.info.ins
 
   top-ins-are : top_ins model ≡ ins
-  top-ins-are = ap (λ (found : Option Info). option_map_or (λ (info : Info). info.ins) found []) has.is.told
+  top-ins-are = ap (λ (found : Option Own). option_map_or (own_ins model) found []) has.is.found ∙ sym has.is.is.ins
 
   spelled-arrives : (line_number : ℕ) (line : List ℕ) (arrival : Arrival) → record_of ins (types_of model) line_number line ≡ Some arrival → Arrives model arrival
   spelled-arrives line_number line arrival is =
@@ -94,7 +93,7 @@ module _ (records : RecordsAreSpelled) (lawful : TypesAreLawful) (ports_are : Po
         items = record {
           own = has.own;
           found = has.is.found;
-          come = subst (λ (own_ins : List Field). AllSent (types_of model) own_ins arrival.items) has.is.is.ins (all-sent ins (types_of model) arrival.items spells.items.each);
+          come = subst (λ (ports : List Field). AllSent (types_of model) ports arrival.items) has.is.is.ins (all-sent ins (types_of model) arrival.items spells.items.each);
         };
       }
 

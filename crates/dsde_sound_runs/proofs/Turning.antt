@@ -10,9 +10,8 @@ use Rattle.dsde_values.specs.declared.when.When.{When}
 use Rattle.dsde_values.specs.declared.when.When.TheVariants.{Never}
 use Rattle.dsde_values.specs.Path.{root}
 use Rattle.dsde_values.specs.When.{IsMoment}
-use Rattle.dsde_program_nodes.specs.declared.ids.ModelId.{ModelId}
-use Rattle.dsde_program_nodes.specs.Models.{resolved, types_of}
-use Rattle.dsde_sound_places.specs.Bodies.{owns_of}
+use Rattle.dsde_declared.specs.declared.ids.ModelId.{ModelId}
+use Rattle.dsde_declared.specs.Models.{top_number, types_of, owns_of}
 use Rattle.dsde_formalism.specs.System.{Ports}
 use Rattle.dsde_system.specs.Program.{system}
 use Rattle.dsde_system.specs.Fitting.{FitsArgs, IsInTime, Reach}
@@ -45,7 +44,7 @@ pub record Stands (model : Model) (engine : Engine) : Type 0 where
   pub tree : Sim
   pub is : engine.tree ≡ Some tree
   pub fits : FitsTree model tree
-  pub root : model_of tree ≡ (resolved model).own.top_model
+  pub root : model_of tree ≡ top_number model
 
 abbrev pub Behind : Model → Step × Engine → Type 0
 Behind model answer = Stands model answer.1
@@ -96,7 +95,7 @@ module _ (model : Model) (laws : Laws model) where
   none-come own fits = let one : Stood model own = stood model own fits in record { own = one.stands; found = one.found; come = tt }
 
   -- the items of a head that may be taken
-  items-come : (own : Sim) → FitsTree model own → model_of own ≡ (resolved model).own.top_model → (head : Option Arrival) (time : ℕ) → IfSome head (Arrives model) → ComeBy model (model_of own).0 (items_at head time)
+  items-come : (own : Sim) → FitsTree model own → model_of own ≡ top_number model → (head : Option Arrival) (time : ℕ) → IfSome head (Arrives model) → ComeBy model (model_of own).0 (items_at head time)
   items-come own fits root_is None time arrive = none-come own fits
   items-come own fits root_is (Some head) time arrive = by-test (head.time == time)
     where
@@ -104,7 +103,7 @@ module _ (model : Model) (laws : Laws model) where
       by-test true = subst (λ (number : ModelId). ComeBy model number.0 head.items) (sym root_is) arrive.items
       by-test false = none-come own fits
 
-  module _ (engine : Engine) (own : Sim) (is : engine.tree ≡ Some own) (fits : FitsTree model own) (root_is : model_of own ≡ (resolved model).own.top_model) (head : Option Arrival) (arrive : IfSome head (Arrives model)) where
+  module _ (engine : Engine) (own : Sim) (is : engine.tree ≡ Some own) (fits : FitsTree model own) (root_is : model_of own ≡ (top_number model)) (head : Option Arrival) (arrive : IfSome head (Arrives model)) where
     tree-advances : (at : Option ℕ) → IfSome at IsMoment → Safe (Behind model) (advance_tree (system model) engine own head at).end
     tree-advances None moment = record { tree = own; is = is; fits = fits; root = root_is }
     tree-advances (Some time) moment =

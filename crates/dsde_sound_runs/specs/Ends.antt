@@ -1,20 +1,16 @@
 -- What comes to a model that runs, and that its runs end.
 use Rattle.std.specs.Prelude.{◌≡◌, ℕ, false, List, [], Some, slice_get}
-use Rattle.std.specs.Option.{option_map_or}
 use Rattle.dsde_syntax.specs.declared.decl.Model.{Model}
 use Rattle.dsde_values.specs.declared.arrival.Arrival.{Arrival}
 use Rattle.dsde_values.specs.declared.arrival.Item.{Item}
-use Rattle.dsde_values.specs.declared.types.Field.{Field}
 use Rattle.dsde_values.specs.When.{IsMoment}
-use Rattle.dsde_program_nodes.specs.declared.info.Info.{Info}
-use Rattle.dsde_program_nodes.specs.Models.{infos_of, resolved, types_of}
+use Rattle.dsde_declared.specs.Models.{Own, owns_of, top_ins, top_number, types_of}
 use Rattle.dsde_check_rules.specs.Right.{IsRight}
 use Rattle.dsde_input.specs.Reader.{IsOffence}
 use Rattle.dsde_input_records.specs.Records.{Records, end, bad, one}
 use Rattle.dsde_sim_events.specs.declared.event.Finish.{Finish}
 use Rattle.dsde_eval_meaning.specs.Typed.{AllSent}
 use Rattle.dsde_run_meaning.specs.Run.{Run, Spots, run, records_in}
-use Rattle.dsde_sound_places.specs.Bodies.{Own, owns_of}
 use Rattle.dsde_system.specs.Plans.{ways}
 use Rattle.dsde_system.specs.Program.{system}
 
@@ -27,7 +23,7 @@ pub record ComeBy (model : Model) (number : ℕ) (items : List Item) : Type 0 wh
 -- A record comes to the model that runs, at a moment of a run.
 pub record Arrives (model : Model) (head : Arrival) : Type 0 where
   pub early : IsMoment head.time
-  pub items : ComeBy model (resolved model).own.top_model.0 head.items
+  pub items : ComeBy model (top_number model).0 head.items
 
 -- All records come to the model that runs, up to the end or to a line that is none; no read failed.
 abbrev pub AllArrive : Model → Records → Type 0
@@ -44,10 +40,6 @@ abbrev pub RunsEnd : Type 0
 RunsEnd =
     (model : Model) (spots : Spots) (records : Records) (turns : ℕ)
     → IsRight model → AllArrive model records → HasEnd (run (system model) spots records turns)
-
--- the in ports of the model that runs
-abbrev pub top_ins : Model → List Field
-top_ins model = option_map_or (λ (info : Info). info.ins) (slice_get (infos_of model) (resolved model).own.top_model.0) []
 
 abbrev pub InputsArrive : Type 0
 InputsArrive = (model : Model) (bytes : List ℕ) → IsRight model → AllArrive model (records_in (top_ins model) (types_of model) bytes)

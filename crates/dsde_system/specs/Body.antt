@@ -15,13 +15,13 @@ use Rattle.dsde_faults.specs.declared.kind.Site.{Site}
 use Rattle.dsde_faults.specs.declared.kind.Site.TheVariants as site
 use Rattle.dsde_faults.specs.declared.end.LeafEnd.{LeafEnd}
 use Rattle.dsde_faults.specs.declared.end.LeafEnd.TheVariants as leaf_end
-use Rattle.dsde_program_nodes.specs.Typing.{elapsed_name}
+use Rattle.dsde_declared.specs.Names.{elapsed_name}
 use Rattle.dsde_eval_meaning.specs.Outcome.{Fault, Stuck, Outcome, ◌>>=◌, int_of, option_of}
 use Rattle.dsde_eval_meaning.specs.Meaning.{Vars, Scene, scene, with_var}
 use Rattle.dsde_eval_meaning.specs.Flow.{lifted}
 use Rattle.dsde_eval_meaning.specs.Typed.{values_in}
-use Rattle.dsde_sound_places.specs.Bodies.{Own, body_ins, body_outs, param_slots, state_slots}
-use Rattle.dsde_sound_places.specs.Conditions.{mean_of, block_of}
+use Rattle.dsde_declared.specs.Models.{Own, body_ins, body_outs, param_slots, state_slots}
+use Rattle.dsde_eval_meaning.specs.Functions.{mean_of, block_of}
 use Rattle.dsde_formalism.specs.System.{State, Ports}
 use Rattle.dsde_formalism.specs.Leaf as formalism
 

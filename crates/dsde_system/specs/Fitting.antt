@@ -11,10 +11,10 @@ use Rattle.dsde_values.specs.declared.when.When.TheVariants.{At, Never}
 use Rattle.dsde_values.specs.When.{IsMoment}
 use Rattle.dsde_faults.specs.declared.end.LeafEnd.{LeafEnd}
 use Rattle.dsde_faults.specs.declared.end.LeafEnd.TheVariants as leaf_end
-use Rattle.dsde_program_nodes.specs.declared.ids.ModelId.{ModelId}
-use Rattle.dsde_program_nodes.specs.Models.{infos_of, types_of}
+use Rattle.dsde_declared.specs.declared.ids.ModelId.{ModelId}
+use Rattle.dsde_declared.specs.Models.{types_of, Own, owns_of, param_slots, state_slots, body_ins, body_outs}
+use Rattle.dsde_program_nodes.specs.Models.{infos_of}
 use Rattle.dsde_eval_meaning.specs.Typed.{Typed, AllSent}
-use Rattle.dsde_sound_places.specs.Bodies.{Own, owns_of, param_slots, state_slots, body_ins, body_outs}
 use Rattle.dsde_formalism.specs.declared.leaf.Leaf.{Leaf}
 use Rattle.dsde_formalism.specs.System.{Ports, Chosen}
 

@@ -10,8 +10,7 @@ use Rattle.dsde_values.specs.declared.types.Field.{Field}
 use Rattle.dsde_values.specs.declared.types.Ty.{Ty}
 use Rattle.dsde_values.specs.declared.types.Types.{Types}
 use Rattle.dsde_values.specs.declared.value.Value.{Value}
-use Rattle.dsde_program_nodes.specs.Models.{whole_of, types_of}
-use Rattle.dsde_program_nodes.specs.Statements.{port_fields}
+use Rattle.dsde_declared.specs.Models.{whole_of, types_of, port_fields, Own, owns_of}
 use Rattle.dsde_structure.specs.declared.plan.End.{End}
 use Rattle.dsde_structure.specs.declared.plan.Entry.{Entry}
 use Rattle.dsde_structure.specs.declared.plan.Link.{Link}
@@ -25,8 +24,7 @@ use Rattle.dsde_structure.specs.Gather.{Ports}
 use Rattle.dsde_structure.specs.Gather.{is_same_name}
 use Rattle.dsde_structure.specs.Survival.{IsInOrder}
 use Rattle.dsde_eval_meaning.specs.Typed.{Typed}
-use Rattle.dsde_sound_places.specs.Bodies.{Own, owns_of}
-use Rattle.dsde_sound_places.specs.Structures.{vias_of}
+use Rattle.dsde_declared.specs.Structures.{vias_of}
 use Rattle.dsde_sound_places.specs.Conditions.{IsVia}
 use Rattle.dsde_system.specs.Fitting.{AreOf, FitsArgs}
 

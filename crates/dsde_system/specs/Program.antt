@@ -9,20 +9,17 @@ use Rattle.dsde_syntax.specs.declared.item.ViaPart.{ViaPart}
 use Rattle.dsde_values.specs.declared.value.Value.{Value}
 use Rattle.dsde_faults.specs.declared.kind.Site.TheVariants as site
 use Rattle.dsde_faults.specs.declared.end.LeafEnd.TheVariants as leaf_end
-use Rattle.dsde_program_nodes.specs.Models.{whole_of, place_of_items, resolved}
-use Rattle.dsde_program_nodes.specs.Statements.{port_fields}
+use Rattle.dsde_declared.specs.Models.{top_number, whole_of, port_fields, Own, owns_of, top_in, body_ins, body_outs}
+use Rattle.dsde_declared.specs.Structures.{place_of_items, structures_of, vias_of, first_via}
 use Rattle.dsde_structure.specs.declared.plan.Plan.{Plan}
 use Rattle.dsde_structure.specs.declared.plan.Via.{Via}
-use Rattle.dsde_eval_meaning.specs.Functions.{functions_of}
+use Rattle.dsde_eval_meaning.specs.Functions.{functions_of, mean_of}
 use Rattle.dsde_eval_meaning.specs.Meaning.{Vars}
 use Rattle.dsde_eval_meaning.specs.Outcome.{Outcome, ◌>>=◌, option_of, present}
 use Rattle.dsde_executive_plans.specs.Layout as layout
-use Rattle.dsde_sound_places.specs.Bodies.{Own, owns_of, top_in, body_ins, body_outs}
-use Rattle.dsde_sound_places.specs.Structures.{structures_of, vias_of, first_via}
 use Rattle.dsde_formalism.specs.System.{State, Component, Network, System, Chosen}
-use Rattle.dsde_sound_places.specs.Conditions.{mean_of}
 use Rattle.dsde_system.specs.Body.{at_site, inits_from, vars_of, body_vars, due, sends, internal, external, confluent}
-use Rattle.dsde_sound_places.specs.Bodies as bodies
+use Rattle.dsde_declared.specs.Models as bodies
 
 -- an atomic model with arguments, or the executive of a network
 abbrev pub component : Model → Own → List Value → Component
@@ -109,7 +106,7 @@ args_from model done (arg ∷ args) = mean_of model arg [] >>= (λ own. args_fro
 abbrev pub top_of : Model → Outcome Chosen
 top_of model =
     present (top_in model.decls) >>= (λ top.
-    args_from model [] top.args >>= (λ args. Ok (record { model = (resolved model).own.top_model; args = args })))
+    args_from model [] top.args >>= (λ args. Ok (record { model = top_number model; args = args })))
 
 -- what a program means
 unfoldable pub system : Model → System

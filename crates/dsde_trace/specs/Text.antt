@@ -1,5 +1,5 @@
 -- The text of a trace: a line for each event of a run of a model.
-use Rattle.std.specs.Prelude.{ℕ, if◌then◌else◌, List, [], ◌++◌, Option, map, codes, decimal, slice_get, flat_map}
+use Rattle.std.specs.Prelude.{ℕ, List, [], ◌++◌, map, codes, decimal, slice_get, flat_map}
 use Rattle.std.specs.Option.{option_map_or}
 use Rattle.dsde_syntax.specs.declared.decl.Model.{Model}
 use Rattle.dsde_values.specs.declared.types.Field.{Field}
@@ -15,9 +15,8 @@ use Rattle.dsde_faults.specs.declared.kind.Site.{Site}
 use Rattle.dsde_faults.specs.declared.kind.Site.TheVariants as site
 use Rattle.dsde_formalism.specs.declared.leaf.MoveKind.{MoveKind}
 use Rattle.dsde_formalism.specs.declared.leaf.MoveKind.TheVariants as move
-use Rattle.dsde_program_nodes.specs.declared.ids.ModelId.{ModelId}
-use Rattle.dsde_program_nodes.specs.declared.info.Info.{Info}
-use Rattle.dsde_program_nodes.specs.Models.{infos_of, types_of, resolved}
+use Rattle.dsde_declared.specs.declared.ids.ModelId.{ModelId}
+use Rattle.dsde_declared.specs.Models.{Own, body_ins, own_at, state_slots, top_outs, types_of}
 use Rattle.dsde_sim_events.specs.declared.event.Event.{Event}
 use Rattle.dsde_sim_events.specs.declared.event.Event.TheVariants.{AddNet, AddLeaf, Turn, Out, Get, Move, Drop, Finish}
 use Rattle.dsde_sim_events.specs.declared.event.Finish as finish
@@ -26,29 +25,17 @@ use Rattle.dsde_sim_events.specs.declared.event.InputKind.{InputKind}
 use Rattle.dsde_sim_events.specs.declared.event.InputKind.TheVariants.{BadLine, Backwards, LineTooLong}
 use Rattle.dsde_sim_events.specs.declared.fault.Fault.{Fault}
 
--- what the model with this number declares, where there is one
-abbrev pub info_at : Model → ModelId → Option Info
-info_at model number = slice_get (infos_of model) number.0
-
--- its name
+-- the name of the model with this number, where there is one
 abbrev pub model_text : Model → ModelId → List ℕ
-model_text model number = option_map_or (λ (info : Info). info.name) (info_at model number) []
+model_text model number = option_map_or (λ (own : Own). own.name.name) (own_at model number) []
 
 -- its state variables, of a network those of its executive
 abbrev pub states_at : Model → ModelId → List Field
-states_at model number = option_map_or (λ (info : Info). info.states) (info_at model number) []
+states_at model number = option_map_or (state_slots model) (own_at model number) []
 
--- the in ports of an atomic model, or of a network's executive
-abbrev pub leaf_ins : Info → List Field
-leaf_ins info = if info.network then info.boss_ins else info.ins
-
--- those of the model with this number
+-- its in ports, of a network those of its executive
 abbrev pub ins_at : Model → ModelId → List Field
-ins_at model number = option_map_or leaf_ins (info_at model number) []
-
--- the out ports of the model that runs
-abbrev pub top_outs : Model → List Field
-top_outs model = option_map_or (λ (info : Info). info.outs) (info_at model (resolved model).own.top_model) []
+ins_at model number = option_map_or (body_ins model) (own_at model number) []
 
 abbrev pub when_text : When → List ℕ
 when_text (At time) = decimal time

@@ -4,13 +4,17 @@ ghost use Rattle.std.specs.Prelude.{◌≡◌, ◌++◌, length, map, take, code
 ghost use Rattle.dsde_values.specs.Path.{path_text};
 ghost use Rattle.dsde_values.specs.Value.{spelling, joined, field_texts};
 ghost use Rattle.dsde_sim_events.specs.declared.event.Event.TheVariants as event;
-ghost use Rattle.dsde_trace.specs.Text.{event_text, end_text, finish_text, fault_text, settled_text, passed_text, port_text, move_text, input_text, site_text, kind_text, info_at, model_text, states_at, ins_at, top_outs};
+ghost use Rattle.dsde_declared.specs.Models.{own_at, top_outs};
+ghost use Rattle.dsde_program_declared.specs.Declared.{Declares};
+ghost use Rattle.dsde_trace.specs.Text.{event_text, end_text, finish_text, fault_text, settled_text, passed_text, port_text, move_text, input_text, site_text, kind_text, model_text, states_at, ins_at};
 
+use dsde_declared::ModelId;
 use dsde_faults::{FaultKind, Site};
 use dsde_formalism::MoveKind;
 use dsde_lists::append_decimal;
 use dsde_program::Program;
-use dsde_program_nodes::{Info, ModelId};
+use dsde_program_declared::infos_are_declared;
+use dsde_program_nodes::Info;
 use dsde_sim_events::{Event, Fault, Finish, InputKind};
 use dsde_values::{
     Field, Memory, Path, Text, Types, Value, When, write_fields, write_path, write_value,
@@ -180,8 +184,10 @@ fn append_head(word: &[u8], path: &Path, text: &mut Text) -> Result<(), Memory>
 
 /// What the model with a number declares, if the program has it.
 fn info_of<'p>(program: &'p Program, model: ModelId) -> Option<&'p Info>
-    ensures { option_copied result ≡ info_at program.now model }
+    ensures { Declares program.now (own_at program.now model) (option_copied result) }
 {
+    // A law: what is told of a model is what its declaration says.
+    infos_are_declared();
     if model.0 < program.models() {
         return Some(program.info(model));
     }

@@ -2,7 +2,7 @@ use Rattle.std.proofs.Common.{◌≡◌, ◌+◌, ◌-◌, [], ◌++◌, true, f
 use Rattle.std.specs.Prelude.{IfSome, IfOk}
 use Rattle.std.proofs.lemmas.Result.{IfOk-weaker}
 use Rattle.dsde_sim_events.specs.declared.event.Finish.TheVariants as how
-use Rattle.dsde_program_nodes.specs.Models.{resolved}
+use Rattle.dsde_declared.specs.Models.{top_number}
 use Rattle.dsde_trace.specs.Text.{end_text}
 use Rattle.dsde_run.specs.Run.{trace_text}
 use Rattle.dsde_run.specs.Heads.{Comes, IsReady, Refused, behind_head, passed}
@@ -158,7 +158,7 @@ loop-turn-preserved g c =
       ports = ap (λ heads. heads.ports) heads ∙ c.in_default.ensures.ports ∙ c.loop-turn.invariant.ports;
       types = ap (λ heads. heads.types) heads ∙ c.in_default.ensures.types ∙ c.loop-turn.invariant.types;
       model = next.same ∙ c.loop-turn.invariant.model;
-      root = next.root (resolved c.args.own.now.model).own.top_model c.loop-turn.invariant.root;
+      root = next.root (top_number c.args.own.now.model) c.loop-turn.invariant.root;
       fresh = next.fresh;
       bounded = omega (arith, next.counted, c.loop-turn.invariant.bounded);
       counted = omega (arith, c.loop-turn.invariant.counted, c.in_default.ensures.counted);

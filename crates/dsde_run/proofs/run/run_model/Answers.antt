@@ -8,12 +8,13 @@ use Rattle.std.specs.Prelude.{IfSome}
 use Rattle.std.proofs.lemmas.Result.{IfOk-weaker}
 use Rattle.dsde_sim_events.specs.declared.event.Finish.TheVariants as how
 use Rattle.dsde_trace.specs.Text.{end_text}
+use Rattle.dsde_declared.specs.Models.{top_ins}
 use Rattle.dsde_run.specs.Run.{trace_text}
 use Rattle.dsde_run.specs.Run.{start}
 use Rattle.dsde_run.specs.Heads.{behind_head, fresh_heads}
 use Rattle.dsde_run.specs.Reading.{TakesWanted, IsCutShort, IsFront}
 use Rattle.dsde_run_meaning.specs.Run.{ended}
-use Rattle.dsde_run.specs.Run.{run, go, info_of, records_in}
+use Rattle.dsde_run.specs.Run.{run, go, records_in}
 use Rattle.dsde_run.specs.Steps.{Tells}
 use Rattle.dsde_run.proofs.Cutting.{IsFront-cut}
 use Rattle.dsde_run.proofs.Fronts.{OnErr-always, IsFront-all, IsFront-behind, IsFront-begun, front_either}
@@ -43,7 +44,7 @@ returns-in-Ok-clause-tells g c =
     (GoesOn-start c.args.own.now c.args.turns c.in-Ok.plain.engine c.new-events.result c.start-started.new.events c.args.text.now c.write_events.new.text
     c.new-events.ensures (subst (λ (m : Model). step.Tells (turning.start (system m)) c.new-events.result c.start-started.new.events (Ok c.in-Ok.plain.engine)) c.program.ensures c.in-Ok.ensures.ok) written (records_in c.args.own.now before))
     (subst (λ heads. Tells c.args.own.now (go c.args.own.now c.args.turns (behind_head heads before) c.in-Ok.plain.engine) c.write_events.new.text c.go-in-Ok.new.text answer)
-    (c.in_ok-new-in-Ok.ensures ∙ ap (λ ins. fresh_heads ins c.types.result.now) c.ins.ensures.value ∙ ap (fresh_heads (info_of c.args.own.now.model).ins) c.types.ensures.value) tells)))
+    (c.in_ok-new-in-Ok.ensures ∙ ap (λ ins. fresh_heads ins c.types.result.now) c.ins.ensures.value ∙ ap (fresh_heads (top_ins c.args.own.now.model)) c.types.ensures.value) tells)))
     c.go-in-Ok.ensures.tells
 
 pub returns-in-Ok-clause-cut : goal.returns-in-Ok-clause-cut
@@ -56,7 +57,7 @@ returns-in-Ok-clause-cut g c = λ is.
     (GoesOn-start c.args.own.now c.args.turns c.in-Ok.plain.engine c.new-events.result c.start-started.new.events c.args.text.now c.write_events.new.text
     c.new-events.ensures (subst (λ (m : Model). step.Tells (turning.start (system m)) c.new-events.result c.start-started.new.events (Ok c.in-Ok.plain.engine)) c.program.ensures c.in-Ok.ensures.ok) written)
     (subst (λ heads. IsCutShort c.args.own.now (λ records. go c.args.own.now c.args.turns records c.in-Ok.plain.engine) (behind_head heads before) c.write_events.new.text c.go-in-Ok.new.text before after)
-    (c.in_ok-new-in-Ok.ensures ∙ ap (λ ins. fresh_heads ins c.types.result.now) c.ins.ensures.value ∙ ap (fresh_heads (info_of c.args.own.now.model).ins) c.types.ensures.value) short))
+    (c.in_ok-new-in-Ok.ensures ∙ ap (λ ins. fresh_heads ins c.types.result.now) c.ins.ensures.value ∙ ap (fresh_heads (top_ins c.args.own.now.model)) c.types.ensures.value) short))
 
 pub returns-in-Ok-clause-front : goal.returns-in-Ok-clause-front
 returns-in-Ok-clause-front g c =
@@ -72,7 +73,7 @@ returns-in-Ok-clause-front g c =
     (GoesOn-start c.args.own.now c.args.turns c.in-Ok.plain.engine c.new-events.result c.start-started.new.events c.args.text.now c.write_events.new.text
     c.new-events.ensures (subst (λ (m : Model). step.Tells (turning.start (system m)) c.new-events.result c.start-started.new.events (Ok c.in-Ok.plain.engine)) c.program.ensures c.in-Ok.ensures.ok) written)
     (subst (λ heads. IsCutShort c.args.own.now (λ records. go c.args.own.now c.args.turns records c.in-Ok.plain.engine) (behind_head heads before) c.write_events.new.text c.go-in-Ok.new.text before after)
-    (c.in_ok-new-in-Ok.ensures ∙ ap (λ ins. fresh_heads ins c.types.result.now) c.ins.ensures.value ∙ ap (fresh_heads (info_of c.args.own.now.model).ins) c.types.ensures.value) short))))
+    (c.in_ok-new-in-Ok.ensures ∙ ap (λ ins. fresh_heads ins c.types.result.now) c.ins.ensures.value ∙ ap (fresh_heads (top_ins c.args.own.now.model)) c.types.ensures.value) short))))
     (λ is.
     IfSome-told (g.R.Source.left c.args.source.now) (g.R.Source.left c.go-in-Ok.new.source) (c.go-in-Ok.ensures.front is)
     (λ before after front.
@@ -81,7 +82,7 @@ returns-in-Ok-clause-front g c =
     (GoesOn-start c.args.own.now c.args.turns c.in-Ok.plain.engine c.new-events.result c.start-started.new.events c.args.text.now c.write_events.new.text
     c.new-events.ensures (subst (λ (m : Model). step.Tells (turning.start (system m)) c.new-events.result c.start-started.new.events (Ok c.in-Ok.plain.engine)) c.program.ensures c.in-Ok.ensures.ok) written (records_in c.args.own.now before))
     (subst (λ heads. IsFront c.write_events.new.text c.go-in-Ok.new.text (trace_text c.args.own.now (go c.args.own.now c.args.turns (behind_head heads before) c.in-Ok.plain.engine).events))
-    (c.in_ok-new-in-Ok.ensures ∙ ap (λ ins. fresh_heads ins c.types.result.now) c.ins.ensures.value ∙ ap (fresh_heads (info_of c.args.own.now.model).ins) c.types.ensures.value) front)))
+    (c.in_ok-new-in-Ok.ensures ∙ ap (λ ins. fresh_heads ins c.types.result.now) c.ins.ensures.value ∙ ap (fresh_heads (top_ins c.args.own.now.model)) c.types.ensures.value) front)))
 
 pub returns-in_err-write_events-clause-front : goal.returns-in_err-write_events-clause-front
 returns-in_err-write_events-clause-front g c =
@@ -148,7 +149,7 @@ returns-in-Ok-clause-taken g c =
     (records_in c.args.own.now before) c.args.text.now c.write_events.new.text before after
     (GoesOn-start c.args.own.now c.args.turns c.in-Ok.plain.engine c.new-events.result c.start-started.new.events c.args.text.now c.write_events.new.text
     c.new-events.ensures (subst (λ (m : Model). step.Tells (turning.start (system m)) c.new-events.result c.start-started.new.events (Ok c.in-Ok.plain.engine)) c.program.ensures c.in-Ok.ensures.ok) written)
-    (subst (λ heads. TakesWanted (λ records. go c.args.own.now c.args.turns records c.in-Ok.plain.engine) (behind_head heads before) before after) (c.in_ok-new-in-Ok.ensures ∙ ap (λ ins. fresh_heads ins c.types.result.now) c.ins.ensures.value ∙ ap (fresh_heads (info_of c.args.own.now.model).ins) c.types.ensures.value) takes))
+    (subst (λ heads. TakesWanted (λ records. go c.args.own.now c.args.turns records c.in-Ok.plain.engine) (behind_head heads before) before after) (c.in_ok-new-in-Ok.ensures ∙ ap (λ ins. fresh_heads ins c.types.result.now) c.ins.ensures.value ∙ ap (fresh_heads (top_ins c.args.own.now.model)) c.types.ensures.value) takes))
 
 pub returns-clause-tells : goal.returns-clause-tells
 returns-clause-tells g c =
