@@ -8,14 +8,15 @@ use Rattle.dsde_faults.specs.declared.kind.Site.TheVariants as site
 use Rattle.dsde_faults.specs.declared.end.EvalEnd.{EvalEnd}
 use Rattle.dsde_faults.specs.declared.end.LeafEnd.{LeafEnd}
 use Rattle.dsde_program_nodes.specs.declared.code.Code.{Code}
-use Rattle.dsde_program_nodes.specs.declared.ids.ModelId.{ModelId}
-use Rattle.dsde_program_nodes.specs.Models.{types_of}
+use Rattle.dsde_declared.specs.declared.ids.ModelId.{ModelId}
+use Rattle.dsde_declared.specs.Models.{types_of, Own, param_slots, state_slots}
 use Rattle.dsde_eval_meaning.specs.Outcome.{Stuck, Outcome, ◌>>=◌, Gives}
 use Rattle.dsde_eval_meaning.specs.Typed.{Typed, Fits, values_in}
-use Rattle.dsde_sound_places.specs.Bodies.{Own, BodyStands, body_slots, param_slots, state_slots}
+use Rattle.dsde_sound_places.specs.Bodies.{BodyStands, body_slots}
 use Rattle.dsde_formalism.specs.Leaf as formalism
 use Rattle.dsde_formalism.specs.System.{Component}
-use Rattle.dsde_sound_places.specs.Conditions.{mean_of, CanEval, Came}
+use Rattle.dsde_eval_meaning.specs.Functions.{mean_of}
+use Rattle.dsde_sound_places.specs.Conditions.{CanEval, Came}
 use Rattle.dsde_system.specs.Body.{vars_of, body_vars, at_site, due}
 use Rattle.dsde_system.specs.Program.{system, component}
 use Rattle.dsde_system.specs.Fitting.{Fill, FitsArgs, FitsState}

@@ -8,12 +8,13 @@ use Rattle.dsde_faults.specs.declared.end.EvalEnd.TheVariants as eval_end
 use Rattle.dsde_faults.specs.declared.end.LeafEnd.{LeafEnd}
 use Rattle.dsde_faults.specs.declared.end.LeafEnd.TheVariants as leaf_end
 use Rattle.dsde_program_nodes.specs.declared.code.Code.{Code}
-use Rattle.dsde_program_nodes.specs.declared.ids.ModelId.{ModelId}
+use Rattle.dsde_declared.specs.declared.ids.ModelId.{ModelId}
 use Rattle.dsde_program_nodes.specs.Models.{infos_of, resolved}
 use Rattle.dsde_check_rules.specs.Right.{IsRight}
 use Rattle.dsde_eval_meaning.specs.Outcome.{Fault, Outcome, Gives}
 use Rattle.dsde_eval_meaning.specs.Outcome as outcome
-use Rattle.dsde_sound_places.specs.Bodies.{Own, BodyStands}
+use Rattle.dsde_declared.specs.Models.{Own}
+use Rattle.dsde_sound_places.specs.Bodies.{BodyStands}
 use Rattle.dsde_sound_places.specs.Laws.{HasOwn, BodiesStand}
 use Rattle.dsde_formalism.specs.Leaf as formalism
 use Rattle.dsde_system.specs.Body.{at_site}

@@ -9,14 +9,14 @@ use Rattle.dsde_syntax.specs.declared.decl.Model.{Model}
 use Rattle.dsde_syntax.specs.declared.decl.PortDecl.{PortDecl}
 use Rattle.dsde_values.specs.declared.types.Field.{Field}
 use Rattle.dsde_values.specs.declared.value.Value.{Value}
-use Rattle.dsde_program_nodes.specs.declared.ids.ModelId.{ModelId}
+use Rattle.dsde_declared.specs.declared.ids.ModelId.{ModelId}
 use Rattle.dsde_system.specs.Program.{system, component_at, network_at}
 use Rattle.dsde_check_rules.specs.declared.known.Known.{Known}
 use Rattle.dsde_program_nodes.specs.declared.code.Code.{Code}
 use Rattle.dsde_program_nodes.specs.declared.info.Info.{Info}
-use Rattle.dsde_program_nodes.specs.Models.{whole_of, infos_of, infos_from}
-use Rattle.dsde_program_nodes.specs.Statements.{typed_fields, state_fields, port_fields}
-use Rattle.dsde_sound_places.specs.Bodies.{Own, BodyStands, owns_of}
+use Rattle.dsde_declared.specs.Models.{whole_of, typed_fields, state_fields, port_fields, Own, owns_of}
+use Rattle.dsde_program_nodes.specs.Models.{infos_of, infos_from}
+use Rattle.dsde_sound_places.specs.Bodies.{BodyStands}
 
 -- what an atomic model or a network declares
 abbrev pub info_by : Known → Own → Info

@@ -9,18 +9,18 @@ use Rattle.dsde_check_rules.specs.Tables.{by_text}
 use Rattle.dsde_faults.specs.declared.end.EvalEnd.{EvalEnd}
 use Rattle.dsde_program_nodes.specs.declared.code.Code.{Code}
 use Rattle.dsde_program_nodes.specs.declared.ids.ExprId.{ExprId}
-use Rattle.dsde_program_nodes.specs.Models.{whole_of, types_of}
-use Rattle.dsde_program_nodes.specs.Statements.{state_fields}
+use Rattle.dsde_declared.specs.Models.{whole_of, types_of, state_fields, Own, param_slots, state_slots}
 use Rattle.dsde_eval_meaning.specs.Outcome.{Outcome, ◌>>=◌, Gives}
 use Rattle.dsde_eval_meaning.specs.Meaning.{Vars, with_var}
 use Rattle.dsde_eval_meaning.specs.Typed.{Typed, Fits, values_in}
 use Rattle.dsde_sound_places.specs.Places.{IsExpr}
-use Rattle.dsde_sound_places.specs.Bodies.{Own, BodyStands, InitsStand, body_slots, param_slots, state_slots}
+use Rattle.dsde_sound_places.specs.Bodies.{BodyStands, InitsStand, body_slots}
 use Rattle.dsde_formalism.specs.System.{State}
-use Rattle.dsde_sound_places.specs.Conditions.{mean_of, CanEval, Came}
+use Rattle.dsde_eval_meaning.specs.Functions.{mean_of}
+use Rattle.dsde_sound_places.specs.Conditions.{CanEval, Came}
 use Rattle.dsde_faults.specs.declared.kind.Site.TheVariants as site
 use Rattle.dsde_faults.specs.declared.end.LeafEnd.{LeafEnd}
-use Rattle.dsde_program_nodes.specs.declared.ids.ModelId.{ModelId}
+use Rattle.dsde_declared.specs.declared.ids.ModelId.{ModelId}
 use Rattle.dsde_formalism.specs.System.{Component}
 use Rattle.dsde_formalism.specs.Leaf as formalism
 use Rattle.dsde_system.specs.Program.{system, component}

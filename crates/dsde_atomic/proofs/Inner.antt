@@ -10,16 +10,17 @@ use Rattle.dsde_faults.specs.declared.end.EvalEnd.{EvalEnd}
 use Rattle.dsde_faults.specs.declared.end.LeafEnd.{LeafEnd}
 use Rattle.dsde_program_nodes.specs.declared.code.Code.{Code}
 use Rattle.dsde_program_nodes.specs.declared.ids.BlockId.{BlockId}
-use Rattle.dsde_program_nodes.specs.declared.ids.ModelId.{ModelId}
-use Rattle.dsde_program_nodes.specs.Models.{types_of}
+use Rattle.dsde_declared.specs.declared.ids.ModelId.{ModelId}
+use Rattle.dsde_declared.specs.Models.{types_of, Own, body_outs, state_slots}
 use Rattle.dsde_eval_meaning.specs.Outcome.{Outcome, ◌>>=◌, Gives}
 use Rattle.dsde_eval_meaning.specs.Meaning.{scene}
 use Rattle.dsde_eval_meaning.specs.Flow.{lifted}
 use Rattle.dsde_sound_places.specs.Places.{piece_of}
-use Rattle.dsde_sound_places.specs.Bodies.{Own, BodyStands, body_slots, body_outs, state_slots}
+use Rattle.dsde_sound_places.specs.Bodies.{BodyStands, body_slots}
 use Rattle.dsde_formalism.specs.System.{Component, State}
 use Rattle.dsde_formalism.specs.Leaf as formalism
-use Rattle.dsde_sound_places.specs.Conditions.{block_of, CanRun, Ran}
+use Rattle.dsde_eval_meaning.specs.Functions.{block_of}
+use Rattle.dsde_sound_places.specs.Conditions.{CanRun, Ran}
 use Rattle.dsde_system.specs.Body.{at_site, body_vars, moved_by, internal, sends}
 use Rattle.dsde_system.specs.Program.{system, component}
 use Rattle.dsde_system.specs.Fitting.{Fill, FitsArgs, FitsState, FitsSends}

@@ -11,12 +11,11 @@ use Rattle.dsde_values.specs.declared.value.Value.{Value}
 use Rattle.dsde_values.specs.declared.value.Value.TheVariants as value
 use Rattle.dsde_values.specs.Value.{has_type}
 use Rattle.dsde_values.specs.When.{IsMoment}
-use Rattle.dsde_program_nodes.specs.Typing.{elapsed_name}
-use Rattle.dsde_program_nodes.specs.Models.{types_of}
+use Rattle.dsde_declared.specs.Names.{elapsed_name}
+use Rattle.dsde_declared.specs.Models.{types_of, Own, body_ins}
 use Rattle.dsde_program_nodes.specs.Statements.{list_fields, input_fields}
 use Rattle.dsde_eval_meaning.specs.Meaning.{Vars}
 use Rattle.dsde_eval_meaning.specs.Typed.{Typed, Fits, values_in}
-use Rattle.dsde_sound_places.specs.Bodies.{Own, body_ins}
 use Rattle.dsde_formalism.specs.System.{Ports}
 use Rattle.dsde_system.specs.Body.{vars_of, lists_of, input_vars, is_flooded}
 use Rattle.dsde_system.specs.Fitting.{AreOf, Reach}

@@ -10,12 +10,12 @@ use Rattle.dsde_faults.specs.declared.kind.Site.{Site}
 use Rattle.dsde_faults.specs.declared.end.EvalEnd.{EvalEnd}
 use Rattle.dsde_faults.specs.declared.end.LeafEnd.{LeafEnd}
 use Rattle.dsde_faults.specs.declared.end.LeafEnd.TheVariants as leaf_end
-use Rattle.dsde_program_nodes.specs.Models.{types_of}
+use Rattle.dsde_declared.specs.Models.{types_of, Own, body_ins}
 use Rattle.dsde_program_nodes.specs.Statements.{input_fields}
 use Rattle.dsde_eval_meaning.specs.Outcome.{Fault, Outcome, Gives}
 use Rattle.dsde_eval_meaning.specs.Meaning.{Vars}
 use Rattle.dsde_eval_meaning.specs.Typed.{Fits, values_in}
-use Rattle.dsde_sound_places.specs.Bodies.{Own, body_slots, body_ins, moved_slots}
+use Rattle.dsde_sound_places.specs.Bodies.{body_slots, moved_slots}
 use Rattle.dsde_formalism.specs.System.{State, Ports}
 use Rattle.dsde_system.specs.Body.{at_site, body_vars, input_vars, lists_of, moved_by, seeing, is_flooded}
 use Rattle.dsde_system.specs.Fitting.{Reach, FitsArgs, FitsState, FitsInputs}

@@ -6,12 +6,12 @@ use Rattle.dsde_values.specs.declared.types.Field.{Field}
 use Rattle.dsde_values.specs.declared.value.Value.{Value}
 use Rattle.dsde_faults.specs.declared.end.EvalEnd.{EvalEnd}
 use Rattle.dsde_program_nodes.specs.declared.ids.BlockId.{BlockId}
-use Rattle.dsde_program_nodes.specs.Models.{types_of}
+use Rattle.dsde_declared.specs.Models.{types_of, Own, param_slots, state_slots}
 use Rattle.dsde_eval_meaning.specs.Outcome.{Gives}
 use Rattle.dsde_eval_meaning.specs.Meaning.{Vars}
 use Rattle.dsde_eval_meaning.specs.Typed.{Fits, values_in}
 use Rattle.dsde_sound_places.specs.Places.{IsBlock}
-use Rattle.dsde_sound_places.specs.Bodies.{Own, PhaseStands, body_slots, param_slots, state_slots}
+use Rattle.dsde_sound_places.specs.Bodies.{PhaseStands, body_slots}
 use Rattle.dsde_formalism.specs.System.{State}
 use Rattle.dsde_system.specs.Body.{moved_by}
 use Rattle.dsde_system.specs.Fitting.{Fill}

@@ -4,9 +4,8 @@ use Rattle.dsde_values.specs.declared.value.Value.{Value}
 use Rattle.dsde_syntax.specs.declared.decl.Model.{Model}
 use Rattle.dsde_values.specs.declared.when.When.{When}
 use Rattle.dsde_values.specs.When.{IsMoment}
-use Rattle.dsde_program_nodes.specs.declared.ids.ModelId.{ModelId}
-use Rattle.dsde_program_nodes.specs.Models.{types_of}
-use Rattle.dsde_sound_places.specs.Bodies.{state_slots}
+use Rattle.dsde_declared.specs.declared.ids.ModelId.{ModelId}
+use Rattle.dsde_declared.specs.Models.{types_of, state_slots}
 use Rattle.dsde_formalism.specs.declared.leaf.Leaf.{Leaf}
 use Rattle.dsde_system.specs.Fitting.{Fill, FitsArgs, FitsState, FitsLeaf, IsInTime}
 use Rattle.dsde_atomic.proofs.Bodies.{state-fill}

@@ -7,10 +7,11 @@ use Rattle.dsde_faults.specs.declared.kind.Site.TheVariants as site
 use Rattle.dsde_faults.specs.declared.end.LeafEnd.{LeafEnd}
 use Rattle.dsde_program_nodes.specs.declared.code.Code.{Code}
 use Rattle.dsde_program_nodes.specs.declared.ids.BlockId.{BlockId}
-use Rattle.dsde_program_nodes.specs.declared.ids.ModelId.{ModelId}
+use Rattle.dsde_declared.specs.declared.ids.ModelId.{ModelId}
 use Rattle.dsde_program_nodes.specs.Statements.{phase_at}
 use Rattle.dsde_eval_meaning.specs.Outcome.{Outcome}
-use Rattle.dsde_sound_places.specs.Bodies.{Own, BodyStands, moved_slots}
+use Rattle.dsde_declared.specs.Models.{Own}
+use Rattle.dsde_sound_places.specs.Bodies.{BodyStands, moved_slots}
 use Rattle.dsde_formalism.specs.System.{Component, State, Ports}
 use Rattle.dsde_formalism.specs.Leaf as formalism
 use Rattle.dsde_system.specs.Body.{at_site, seeing, external, confluent, internal}

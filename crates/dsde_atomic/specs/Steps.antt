@@ -11,14 +11,14 @@ use Rattle.dsde_faults.specs.declared.end.EvalEnd.{EvalEnd}
 use Rattle.dsde_faults.specs.declared.end.EvalEnd.TheVariants as eval_end
 use Rattle.dsde_faults.specs.declared.end.LeafEnd.{LeafEnd}
 use Rattle.dsde_faults.specs.declared.end.LeafEnd.TheVariants as leaf_end
-use Rattle.dsde_program_nodes.specs.Models.{types_of}
+use Rattle.dsde_declared.specs.Models.{types_of, Own, owns_of, param_slots, state_slots}
 use Rattle.dsde_eval_meaning.specs.Outcome.{Outcome, ◌>>=◌, Gives, option_of}
 use Rattle.dsde_eval_meaning.specs.Meaning.{Vars, scene}
 use Rattle.dsde_eval_meaning.specs.Flow.{lifted}
 use Rattle.dsde_eval_meaning.specs.Typed.{Fits, values_in}
 use Rattle.dsde_sound_places.specs.Places.{IsBlock}
-use Rattle.dsde_sound_places.specs.Bodies.{Own, owns_of, body_slots, moved_slots, param_slots, state_slots}
-use Rattle.dsde_sound_places.specs.Conditions.{block_of}
+use Rattle.dsde_sound_places.specs.Bodies.{body_slots, moved_slots}
+use Rattle.dsde_eval_meaning.specs.Functions.{block_of}
 use Rattle.dsde_formalism.specs.System.{State, Ports}
 use Rattle.dsde_formalism.specs.Leaf as formalism
 use Rattle.dsde_system.specs.Body.{due_after, inits_from, vars_of, seeing, at_site}

@@ -2,14 +2,16 @@
 
 ghost use Rattle.std.specs.Prelude.{◌≡◌, ◌<◌, ◌≤◌, ◌++◌, Some, length, drop, IfOk};
 ghost use Rattle.dsde_program_nodes.specs.Models.{infos_of};
-ghost use Rattle.dsde_sound_places.specs.Bodies.{Own, BodyStands};
+ghost use Rattle.dsde_declared.specs.Models.{Own};
+ghost use Rattle.dsde_sound_places.specs.Bodies.{BodyStands};
 ghost use Rattle.dsde_atomic.specs.Steps.{own_at, sited};
 
 use crate::laws::laws;
+use dsde_declared::ModelId;
 use dsde_faults::{EvalEnd, LeafEnd, Site};
 use dsde_lists::Memory;
 use dsde_program::Program;
-use dsde_program_nodes::{Code, ModelId};
+use dsde_program_nodes::Code;
 use dsde_values::{Seq, Values, copy_values};
 use std::alloc::Global;
 

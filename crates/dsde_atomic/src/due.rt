@@ -13,10 +13,10 @@ ghost use Rattle.dsde_system.specs.Fitting.{FitsArgs, FitsState, IsInTime};
 ghost use Rattle.dsde_atomic.specs.Steps.{FitsBody, due_by};
 
 use crate::body::{at_site, code_of};
+use dsde_declared::ModelId;
 use dsde_eval::{Env, eval};
 use dsde_faults::{EvalEnd, FaultKind, LeafEnd, Site};
 use dsde_program::Program;
-use dsde_program_nodes::ModelId;
 use dsde_values::{LAST_MOMENT, Value, When};
 use std::alloc::Global;
 

@@ -7,10 +7,10 @@ ghost use Rattle.dsde_system.specs.Fitting.{FitsArgs, FitsState};
 ghost use Rattle.dsde_atomic.specs.Steps.{Begins};
 
 use crate::body::{at_site, behind, code_of};
+use dsde_declared::ModelId;
 use dsde_eval::{Env, eval};
 use dsde_faults::{EvalEnd, LeafEnd, Site};
 use dsde_program::Program;
-use dsde_program_nodes::ModelId;
 use dsde_values::{Values, copy_values};
 use std::alloc::Global;
 

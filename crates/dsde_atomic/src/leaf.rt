@@ -10,11 +10,11 @@ use crate::body::{at_site, behind, code_of, slots_of};
 use crate::due::due;
 use crate::init::init;
 use crate::moves::transition;
+use dsde_declared::ModelId;
 use dsde_eval::{Env, run_block};
 use dsde_faults::{LeafEnd, Site};
 use dsde_formalism::{Inputs, Leaf, MoveKind};
 use dsde_program::Program;
-use dsde_program_nodes::ModelId;
 use dsde_values::{Item, Seq, Values, copy_values};
 use std::alloc::Global;
 

@@ -6,8 +6,8 @@ ghost use Rattle.dsde_program_nodes.specs.Models.{infos_of};
 ghost use Rattle.dsde_system.specs.Program.{system};
 
 use crate::body::code_of;
+use dsde_declared::ModelId;
 use dsde_program::Program;
-use dsde_program_nodes::ModelId;
 
 /// How many in ports the atomic model with a number has, or the executive of the network.
 pub fn ports_in(program: &Program, model: ModelId) -> usize

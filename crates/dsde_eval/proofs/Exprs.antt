@@ -8,18 +8,18 @@ use Rattle.dsde_values.specs.declared.value.Value.{Value}
 use Rattle.dsde_faults.specs.declared.end.EvalEnd.{EvalEnd}
 use Rattle.dsde_check_rules.specs.Judge.{judge}
 use Rattle.dsde_program_nodes.specs.Expressions.{resolve, expr_id}
-use Rattle.dsde_program_nodes.specs.Models.{whole_of, types_of}
+use Rattle.dsde_declared.specs.Models.{whole_of, types_of}
 use Rattle.dsde_check_rules.specs.Right.{IsRight}
 use Rattle.dsde_eval_meaning.specs.Outcome.{Stuck, Outcome, Gives}
 use Rattle.dsde_eval_meaning.specs.Meaning.{Vars}
-use Rattle.dsde_eval_meaning.specs.Functions.{functions_of}
+use Rattle.dsde_eval_meaning.specs.Functions.{functions_of, mean_of}
 use Rattle.dsde_eval_meaning.specs.Tables.{Coded, means_in}
 use Rattle.dsde_eval_meaning.specs.Typed.{Typed, Sound, Fits, values_in}
 use Rattle.dsde_eval_meaning.specs.Agreement.{Agrees, ExpressionsAgree}
 use Rattle.dsde_sound_places.specs.Places.{IsExpr}
 use Rattle.dsde_sound_places.specs.Laws.{KnownIsWithin}
 use Rattle.dsde_sound_functions.specs.Coded.{coded_of, FuncsAgree, FunctionsAgree}
-use Rattle.dsde_sound_places.specs.Conditions.{mean_of, CanEval, Came}
+use Rattle.dsde_sound_places.specs.Conditions.{CanEval, Came}
 use Rattle.dsde_sound_typing.specs.Outcomes.{sound-stuck}
 
 module _ (model : Model) (right : IsRight model) (agree : ExpressionsAgree) (within : KnownIsWithin) (functions : FunctionsAgree) where

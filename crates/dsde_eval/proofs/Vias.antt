@@ -11,11 +11,13 @@ use Rattle.dsde_faults.specs.declared.kind.FaultKind.{FaultKind}
 use Rattle.dsde_faults.specs.declared.end.EvalEnd.{EvalEnd}
 use Rattle.dsde_faults.specs.declared.end.EvalEnd.TheVariants as end_of
 use Rattle.dsde_program_nodes.specs.declared.code.ViaCode.{ViaCode}
-use Rattle.dsde_program_nodes.specs.Models.{types_of, resolved}
+use Rattle.dsde_declared.specs.Models.{types_of}
+use Rattle.dsde_program_nodes.specs.Models.{resolved}
 use Rattle.dsde_eval_meaning.specs.Outcome.{Stuck, Outcome, Gives, option_of}
 use Rattle.dsde_eval_meaning.specs.Typed.{Typed, Sound}
 use Rattle.dsde_sound_places.specs.Places.{IsExpr}
-use Rattle.dsde_sound_places.specs.Conditions.{mean_of, CanEval, Came, IsVia, CanTranslate, Translated, via_values, option_value}
+use Rattle.dsde_eval_meaning.specs.Functions.{mean_of}
+use Rattle.dsde_sound_places.specs.Conditions.{CanEval, Came, IsVia, CanTranslate, Translated, via_values, option_value}
 use Rattle.dsde_sound_typing.specs.Outcomes.{sound-given}
 use Rattle.dsde_eval.proofs.Typing.{is-option, total-ok}
 

@@ -4,10 +4,10 @@ ghost use Rattle.std.specs.Prelude.{◌≡◌, Some, option_copied, IfOk};
 ghost use Rattle.dsde_sound_places.specs.Conditions.{CanTranslate, Translated, via_values, option_value, IsOption};
 
 use crate::env::{Env, eval};
+use dsde_declared::ViaId;
 use dsde_faults::EvalEnd;
 use dsde_lists::Memory;
 use dsde_program::Program;
-use dsde_program_nodes::ViaId;
 use dsde_values::{Seq, Value, Values, copy_value};
 use std::alloc::Global;
 

@@ -8,8 +8,8 @@ ghost use Rattle.dsde_eval_meaning.specs.Operators.{of_one, of_two, of_three};
 
 use crate::held::{held_in, int_of, items_of, list_of};
 use crate::lists::{first_items, later_items, listed, pushed, ranged, replaced};
+use dsde_declared::Builtin;
 use dsde_faults::EvalEnd;
-use dsde_program_nodes::Builtin;
 use dsde_values::{Seq, Value};
 use std::alloc::Global;
 

@@ -9,8 +9,8 @@ use crate::lists::joined;
 use crate::numbers::{
     capped_difference, capped_product, capped_sum, difference, product, quotient, remainder, sum,
 };
+use dsde_declared::Binary;
 use dsde_faults::{EvalEnd, FaultKind};
-use dsde_program_nodes::Binary;
 use dsde_values::{Value, equal};
 
 /// Whether two values are equal.

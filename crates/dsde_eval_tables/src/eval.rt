@@ -12,13 +12,12 @@ ghost use Rattle.dsde_eval_tables.specs.Evaluating.{coded_of, one_kept, index_at
 use crate::spot::{
     Got, Spot, field_in, held_of, inner_of, is_there, item_of, one_of, slot_copy, taken,
 };
+use dsde_declared::{Binary, Builtin};
 use dsde_eval_operators::{
     denied, items_of, listed, negated, of_three, of_two, operated, truth_of,
 };
 use dsde_faults::EvalEnd;
-use dsde_program_nodes::{
-    Act, ActArm, Binary, BlockId, Builtin, ExprId, FnCode, Node, NodeArm, Tables,
-};
+use dsde_program_nodes::{Act, ActArm, BlockId, ExprId, FnCode, Node, NodeArm, Tables};
 use dsde_values::{Boxed, Item, Seq, Value, copy_value};
 use std::alloc::Global;
 

@@ -6,9 +6,10 @@ use Rattle.dsde_values.specs.declared.value.Value.{Value}
 use Rattle.dsde_faults.specs.declared.kind.Site.TheVariants as site
 use Rattle.dsde_faults.specs.declared.end.EvalEnd.{EvalEnd}
 use Rattle.dsde_faults.specs.declared.end.EvalEnd.TheVariants as eval_end
-use Rattle.dsde_program_nodes.specs.declared.ids.ModelId.{ModelId}
+use Rattle.dsde_declared.specs.declared.ids.ModelId.{ModelId}
 use Rattle.dsde_program_nodes.specs.declared.make.Make.{Make}
-use Rattle.dsde_program_nodes.specs.Models.{types_of, resolved}
+use Rattle.dsde_declared.specs.Models.{types_of, Own, owns_of, state_slots}
+use Rattle.dsde_program_nodes.specs.Models.{resolved}
 use Rattle.dsde_check_rules.specs.Right.{IsRight}
 use Rattle.dsde_structure.specs.declared.plan.Plan.{Plan}
 use Rattle.dsde_eval_meaning.specs.Outcome.{Stuck, Outcome, Gives}
@@ -19,8 +20,8 @@ use Rattle.dsde_eval_tables.specs.Evaluating as evaluating
 use Rattle.dsde_executive_planner.specs.declared.planner.Planner.{Planner}
 use Rattle.dsde_executive_planner.specs.Drawing.{part_in}
 use Rattle.dsde_sound_functions.specs.Coded.{coded_of}
-use Rattle.dsde_sound_places.specs.Bodies.{Own, owns_of, state_slots}
-use Rattle.dsde_sound_places.specs.Structures.{HasStructure, StructuresStand, structures_of, first_via}
+use Rattle.dsde_declared.specs.Structures.{structures_of, first_via}
+use Rattle.dsde_sound_places.specs.Structures.{HasStructure, StructuresStand}
 use Rattle.dsde_sound_structures.specs.Agreement.{StructureAgrees, StructuresAgree}
 use Rattle.dsde_formalism.specs.Leaf as formalism
 use Rattle.dsde_system.specs.Body.{at_site, body_vars}

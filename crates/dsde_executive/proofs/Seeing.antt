@@ -4,10 +4,10 @@ use Rattle.dsde_syntax.specs.declared.decl.Model.{Model}
 use Rattle.dsde_values.specs.declared.types.Field.{Field}
 use Rattle.dsde_values.specs.declared.types.Types.{Types}
 use Rattle.dsde_values.specs.declared.value.Value.{Value}
-use Rattle.dsde_program_nodes.specs.Models.{types_of}
+use Rattle.dsde_declared.specs.Models.{types_of, Own, param_slots, state_slots}
 use Rattle.dsde_eval_meaning.specs.Meaning.{Vars}
 use Rattle.dsde_eval_meaning.specs.Typed.{Fits, values_in}
-use Rattle.dsde_sound_places.specs.Bodies.{Own, body_slots, param_slots, state_slots}
+use Rattle.dsde_sound_places.specs.Bodies.{body_slots}
 use Rattle.dsde_system.specs.Body.{vars_of, body_vars}
 use Rattle.dsde_system.specs.Fitting.{Fill}
 

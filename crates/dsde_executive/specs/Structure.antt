@@ -7,7 +7,7 @@ use Rattle.dsde_faults.specs.declared.end.EvalEnd.TheVariants as eval_end
 use Rattle.dsde_faults.specs.declared.end.LeafEnd.{LeafEnd}
 use Rattle.dsde_faults.specs.declared.end.LeafEnd.TheVariants as leaf_end
 use Rattle.dsde_structure.specs.declared.plan.Plan.{Plan}
-use Rattle.dsde_sound_places.specs.Bodies.{Own, owns_of}
+use Rattle.dsde_declared.specs.Models.{Own, owns_of}
 use Rattle.dsde_system.specs.Plans.{FitsPlan}
 
 -- what a structure came to, as its network has it

@@ -11,12 +11,12 @@ ghost use Rattle.dsde_system.specs.Program.{system};
 ghost use Rattle.dsde_system.specs.Fitting.{FitsArgs, FitsState};
 ghost use Rattle.dsde_executive.specs.Structure.{in_structure, IsPlan};
 
+use dsde_declared::ModelId;
 use dsde_eval_tables::Evaluator;
 use dsde_executive_planner::Planner;
 use dsde_faults::EvalEnd;
 use dsde_lists::Memory;
 use dsde_program::Program;
-use dsde_program_nodes::ModelId;
 use dsde_sound_places::structures_stand;
 use dsde_sound_structures::structures_agree;
 use dsde_structure::Plan;

@@ -3,8 +3,8 @@
 ghost use Rattle.std.specs.Prelude.{◌≡◌, [], false, length, OnOk, IfOk};
 ghost use Rattle.dsde_executive_plans.specs.Layout.{inserted, is_there};
 
+use dsde_declared::ModelId;
 use dsde_lists::Memory;
-use dsde_program_nodes::ModelId;
 use dsde_structure::Entry;
 use dsde_values::{Name, Seq, Values, orders_are_total};
 use std::alloc::Global;

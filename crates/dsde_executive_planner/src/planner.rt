@@ -8,11 +8,12 @@ ghost use Rattle.dsde_executive_plans.specs.Drafts.{index_at, part_at, end_at, k
 ghost use Rattle.dsde_executive_planner.specs.Drawing.{part_in};
 
 use crate::drawn::Drawn;
+use dsde_declared::ModelId;
 use dsde_eval_operators::{int_of, items_of, truth_of};
 use dsde_eval_tables::Evaluator;
 use dsde_faults::{EvalEnd, FaultKind};
 use dsde_lists::Memory;
-use dsde_program_nodes::{ExprId, Make, MakeArm, MakeEnd, MakeIndex, MakePart, MakeVia, ModelId};
+use dsde_program_nodes::{ExprId, Make, MakeArm, MakeEnd, MakeIndex, MakePart, MakeVia};
 use dsde_structure::{End, Entry, Link, Part, Plan, Via};
 use dsde_values::{Name, Seq, Text, Value, copy_value};
 use std::alloc::Global;

@@ -19,8 +19,9 @@ use Rattle.dsde_values.specs.declared.value.Value.{Value}
 use Rattle.dsde_values.specs.Path.{name_cmp}
 use Rattle.dsde_faults.specs.declared.kind.FaultKind.TheVariants.{BadIndex, DuplicateComponent, Crowded, TooManyLinks, DanglingLink}
 use Rattle.dsde_check_rules.specs.declared.known.Known.{Known}
-use Rattle.dsde_program_nodes.specs.Typing.{slot_of}
-use Rattle.dsde_program_nodes.specs.Items.{Place, end_ports, model_id}
+use Rattle.dsde_declared.specs.Names.{slot_of}
+use Rattle.dsde_declared.specs.Structures.{Place, end_ports}
+use Rattle.dsde_declared.specs.Models.{model_id}
 use Rattle.dsde_structure.specs.declared.plan.End.{End}
 use Rattle.dsde_structure.specs.declared.plan.Entry.{Entry}
 use Rattle.dsde_structure.specs.declared.plan.Link.{Link}

@@ -3,7 +3,7 @@
 ghost use Rattle.std.specs.Prelude.{◌≡◌, ℕ, List, Ok};
 ghost use Rattle.dsde_syntax.specs.declared.item.Item.{Item};
 ghost use Rattle.dsde_structure.specs.declared.plan.Plan.{Plan};
-ghost use Rattle.dsde_program_nodes.specs.Items.{Place};
+ghost use Rattle.dsde_declared.specs.Structures.{Place};
 ghost use Rattle.dsde_eval_meaning.specs.Meaning.{Function, Vars};
 ghost use Rattle.dsde_executive_plans.specs.Layout.{structure};
 ghost use Rattle.dsde_structure.specs.Survival.{IsInOrder};

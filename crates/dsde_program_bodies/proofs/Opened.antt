@@ -12,7 +12,7 @@ use Rattle.dsde_check_rules.specs.declared.known.Known.{Known}
 use Rattle.dsde_program_nodes.specs.declared.act.Act.{Act}
 use Rattle.dsde_program_nodes.specs.declared.act.ActArm.{ActArm}
 use Rattle.dsde_program_nodes.specs.declared.tables.Tables.{Tables}
-use Rattle.dsde_program_nodes.specs.Typing.{Scope}
+use Rattle.dsde_declared.specs.Names.{Scope}
 use Rattle.dsde_program_layout.specs.LayPieces.{Step}
 use Rattle.dsde_program_layout.specs.LayStatements.{arm_step, lay_stmt, stmt_step}
 use Rattle.dsde_program_bodies.specs.Parts.{lay_arm, lay_arm_by, lay_for}

@@ -14,8 +14,10 @@ use Rattle.dsde_program_nodes.specs.declared.act.Act.TheVariants as act
 use Rattle.dsde_program_nodes.specs.declared.act.ActArm.{ActArm}
 use Rattle.dsde_program_nodes.specs.declared.code.Code.{Code}
 use Rattle.dsde_program_nodes.specs.declared.ids.ExprId.{ExprId}
-use Rattle.dsde_program_nodes.specs.Statements.{phase_at, state_fields}
-use Rattle.dsde_program_nodes.specs.Typing.{Scope, item_in, with_slots}
+use Rattle.dsde_declared.specs.Models.{state_fields}
+use Rattle.dsde_program_nodes.specs.Statements.{phase_at}
+use Rattle.dsde_declared.specs.Names.{Scope, with_slots}
+use Rattle.dsde_program_nodes.specs.Typing.{item_in}
 use Rattle.dsde_program_layout.specs.Lay.{lay}
 use Rattle.dsde_program_layout.specs.LayPieces.{Step, ◌>>=◌, all, binding, braced, expr, give, over}
 use Rattle.dsde_program_layout.specs.LayStatements.{stmt_step, arm_step, lay_blocks, lay_states, lay_stmts}

@@ -3,8 +3,8 @@
 ghost use Rattle.std.specs.Prelude.{◌≡◌, [], ◌++◌, length, IfOk, OnOk};
 ghost use Rattle.dsde_check_rules.specs.Tables.{by_text};
 ghost use Rattle.dsde_program_nodes.specs.Expressions.{expr_id};
-ghost use Rattle.dsde_program_nodes.specs.Statements.{state_fields};
-ghost use Rattle.dsde_program_nodes.specs.Typing.{with_slot, with_slots};
+ghost use Rattle.dsde_declared.specs.Models.{state_fields};
+ghost use Rattle.dsde_declared.specs.Names.{with_slot, with_slots};
 ghost use Rattle.dsde_program_layout.specs.Lay.{lay};
 ghost use Rattle.dsde_program_layout.specs.LayStatements.{lay_body, lay_states};
 ghost use Rattle.dsde_program_bodies.specs.Parts.{lay_code, lay_moves};

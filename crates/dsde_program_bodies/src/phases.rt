@@ -1,8 +1,9 @@
 //! The blocks of a body.
 
 ghost use Rattle.std.specs.Prelude.{◌≡◌, [], true, IfOk, OnOk};
-ghost use Rattle.dsde_program_nodes.specs.Statements.{phase_at, port_fields};
-ghost use Rattle.dsde_program_nodes.specs.Typing.{with_slots};
+ghost use Rattle.dsde_declared.specs.Models.{port_fields};
+ghost use Rattle.dsde_program_nodes.specs.Statements.{phase_at};
+ghost use Rattle.dsde_declared.specs.Names.{with_slots};
 ghost use Rattle.dsde_program_layout.specs.LayStatements.{lay_blocks, lay_phase};
 
 use crate::statements::block;

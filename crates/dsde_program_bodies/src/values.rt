@@ -3,7 +3,8 @@
 ghost use Rattle.std.specs.Prelude.{◌≡◌, length, take, IfOk, OnOk};
 ghost use Rattle.dsde_program_nodes.specs.declared.act.Act.TheVariants as act;
 ghost use Rattle.dsde_program_nodes.specs.Expressions.{expr_id};
-ghost use Rattle.dsde_program_nodes.specs.Typing.{item_in, slot_of, with_slot};
+ghost use Rattle.dsde_declared.specs.Names.{slot_of, with_slot};
+ghost use Rattle.dsde_program_nodes.specs.Typing.{item_in};
 ghost use Rattle.dsde_program_layout.specs.Lay.{lay};
 
 use dsde_check_tables::Member;

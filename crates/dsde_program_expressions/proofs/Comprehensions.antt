@@ -10,7 +10,8 @@ use Rattle.dsde_values.specs.declared.types.Ty.TheVariants as ty
 use Rattle.dsde_check_rules.specs.declared.known.Known.{Known}
 use Rattle.dsde_program_nodes.specs.declared.ids.ExprId.{ExprId}
 use Rattle.dsde_program_nodes.specs.declared.node.Node.TheVariants as node
-use Rattle.dsde_program_nodes.specs.Typing.{Scope, with_slot, item_in}
+use Rattle.dsde_declared.specs.Names.{Scope, with_slot}
+use Rattle.dsde_program_nodes.specs.Typing.{item_in}
 use Rattle.dsde_program_nodes.specs.Expressions.{expr_id}
 use Rattle.dsde_program_layout.specs.Lay.{Table, Laid, Lay, lay, lay_each, lay_cond, cond_number, roomy}
 

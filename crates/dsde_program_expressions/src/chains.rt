@@ -5,8 +5,9 @@ ghost use Rattle.dsde_program_layout.specs.Lay.{lay_suffix, lay_sign_tail, lay_t
 
 use crate::resolver::Resolver;
 use crate::table::rooms;
+use dsde_declared::Binary;
 use dsde_lists::Memory;
-use dsde_program_nodes::{Binary, Node};
+use dsde_program_nodes::Node;
 use dsde_syntax::{SignTail, Suffix, Tail};
 use dsde_values::Seq;
 

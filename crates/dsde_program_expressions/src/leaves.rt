@@ -5,7 +5,8 @@ ghost use Rattle.dsde_values.specs.declared.types.Ty.TheVariants as own;
 ghost use Rattle.dsde_check_rules.specs.Tables.{by_text};
 ghost use Rattle.dsde_program_nodes.specs.declared.node.Node.TheVariants as made;
 ghost use Rattle.dsde_program_nodes.specs.Expressions.{expr_id};
-ghost use Rattle.dsde_program_nodes.specs.Typing.{slot_of, slot_type, type_number, variant_number, field_number, field_type, elapsed_name};
+ghost use Rattle.dsde_declared.specs.Names.{slot_of, type_number, variant_number, elapsed_name};
+ghost use Rattle.dsde_program_nodes.specs.Typing.{slot_type, field_number, field_type};
 
 use crate::resolver::{Laid, Resolver};
 use crate::table::{leaf, put};

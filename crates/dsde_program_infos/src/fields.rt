@@ -2,7 +2,7 @@
 
 ghost use Rattle.std.specs.Prelude.{◌≡◌, [], ◌∷◌, ◌++◌, IfOk, OnOk};
 ghost use Rattle.dsde_check_rules.specs.Tables.{by_text};
-ghost use Rattle.dsde_program_nodes.specs.Statements.{typed_fields, state_fields, port_fields};
+ghost use Rattle.dsde_declared.specs.Models.{typed_fields, state_fields, port_fields};
 
 use dsde_check_tables::Known;
 use dsde_lists::Memory;

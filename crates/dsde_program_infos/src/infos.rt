@@ -1,7 +1,7 @@
 //! The models that a file declares, with their parameters, ports and state variables.
 
 ghost use Rattle.std.specs.Prelude.{◌≡◌, true, false, [], IfOk, OnOk};
-ghost use Rattle.dsde_program_nodes.specs.Statements.{typed_fields, state_fields, port_fields};
+ghost use Rattle.dsde_declared.specs.Models.{typed_fields, state_fields, port_fields};
 ghost use Rattle.dsde_program_nodes.specs.Models.{with_info, infos_from};
 
 use crate::fields::{port_fields, state_fields, typed_fields};

@@ -2,7 +2,7 @@
 
 ghost use Rattle.std.specs.Prelude.{◌≡◌, [], ◌++◌, unwrap_or, IfOk, OnOk};
 ghost use Rattle.dsde_values.specs.Value.{fields};
-ghost use Rattle.dsde_program_nodes.specs.Models.{defs_from};
+ghost use Rattle.dsde_declared.specs.Models.{defs_from};
 
 use dsde_check_tables::{Known, Made, Member, TypeEntry, Word, copy_type};
 use dsde_lists::Memory;

@@ -2,7 +2,7 @@
 
 ghost use Rattle.std.specs.Prelude.{◌≡◌, IfOk, OnOk};
 ghost use Rattle.dsde_check_rules.specs.Tables.{by_text, text_params};
-ghost use Rattle.dsde_program_nodes.specs.Models.{with_func, with_funcs, whole_of};
+ghost use Rattle.dsde_declared.specs.Models.{with_func, with_funcs, whole_of};
 
 use dsde_check_tables::{Callee, Known};
 use dsde_lists::Memory;

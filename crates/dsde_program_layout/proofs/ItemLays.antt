@@ -22,11 +22,13 @@ use Rattle.dsde_program_nodes.specs.declared.make.MakeIndex.{MakeIndex}
 use Rattle.dsde_program_nodes.specs.declared.make.MakePart.TheVariants as make_part
 use Rattle.dsde_program_nodes.specs.declared.make.MakeVia.{MakeVia}
 use Rattle.dsde_program_nodes.specs.declared.code.ViaCode.{ViaCode}
-use Rattle.dsde_program_nodes.specs.Typing.{Scope, slot_of, slot_type, with_slot, item_in}
+use Rattle.dsde_declared.specs.Names.{Scope, slot_of, with_slot}
+use Rattle.dsde_program_nodes.specs.Typing.{slot_type, item_in}
 use Rattle.dsde_program_nodes.specs.Expressions.{resolve, expr_id}
 use Rattle.dsde_program_nodes.specs.Pieces as piece
 use Rattle.dsde_program_nodes.specs.Items as said
-use Rattle.dsde_program_nodes.specs.Items.{Place, end_ports, model_id}
+use Rattle.dsde_declared.specs.Structures.{Place, end_ports}
+use Rattle.dsde_declared.specs.Models.{model_id}
 use Rattle.dsde_program_layout.specs.Lay.{Laid, lay}
 use Rattle.dsde_program_layout.specs.LayPieces as step
 use Rattle.dsde_program_layout.specs.LayItems as laid

@@ -15,13 +15,15 @@ use Rattle.dsde_values.specs.declared.types.Ty.{Ty}
 use Rattle.dsde_values.specs.declared.types.Ty.TheVariants as ty
 use Rattle.dsde_check_rules.specs.declared.known.Known.{Known}
 use Rattle.dsde_program_nodes.specs.declared.ids.ExprId.{ExprId}
-use Rattle.dsde_program_nodes.specs.declared.node.Binary.{Binary}
+use Rattle.dsde_declared.specs.declared.operator.Binary.{Binary}
 use Rattle.dsde_program_nodes.specs.declared.node.Node.{Node}
 use Rattle.dsde_program_nodes.specs.declared.node.Node.TheVariants as node
 use Rattle.dsde_program_nodes.specs.declared.node.NodeArm.{NodeArm}
-use Rattle.dsde_program_nodes.specs.Typing.{Scope, with_slot, item_in, held_in, field_type, field_number, builtin_type, func_number, type_number}
+use Rattle.dsde_declared.specs.Names.{Scope, with_slot, type_number}
+use Rattle.dsde_program_nodes.specs.Typing.{item_in, held_in, field_type, field_number, builtin_type, func_number}
 use Rattle.dsde_program_nodes.specs.Expressions as nodes
-use Rattle.dsde_program_nodes.specs.Expressions.{Resolved, nested, expr_id, sign_binary, of_type, over_one, over_two, over_all, all_nodes, cond_nodes, arm_nodes, each_nodes, if_nodes, resolve, resolve_step, builtin_node}
+use Rattle.dsde_declared.specs.Operators.{nested, sign_binary}
+use Rattle.dsde_program_nodes.specs.Expressions.{Resolved, expr_id, of_type, over_one, over_two, over_all, all_nodes, cond_nodes, arm_nodes, each_nodes, if_nodes, resolve, resolve_step, builtin_node}
 use Rattle.dsde_program_layout.specs.Lay as laid
 use Rattle.dsde_program_layout.specs.Lay.{Table, Laid, Lay, Link, lay, lay_suffix, lay_arm, lay_set, lay_sign_tail, lay_tail, lay_step, lay_all, lay_one, lay_two, lay_parts, lay_each, lay_if, lay_arms, lay_cond, numbers, head_from, lay_links, lay_chain, roomy, rooms, put}
 use Rattle.dsde_program_layout.specs.LaidIs.{laid_as}

@@ -6,8 +6,9 @@ use Rattle.dsde_syntax.specs.declared.decl.Model.{Model}
 use Rattle.dsde_check_rules.specs.declared.known.Known.{Known}
 use Rattle.dsde_program_nodes.specs.Pieces as piece
 use Rattle.dsde_program_nodes.specs.Models as said
-use Rattle.dsde_program_nodes.specs.Models.{Parts, no_parts, place_of_items, whole_of, resolved}
-use Rattle.dsde_program_nodes.specs.Items.{model_id}
+use Rattle.dsde_declared.specs.Structures.{place_of_items}
+use Rattle.dsde_declared.specs.Models.{whole_of, model_id}
+use Rattle.dsde_program_nodes.specs.Models.{Parts, no_parts, resolved}
 use Rattle.dsde_program_nodes.specs.Statements.{body_scope}
 use Rattle.dsde_program_layout.specs.LayPieces as step
 use Rattle.dsde_program_layout.specs.LayModels as laid

@@ -7,7 +7,7 @@ use Rattle.dsde_program_nodes.specs.declared.code.ViaCode.{ViaCode}
 use Rattle.dsde_program_nodes.specs.declared.ids.BlockId.{BlockId}
 use Rattle.dsde_program_nodes.specs.declared.ids.ExprId.{ExprId}
 use Rattle.dsde_program_nodes.specs.declared.node.Node.{Node}
-use Rattle.dsde_program_nodes.specs.Typing.{Scope, with_slot}
+use Rattle.dsde_declared.specs.Names.{Scope, with_slot}
 use Rattle.dsde_program_nodes.specs.Expressions.{Resolved, expr_id}
 use Rattle.dsde_program_nodes.specs.Pieces as said
 use Rattle.dsde_program_nodes.specs.Pieces.{Block, Next, Piece}

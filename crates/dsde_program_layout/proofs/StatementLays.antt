@@ -20,11 +20,13 @@ use Rattle.dsde_program_nodes.specs.declared.code.Code.{Code}
 use Rattle.dsde_program_nodes.specs.declared.code.FnCode.{FnCode}
 use Rattle.dsde_program_nodes.specs.declared.ids.BlockId.{BlockId}
 use Rattle.dsde_program_nodes.specs.declared.ids.ExprId.{ExprId}
-use Rattle.dsde_program_nodes.specs.Typing.{Scope, slot_of, with_slots, item_in}
+use Rattle.dsde_declared.specs.Names.{Scope, slot_of, with_slots}
+use Rattle.dsde_program_nodes.specs.Typing.{item_in}
 use Rattle.dsde_program_nodes.specs.Expressions.{resolve}
 use Rattle.dsde_program_nodes.specs.Pieces as piece
 use Rattle.dsde_program_nodes.specs.Statements as said
-use Rattle.dsde_program_nodes.specs.Statements.{FuncParts, Blocks, typed_fields, port_fields, input_fields, body_scope, phase_at}
+use Rattle.dsde_declared.specs.Models.{typed_fields, port_fields}
+use Rattle.dsde_program_nodes.specs.Statements.{FuncParts, Blocks, input_fields, body_scope, phase_at}
 use Rattle.dsde_program_layout.specs.Lay.{lay}
 use Rattle.dsde_program_layout.specs.LayPieces as step
 use Rattle.dsde_program_layout.specs.LayPieces.{LaidPiece}

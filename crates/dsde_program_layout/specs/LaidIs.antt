@@ -5,7 +5,7 @@ use Rattle.dsde_check_rules.specs.declared.known.Known.{Known}
 use Rattle.dsde_syntax.specs.declared.decl.Model.{Model}
 use Rattle.dsde_program_nodes.specs.Models.{resolved}
 use Rattle.dsde_program_nodes.specs.Pieces.{Next, Piece}
-use Rattle.dsde_program_nodes.specs.Typing.{Scope}
+use Rattle.dsde_declared.specs.Names.{Scope}
 use Rattle.dsde_program_nodes.specs.Expressions.{Resolved, resolve}
 use Rattle.dsde_program_layout.specs.Lay.{Table, Laid, lay}
 use Rattle.dsde_program_layout.specs.LayModels.{lay_model, no_tables}

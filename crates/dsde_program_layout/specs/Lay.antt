@@ -15,13 +15,15 @@ use Rattle.dsde_values.specs.declared.types.Ty.TheVariants as ty
 use Rattle.dsde_check_rules.specs.declared.known.Known.{Known}
 use Rattle.dsde_check_rules.specs.Tables.{by_text}
 use Rattle.dsde_program_nodes.specs.declared.ids.ExprId.{ExprId}
-use Rattle.dsde_program_nodes.specs.declared.node.Binary.{Binary}
-use Rattle.dsde_program_nodes.specs.declared.node.Binary.TheVariants as binary
+use Rattle.dsde_declared.specs.declared.operator.Binary.{Binary}
+use Rattle.dsde_declared.specs.declared.operator.Binary.TheVariants as binary
 use Rattle.dsde_program_nodes.specs.declared.node.Node.{Node}
 use Rattle.dsde_program_nodes.specs.declared.node.Node.TheVariants as node
 use Rattle.dsde_program_nodes.specs.declared.node.NodeArm.{NodeArm}
-use Rattle.dsde_program_nodes.specs.Typing.{Scope, with_slot, slot_of, slot_type, elapsed_name, item_in, held_in, type_number, variant_number, field_number, field_type, func_number, func_type, builtin_type}
-use Rattle.dsde_program_nodes.specs.Expressions.{expr_id, sign_binary, builtin_node}
+use Rattle.dsde_declared.specs.Names.{Scope, with_slot, slot_of, elapsed_name, type_number, variant_number}
+use Rattle.dsde_program_nodes.specs.Typing.{slot_type, item_in, held_in, field_number, field_type, func_number, func_type, builtin_type}
+use Rattle.dsde_declared.specs.Operators.{sign_binary}
+use Rattle.dsde_program_nodes.specs.Expressions.{expr_id, builtin_node}
 
 abbrev pub Table : Type 0
 Table = List Node

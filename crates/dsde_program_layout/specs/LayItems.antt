@@ -22,9 +22,11 @@ use Rattle.dsde_program_nodes.specs.declared.make.MakeIndex.{MakeIndex}
 use Rattle.dsde_program_nodes.specs.declared.make.MakePart.{MakePart}
 use Rattle.dsde_program_nodes.specs.declared.make.MakePart.TheVariants as make_part
 use Rattle.dsde_program_nodes.specs.declared.make.MakeVia.{MakeVia}
-use Rattle.dsde_program_nodes.specs.Typing.{with_slot, Scope, slot_of, slot_type, item_in}
+use Rattle.dsde_declared.specs.Names.{with_slot, Scope, slot_of}
+use Rattle.dsde_program_nodes.specs.Typing.{slot_type, item_in}
 use Rattle.dsde_program_nodes.specs.Expressions.{expr_id}
-use Rattle.dsde_program_nodes.specs.Items.{Place, model_id, end_ports}
+use Rattle.dsde_declared.specs.Structures.{Place, end_ports}
+use Rattle.dsde_declared.specs.Models.{model_id}
 use Rattle.dsde_program_layout.specs.LayPieces.{Step, ◌>>=◌, give, all, maybe, expr, bound, binding, inside}
 use Rattle.dsde_program_layout.specs.Lay.{lay}
 

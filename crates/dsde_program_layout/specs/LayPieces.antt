@@ -4,7 +4,7 @@ use Rattle.dsde_values.specs.declared.types.Ty.{Ty}
 use Rattle.dsde_program_nodes.specs.declared.ids.BlockId.{BlockId}
 use Rattle.dsde_program_nodes.specs.declared.ids.ExprId.{ExprId}
 use Rattle.dsde_program_nodes.specs.declared.tables.Tables.{Tables}
-use Rattle.dsde_program_nodes.specs.Typing.{Scope, with_slot}
+use Rattle.dsde_declared.specs.Names.{Scope, with_slot}
 use Rattle.dsde_program_nodes.specs.Expressions.{expr_id}
 use Rattle.dsde_program_nodes.specs.Pieces.{Block}
 use Rattle.dsde_program_layout.specs.Lay.{Lay}

@@ -19,8 +19,10 @@ use Rattle.dsde_program_nodes.specs.declared.code.Code.{Code}
 use Rattle.dsde_program_nodes.specs.declared.code.FnCode.{FnCode}
 use Rattle.dsde_program_nodes.specs.declared.ids.BlockId.{BlockId}
 use Rattle.dsde_program_nodes.specs.declared.ids.ExprId.{ExprId}
-use Rattle.dsde_program_nodes.specs.Typing.{with_slots, Scope, slot_of, item_in}
-use Rattle.dsde_program_nodes.specs.Statements.{FuncParts, Blocks, typed_fields, port_fields, phase_at, input_fields, body_scope}
+use Rattle.dsde_declared.specs.Names.{with_slots, Scope, slot_of}
+use Rattle.dsde_program_nodes.specs.Typing.{item_in}
+use Rattle.dsde_declared.specs.Models.{typed_fields, port_fields}
+use Rattle.dsde_program_nodes.specs.Statements.{FuncParts, Blocks, phase_at, input_fields, body_scope}
 use Rattle.dsde_program_layout.specs.Lay.{lay}
 use Rattle.dsde_program_nodes.specs.Pieces.{Block}
 use Rattle.dsde_program_layout.specs.LayPieces.{Step, ◌>>=◌, give, all, maybe, expr, bound, binding, seeing, over, braced, roomy, put}

@@ -1,8 +1,9 @@
 //! The names that the parts of functions and bodies see.
 
 ghost use Rattle.std.specs.Prelude.{◌≡◌, [], ◌∷◌, length, take, false, IfOk, OnOk};
-ghost use Rattle.dsde_program_nodes.specs.Typing.{with_slots};
-ghost use Rattle.dsde_program_nodes.specs.Statements.{typed_fields, state_fields, port_fields, list_fields, input_fields};
+ghost use Rattle.dsde_declared.specs.Names.{with_slots};
+ghost use Rattle.dsde_declared.specs.Models.{typed_fields, state_fields, port_fields};
+ghost use Rattle.dsde_program_nodes.specs.Statements.{list_fields, input_fields};
 
 use crate::scope::bind;
 use dsde_check_tables::{Known, Member, list_type};

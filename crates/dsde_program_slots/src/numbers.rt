@@ -2,14 +2,15 @@
 
 ghost use Rattle.std.specs.Prelude.{◌≡◌, position, unwrap_or, IfOk};
 ghost use Rattle.std.specs.Str.{bytes_eq};
-ghost use Rattle.dsde_program_nodes.specs.Typing.{type_number, variant_number, field_number, func_number};
-ghost use Rattle.dsde_program_nodes.specs.Items.{model_id, model_number};
+ghost use Rattle.dsde_declared.specs.Names.{type_number, variant_number};
+ghost use Rattle.dsde_program_nodes.specs.Typing.{field_number, func_number};
+ghost use Rattle.dsde_declared.specs.Models.{model_id, model_number};
 
 use crate::scope::slot_of;
 use dsde_check_tables::{Known, Word, narrow};
+use dsde_declared::ModelId;
 use dsde_lists::Memory;
 use dsde_names::Names;
-use dsde_program_nodes::ModelId;
 use dsde_values::Ty;
 
 /// The number of a type.

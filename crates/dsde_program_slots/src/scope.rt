@@ -1,7 +1,8 @@
 //! Names that are seen, each at its slot.
 
 ghost use Rattle.std.specs.Prelude.{◌≡◌, length, take, IfOk, OnOk, OnErr};
-ghost use Rattle.dsde_program_nodes.specs.Typing.{with_slot, slot_of, slot_type};
+ghost use Rattle.dsde_declared.specs.Names.{with_slot, slot_of};
+ghost use Rattle.dsde_program_nodes.specs.Typing.{slot_type};
 
 use dsde_check_tables::{Member, copy_type, narrow};
 use dsde_lists::Memory;

@@ -13,8 +13,8 @@ use Rattle.dsde_syntax.specs.declared.item.ViaPart.{ViaPart}
 use Rattle.dsde_program_nodes.specs.declared.make.Make.{Make}
 use Rattle.dsde_program_nodes.specs.declared.make.MakeArm.{MakeArm}
 use Rattle.dsde_program_nodes.specs.declared.tables.Tables.{Tables}
-use Rattle.dsde_program_nodes.specs.Typing.{Scope}
-use Rattle.dsde_program_nodes.specs.Items.{Place}
+use Rattle.dsde_declared.specs.Names.{Scope}
+use Rattle.dsde_declared.specs.Structures.{Place}
 use Rattle.dsde_program_layout.specs.LayPieces.{Step}
 use Rattle.dsde_program_layout.specs.LayItems.{item_arm_step, item_step, lay_item}
 use Rattle.dsde_program_structures.specs.Parts.{lay_arm, lay_arm_by, lay_comp, lay_for, lay_let, lay_link}

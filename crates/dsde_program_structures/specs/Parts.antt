@@ -15,7 +15,8 @@ use Rattle.dsde_program_nodes.specs.declared.make.Make.TheVariants as make
 use Rattle.dsde_program_nodes.specs.declared.make.MakeArm.{MakeArm}
 use Rattle.dsde_program_nodes.specs.declared.make.MakeVia.{MakeVia}
 use Rattle.dsde_program_nodes.specs.Typing.{item_in, slot_type}
-use Rattle.dsde_program_nodes.specs.Items.{Kin, Place, end_ports, kin_step, kin_arm_step, model_id}
+use Rattle.dsde_declared.specs.Structures.{Kin, Place, end_ports, kin_step, kin_arm_step}
+use Rattle.dsde_declared.specs.Models.{model_id}
 use Rattle.dsde_program_layout.specs.Lay.{lay}
 use Rattle.dsde_program_layout.specs.LayPieces.{Step, ◌>>=◌, all, bound, expr, give, inside}
 use Rattle.dsde_program_layout.specs.LayItems.{item_step, item_arm_step, lay_all, lay_end, lay_index, lay_items, maybe_via}

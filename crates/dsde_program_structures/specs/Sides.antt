@@ -5,8 +5,8 @@ use Rattle.dsde_values.specs.declared.types.Field.{Field}
 use Rattle.dsde_check_rules.specs.declared.known.Known.{Known}
 use Rattle.dsde_check_rules.specs.declared.signatures.ModelSig.{ModelSig}
 use Rattle.dsde_check_rules.specs.Tables.{family_name}
-use Rattle.dsde_program_nodes.specs.Items.{Place, directed}
-use Rattle.dsde_program_nodes.specs.Typing.{with_slots}
+use Rattle.dsde_declared.specs.Structures.{Place, directed}
+use Rattle.dsde_declared.specs.Names.{with_slots}
 use Rattle.dsde_program_structures.specs.declared.gate.Gate.{Gate}
 
 -- the ports of a model

@@ -7,7 +7,7 @@ use Rattle.dsde_check_rules.specs.declared.known.Known.{Known}
 use Rattle.dsde_check_rules.specs.contracts.known.Known as known
 use Rattle.dsde_check_rules.specs.declared.signatures.Family.{Family}
 use Rattle.dsde_check_rules.specs.contracts.signatures.Family as family
-use Rattle.dsde_program_nodes.specs.Items.{Place}
+use Rattle.dsde_declared.specs.Structures.{Place}
 
 abbrev Fields : Type 0
 Fields = List Field

@@ -2,7 +2,8 @@
 
 ghost use Rattle.std.specs.Prelude.{◌≡◌, [], map, IfOk, OnOk};
 ghost use Rattle.dsde_check_rules.specs.Tables.{added, family_name};
-ghost use Rattle.dsde_program_nodes.specs.Items.{kin_all, kin_of, model_number};
+ghost use Rattle.dsde_declared.specs.Structures.{kin_all, kin_of};
+ghost use Rattle.dsde_declared.specs.Models.{model_number};
 ghost use Rattle.dsde_program_structures.specs.Parts.{kin_arm};
 
 use dsde_check_tables::{FamilyEntry, Known};

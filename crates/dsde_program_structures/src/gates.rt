@@ -1,9 +1,9 @@
 //! The ports of networks, executives and components, in tables by name.
 
 ghost use Rattle.std.specs.Prelude.{◌≡◌, [], ◌∷◌, ◌++◌, false, true, map, IfOk, OnOk};
-ghost use Rattle.dsde_program_nodes.specs.Typing.{with_slots};
-ghost use Rattle.dsde_program_nodes.specs.Statements.{port_fields};
-ghost use Rattle.dsde_program_nodes.specs.Items.{directed};
+ghost use Rattle.dsde_declared.specs.Names.{with_slots};
+ghost use Rattle.dsde_declared.specs.Models.{port_fields};
+ghost use Rattle.dsde_declared.specs.Structures.{directed};
 ghost use Rattle.dsde_program_structures.specs.Sides.{gate_of, gates_of};
 
 use crate::gate::Gate;

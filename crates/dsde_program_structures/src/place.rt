@@ -2,8 +2,7 @@
 
 ghost use Rattle.std.specs.Prelude.{◌≡◌, IfOk};
 ghost use Rattle.std.specs.Option.{option_copied};
-ghost use Rattle.dsde_program_nodes.specs.Items.{end_ports, kid_ports};
-ghost use Rattle.dsde_program_nodes.specs.Models.{place_of_items};
+ghost use Rattle.dsde_declared.specs.Structures.{end_ports, kid_ports, place_of_items};
 ghost use Rattle.dsde_program_structures.specs.Sides.{gate_at};
 
 use crate::families::families;
@@ -27,7 +26,7 @@ pub(crate) struct Place<'p, 'm> {
 }
 
 impl<'p, 'm> Model for Place<'p, 'm> {
-    ghost use Rattle.dsde_program_nodes.specs.Items.{Place};
+    ghost use Rattle.dsde_declared.specs.Structures.{Place};
     ghost use Rattle.dsde_program_structures.specs.Stored.{place_code};
 
     ghost Value = { Place };

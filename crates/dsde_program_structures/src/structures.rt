@@ -2,7 +2,7 @@
 
 ghost use Rattle.std.specs.Prelude.{◌≡◌, [], slice_get, IfOk, OnOk};
 ghost use Rattle.std.specs.Option.{option_copied};
-ghost use Rattle.dsde_program_nodes.specs.Models.{place_of_items};
+ghost use Rattle.dsde_declared.specs.Structures.{place_of_items};
 ghost use Rattle.dsde_program_nodes.specs.Statements.{body_scope};
 ghost use Rattle.dsde_program_layout.specs.LayPieces.{over};
 ghost use Rattle.dsde_program_layout.specs.LayItems.{lay_items};

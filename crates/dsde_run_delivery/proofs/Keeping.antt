@@ -5,7 +5,7 @@ use Rattle.dsde_values.specs.declared.arrival.Item.{Item}
 use Rattle.dsde_values.specs.declared.path.Path.{Path}
 use Rattle.dsde_values.specs.declared.value.Value.{Value}
 use Rattle.dsde_values.specs.Path.{root}
-use Rattle.dsde_program_nodes.specs.declared.ids.ModelId.{ModelId}
+use Rattle.dsde_declared.specs.declared.ids.ModelId.{ModelId}
 use Rattle.dsde_formalism.specs.System.{Chosen, System}
 use Rattle.dsde_sim_events.specs.declared.fault.TurnEnd.TheVariants.{Memory}
 use Rattle.dsde_sim_events.specs.Told.{Told, told, quietly, at, ◌then◌}

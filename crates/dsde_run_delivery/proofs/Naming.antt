@@ -11,7 +11,7 @@ use Rattle.dsde_values.specs.declared.name.Name.{Name}
 use Rattle.dsde_values.specs.declared.value.Value.{Value}
 use Rattle.dsde_values.specs.Path.{EXEC}
 use Rattle.dsde_faults.specs.declared.kind.Site.TheVariants as site
-use Rattle.dsde_program_nodes.specs.Items.{Place}
+use Rattle.dsde_declared.specs.Structures.{Place, structures_of}
 use Rattle.dsde_structure.specs.declared.plan.Entry.{Entry}
 use Rattle.dsde_structure.specs.declared.plan.Plan.{Plan}
 use Rattle.dsde_structure.specs.Gather.{is_same_name}
@@ -20,8 +20,7 @@ use Rattle.dsde_eval_meaning.specs.Meaning.{Function, Vars}
 use Rattle.dsde_eval_meaning.specs.Outcome.{Outcome, Fault, Stuck}
 use Rattle.dsde_executive_plans.specs.Layout.{structure}
 use Rattle.dsde_sound_grammar.specs.Items.{ShapedItemsAreProper, has_proper_items, is_proper_item}
-use Rattle.dsde_sound_places.specs.Bodies.{Own, owns_of}
-use Rattle.dsde_sound_places.specs.Structures.{structures_of}
+use Rattle.dsde_declared.specs.Models.{Own, owns_of}
 use Rattle.dsde_formalism.specs.System.{State}
 use Rattle.dsde_system.specs.Body.{at_site}
 use Rattle.dsde_system.specs.Program.{network_at, plan_at, system}

@@ -3,9 +3,8 @@ use Rattle.std.proofs.Common.{◌≡◌, ℕ, ◌<◌, ◌^◌, false, List, len
 use Rattle.dsde_lists.specs.declared.memory.Memory.{Memory}
 use Rattle.dsde_syntax.specs.declared.decl.Model.{Model}
 use Rattle.dsde_values.specs.declared.arrival.Item.{Item}
-use Rattle.dsde_program_nodes.specs.Models.{types_of}
+use Rattle.dsde_declared.specs.Models.{types_of, Own, owns_of}
 use Rattle.dsde_formalism.specs.System.{Ports}
-use Rattle.dsde_sound_places.specs.Bodies.{Own, owns_of}
 use Rattle.dsde_system.specs.Fitting.{Reach}
 use Rattle.dsde_system.specs.Plans.{ways}
 use Rattle.dsde_system.specs.Program.{system}

@@ -5,10 +5,9 @@ use Rattle.dsde_values.specs.declared.arrival.Arrival.{Arrival}
 use Rattle.dsde_values.specs.declared.arrival.Item.{Item}
 use Rattle.dsde_values.specs.When.{IsMoment}
 use Rattle.dsde_values.specs.declared.value.Value.{Value}
-use Rattle.dsde_program_nodes.specs.declared.ids.ModelId.{ModelId}
-use Rattle.dsde_program_nodes.specs.Models.{types_of}
+use Rattle.dsde_declared.specs.declared.ids.ModelId.{ModelId}
+use Rattle.dsde_declared.specs.Models.{types_of, Own, owns_of}
 use Rattle.dsde_eval_meaning.specs.Typed.{AllSent}
-use Rattle.dsde_sound_places.specs.Bodies.{Own, owns_of}
 use Rattle.dsde_system.specs.Plans.{ways}
 use Rattle.dsde_formalism.specs.System.{Chosen}
 use Rattle.dsde_sim_events.specs.declared.fault.TurnEnd.{TurnEnd}

@@ -8,7 +8,7 @@ ghost use Rattle.dsde_sim_tree.specs.Move.{gone, kept, drop_of};
 ghost use Rattle.dsde_sim_changing.specs.Heads.{name_of, from_name, is_first};
 
 use crate::counting::parts;
-use dsde_program_nodes::ModelId;
+use dsde_declared::ModelId;
 use dsde_sim_events::Event;
 use dsde_sim_telling::tell_drop;
 use dsde_sim_tree::{Kid, Sim};

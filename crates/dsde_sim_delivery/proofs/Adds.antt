@@ -6,7 +6,7 @@ use Rattle.dsde_values.specs.Path.{EXEC}
 use Rattle.dsde_values.specs.declared.name.Name.{Name}
 use Rattle.dsde_values.specs.declared.path.Path.{Path}
 use Rattle.dsde_values.specs.declared.value.Value.{Value}
-use Rattle.dsde_program_nodes.specs.declared.ids.ModelId.{ModelId}
+use Rattle.dsde_declared.specs.declared.ids.ModelId.{ModelId}
 use Rattle.dsde_formalism.specs.Leaf.{start_leaf}
 use Rattle.dsde_formalism.specs.System.{System}
 use Rattle.dsde_structure.specs.declared.plan.Entry.{Entry}

@@ -1,8 +1,8 @@
 //! What a run tells.
 
 use crate::Fault;
+use dsde_declared::ModelId;
 use dsde_formalism::MoveKind;
-use dsde_program_nodes::ModelId;
 use dsde_values::{Path, Value, Values, When};
 
 /// What a run tells: a line of its trace each. A component is told by its path. The model of an

@@ -5,7 +5,7 @@ use Rattle.std.proofs.Common.{inl, inr}
 use Rattle.dsde_values.specs.declared.name.Name.{Name}
 use Rattle.dsde_values.specs.declared.value.Value.{Value}
 use Rattle.dsde_values.specs.Path.{EXEC}
-use Rattle.dsde_program_nodes.specs.declared.ids.ModelId.{ModelId}
+use Rattle.dsde_declared.specs.declared.ids.ModelId.{ModelId}
 use Rattle.dsde_formalism.specs.System.{State, System}
 use Rattle.dsde_structure.specs.declared.plan.Plan.{Plan}
 use Rattle.dsde_structure.specs.Gather.{is_same_name}

@@ -12,7 +12,7 @@ ghost use Rattle.dsde_sim_movers.specs.Changes.{changed_as};
 ghost use Rattle.dsde_sim_movers.specs.Found.{IsFound, Moves};
 ghost use Rattle.dsde_values.specs.Path.{root};
 ghost use Rattle.dsde_values.specs.declared.value.Value.{Value};
-ghost use Rattle.dsde_program_nodes.specs.declared.ids.ModelId.{ModelId};
+ghost use Rattle.dsde_declared.specs.declared.ids.ModelId.{ModelId};
 ghost use Rattle.dsde_structure.specs.declared.plan.Entry.{Entry};
 ghost use Rattle.dsde_structure.specs.declared.plan.Link.{Link};
 ghost use Rattle.dsde_structure.specs.Survival.{IsInOrder, compared};

@@ -6,8 +6,8 @@ use Rattle.dsde_syntax.specs.declared.decl.Model.{Model}
 use Rattle.dsde_values.specs.declared.name.Name.{Name}
 use Rattle.dsde_values.specs.declared.types.Field.{Field}
 use Rattle.dsde_values.specs.declared.value.Value.{Value}
-use Rattle.dsde_program_nodes.specs.declared.ids.ModelId.{ModelId}
-use Rattle.dsde_program_nodes.specs.Models.{types_of}
+use Rattle.dsde_declared.specs.declared.ids.ModelId.{ModelId}
+use Rattle.dsde_declared.specs.Models.{types_of, Own, owns_of, body_ins}
 use Rattle.dsde_check_rules.specs.Right.{IsRight}
 use Rattle.dsde_structure.specs.declared.plan.Entry.{Entry}
 use Rattle.dsde_structure.specs.declared.plan.Link.{Link}
@@ -16,7 +16,6 @@ use Rattle.dsde_structure.specs.declared.plan.Part.TheVariants as part
 use Rattle.dsde_structure.specs.declared.sources.Sources.{Sources}
 use Rattle.dsde_structure.specs.Gather.{gather, gathered}
 use Rattle.dsde_structure.specs.Survival.{AreInOrder, names}
-use Rattle.dsde_sound_places.specs.Bodies.{Own, owns_of, body_ins}
 use Rattle.dsde_formalism.specs.System.{Ports}
 use Rattle.dsde_sim_events.specs.declared.fault.TurnEnd.{TurnEnd}
 use Rattle.dsde_system.specs.Program.{system}

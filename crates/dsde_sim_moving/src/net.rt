@@ -14,10 +14,10 @@ ghost use Rattle.dsde_sim_starting.specs.Fitting.{FitsKid, FitsLinks, FitsNet};
 ghost use Rattle.dsde_sim_starting.specs.Starting.{IsNet};
 
 use crate::leaf::{boss_move, kind_of};
+use dsde_declared::ModelId;
 use dsde_formalism::Leaf;
 use dsde_lists::Boxed;
 use dsde_program::Program;
-use dsde_program_nodes::ModelId;
 use dsde_sim_changing::change;
 use dsde_sim_events::{Event, TurnEnd};
 use dsde_sim_starting::{net_of, structure_of};

@@ -6,7 +6,7 @@ use Rattle.std.proofs.lemmas.List.Sums.{sum_by-cons}
 use Rattle.dsde_syntax.specs.declared.decl.Model.{Model}
 use Rattle.dsde_values.specs.declared.path.Path.{Path}
 use Rattle.dsde_values.specs.declared.value.Value.{Value}
-use Rattle.dsde_program_nodes.specs.declared.ids.ModelId.{ModelId}
+use Rattle.dsde_declared.specs.declared.ids.ModelId.{ModelId}
 use Rattle.dsde_formalism.specs.declared.leaf.Leaf.{Leaf}
 use Rattle.dsde_formalism.specs.System.{System}
 use Rattle.dsde_structure.specs.declared.plan.Entry.{Entry}

@@ -10,9 +10,8 @@ use Rattle.dsde_syntax.specs.declared.decl.Model.{Model}
 use Rattle.dsde_values.specs.declared.arrival.Item.{Item}
 use Rattle.dsde_values.specs.declared.value.Value.{Value}
 use Rattle.dsde_faults.specs.declared.end.LeafEnd.{LeafEnd}
-use Rattle.dsde_program_nodes.specs.declared.ids.ModelId.{ModelId}
-use Rattle.dsde_program_nodes.specs.Models.{whole_of, types_of}
-use Rattle.dsde_program_nodes.specs.Statements.{port_fields}
+use Rattle.dsde_declared.specs.declared.ids.ModelId.{ModelId}
+use Rattle.dsde_declared.specs.Models.{whole_of, types_of, port_fields, Own, owns_of}
 use Rattle.dsde_check_rules.specs.Right.{IsRight}
 use Rattle.dsde_formalism.specs.declared.leaf.Leaf.{Leaf}
 use Rattle.dsde_formalism.specs.System.{Ports}
@@ -22,7 +21,6 @@ use Rattle.dsde_structure.specs.declared.plan.Part.TheVariants as part
 use Rattle.dsde_structure.specs.declared.sources.Sources.{Sources}
 use Rattle.dsde_structure.specs.Gather.{gather, gathered}
 use Rattle.dsde_structure.specs.Survival.{AreInOrder}
-use Rattle.dsde_sound_places.specs.Bodies.{Own, owns_of}
 use Rattle.dsde_system.specs.Program.{system, component_at, network_at}
 use Rattle.dsde_system.specs.Fitting.{FitsSends, Reach}
 use Rattle.dsde_system.specs.Plans.{Cover, FitsSources, ways, body_ways}

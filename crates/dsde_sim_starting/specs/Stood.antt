@@ -8,10 +8,9 @@ use Rattle.dsde_syntax.specs.declared.decl.Model.{Model}
 use Rattle.dsde_syntax.specs.declared.decl.PortDecl.{PortDecl}
 use Rattle.dsde_values.specs.declared.types.Field.{Field}
 use Rattle.dsde_values.specs.declared.value.Value.{Value}
-use Rattle.dsde_program_nodes.specs.declared.ids.ModelId.{ModelId}
-use Rattle.dsde_program_nodes.specs.Models.{whole_of, infos_of, types_of}
-use Rattle.dsde_program_nodes.specs.Statements.{port_fields}
-use Rattle.dsde_sound_places.specs.Bodies.{Own, owns_of, body_ins}
+use Rattle.dsde_declared.specs.declared.ids.ModelId.{ModelId}
+use Rattle.dsde_declared.specs.Models.{whole_of, types_of, port_fields, Own, owns_of, body_ins}
+use Rattle.dsde_program_nodes.specs.Models.{infos_of}
 use Rattle.dsde_formalism.specs.declared.leaf.Leaf.{Leaf}
 use Rattle.dsde_formalism.specs.System.{System, Ports}
 use Rattle.dsde_formalism.specs.Leaf.{component_of}

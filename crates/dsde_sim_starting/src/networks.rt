@@ -8,12 +8,12 @@ ghost use Rattle.dsde_system.specs.Fitting.{FitsArgs, FitsLeaf};
 ghost use Rattle.dsde_sim_tree.specs.Start.{net_of, structure_of};
 ghost use Rattle.dsde_sim_starting.specs.Starting.{FitsWhereItsPartsDo, IsNet};
 
+use dsde_declared::ModelId;
 use dsde_executive::structure;
 use dsde_faults::{EvalEnd, LeafEnd, Site};
 use dsde_formalism::Leaf;
 use dsde_lists::Boxed;
 use dsde_program::Program;
-use dsde_program_nodes::ModelId;
 use dsde_sim_events::TurnEnd;
 use dsde_sim_telling::{at, boss_of};
 use dsde_sim_tree::{Kid, Net};

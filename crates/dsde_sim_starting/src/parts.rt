@@ -17,11 +17,11 @@ ghost use Rattle.dsde_sim_starting.specs.Starting.{IsNet};
 
 use crate::networks::{net_of, structure_of};
 use dsde_atomic::{component_at, is_network, network_at, start_leaf};
+use dsde_declared::ModelId;
 use dsde_faults::{FaultKind, LeafEnd, Site};
 use dsde_formalism::Leaf;
 use dsde_lists::Boxed;
 use dsde_program::Program;
-use dsde_program_nodes::ModelId;
 use dsde_sim_events::{Event, TurnEnd};
 use dsde_sim_telling::{at, below, boss_of, tell_leaf, tell_net};
 use dsde_sim_tree::{Kid, Net, Sim};

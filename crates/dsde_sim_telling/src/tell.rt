@@ -7,8 +7,8 @@ ghost use Rattle.dsde_sim_tree.specs.Move.{gets_at, gets_from};
 ghost use Rattle.dsde_sim_tree.specs.Output.{outs_at, outs_from};
 
 use crate::paths::{below, copy_path};
+use dsde_declared::ModelId;
 use dsde_formalism::{Leaf, MoveKind};
-use dsde_program_nodes::ModelId;
 use dsde_sim_events::Event;
 use dsde_values::{Memory, Name, Path, Seq, Value, Values, copy_value, copy_values};
 use std::alloc::Global;

@@ -3,7 +3,7 @@ use Rattle.std.specs.Prelude.{ℕ, ◌+◌, min, sum, map, List, [], ◌∷◌}
 use Rattle.dsde_values.specs.declared.value.Value.{Value}
 use Rattle.dsde_values.specs.declared.when.When.{When}
 use Rattle.dsde_values.specs.declared.when.When.TheVariants.{At, Never}
-use Rattle.dsde_program_nodes.specs.declared.ids.ModelId.{ModelId}
+use Rattle.dsde_declared.specs.declared.ids.ModelId.{ModelId}
 use Rattle.dsde_structure.specs.declared.plan.Entry.{Entry}
 use Rattle.dsde_sim_tree.specs.declared.sim.Kid.{Kid}
 use Rattle.dsde_sim_tree.specs.declared.sim.Net.{Net}

@@ -1,8 +1,8 @@
 //! Simulators (F. J. Barros, "Abstract Simulators for the DSDE Formalism", WSC 1998).
 
+use dsde_declared::ModelId;
 use dsde_formalism::Leaf;
 use dsde_lists::Boxed;
-use dsde_program_nodes::ModelId;
 use dsde_structure::Link;
 use dsde_values::{Name, Seq, Values};
 

@@ -7,7 +7,7 @@ use Rattle.dsde_values.specs.declared.value.Value.{Value}
 use Rattle.dsde_values.specs.declared.when.When.{When}
 use Rattle.dsde_values.specs.declared.when.When.TheVariants.{At, Never}
 use Rattle.dsde_values.specs.Path.{root}
-use Rattle.dsde_program_nodes.specs.declared.ids.ModelId.{ModelId}
+use Rattle.dsde_declared.specs.declared.ids.ModelId.{ModelId}
 use Rattle.dsde_formalism.specs.System.{Ports, System}
 use Rattle.dsde_sim_events.specs.declared.event.Event.TheVariants.{Turn}
 use Rattle.dsde_sim_events.specs.declared.fault.TurnEnd.TheVariants.{Memory}

@@ -19,7 +19,8 @@ use Rattle.dsde_check_rules.specs.Blocks.{Passed, inner}
 use Rattle.dsde_check_rules.specs.Blocks as rule_blocks
 use Rattle.dsde_program_nodes.specs.declared.act.Act.{Act}
 use Rattle.dsde_program_nodes.specs.declared.node.Node.{Node}
-use Rattle.dsde_program_nodes.specs.Typing.{with_slot, item_in}
+use Rattle.dsde_declared.specs.Names.{with_slot}
+use Rattle.dsde_program_nodes.specs.Typing.{item_in}
 use Rattle.dsde_program_nodes.specs.Expressions.{resolve, expr_id}
 use Rattle.dsde_program_nodes.specs.Pieces.{Block, Next, Piece, Step, all}
 use Rattle.dsde_program_nodes.specs.Statements as said

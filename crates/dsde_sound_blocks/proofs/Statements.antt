@@ -24,7 +24,7 @@ use Rattle.dsde_check_rules.specs.Judge as rules
 use Rattle.dsde_check_rules.specs.Blocks.{Passed, var_kind, may_set, set_of, send_of}
 use Rattle.dsde_check_rules.specs.Blocks as rule_blocks
 use Rattle.dsde_program_nodes.specs.declared.node.Node.{Node}
-use Rattle.dsde_program_nodes.specs.Typing.{slot_of, with_slot}
+use Rattle.dsde_declared.specs.Names.{slot_of, with_slot}
 use Rattle.dsde_program_nodes.specs.Expressions.{resolve}
 use Rattle.dsde_program_nodes.specs.Pieces.{Block, Next}
 use Rattle.dsde_program_nodes.specs.Statements as said

@@ -10,7 +10,7 @@ use Rattle.dsde_values.specs.declared.value.Value.{Value}
 use Rattle.dsde_values.specs.declared.value.Value.TheVariants as value
 use Rattle.dsde_values.specs.Value.{fits_int}
 use Rattle.dsde_faults.specs.declared.kind.FaultKind.TheVariants.{IndexOutOfRange, RangeTooLong}
-use Rattle.dsde_program_nodes.specs.declared.node.Builtin.TheVariants as builtin
+use Rattle.dsde_declared.specs.declared.operator.Builtin.TheVariants as builtin
 use Rattle.dsde_eval_meaning.specs.Outcome.{Fault, ◌>>=◌, int_of, items_of, option_of}
 use Rattle.dsde_eval_meaning.specs.Operators.{listed, truth, count_of, numbers_from, ranged, replaced, of_one, of_two, of_three}
 use Rattle.dsde_eval_meaning.specs.Typed.{Typed}

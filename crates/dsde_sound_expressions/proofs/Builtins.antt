@@ -26,7 +26,7 @@ use Rattle.dsde_check_rules.specs.Types.{wanted}
 use Rattle.dsde_check_rules.specs.Judge.{Scope, Judge, judge_step, total, made, part_type, fit_parts, given_type, builtin_of}
 use Rattle.dsde_program_nodes.specs.declared.ids.ExprId.{ExprId}
 use Rattle.dsde_program_nodes.specs.declared.node.Node.{Node}
-use Rattle.dsde_program_nodes.specs.declared.node.Builtin.TheVariants as builtin
+use Rattle.dsde_declared.specs.declared.operator.Builtin.TheVariants as builtin
 use Rattle.dsde_program_nodes.specs.Typing.{first_type, item_in, held_in}
 use Rattle.dsde_program_nodes.specs.Expressions.{Resolved, resolve_step, over_all, builtin_node}
 use Rattle.dsde_eval_meaning.specs.Outcome.{Outcome, ◌>>=◌}

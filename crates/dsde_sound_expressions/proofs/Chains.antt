@@ -14,12 +14,13 @@ use Rattle.dsde_check_rules.specs.declared.seen.Seen.{Seen}
 use Rattle.dsde_check_rules.specs.Types.{wanted, item_type, held_type}
 use Rattle.dsde_check_rules.specs.Judge as rules
 use Rattle.dsde_check_rules.specs.Judge.{Scope, Judge, chain, links_from, operand, total, sign_may_fault, field_of, fields_at}
-use Rattle.dsde_program_nodes.specs.declared.node.Binary.{Binary}
-use Rattle.dsde_program_nodes.specs.declared.node.Binary.TheVariants as binary
+use Rattle.dsde_declared.specs.declared.operator.Binary.{Binary}
+use Rattle.dsde_declared.specs.declared.operator.Binary.TheVariants as binary
 use Rattle.dsde_program_nodes.specs.declared.node.Node.TheVariants as node
 use Rattle.dsde_program_nodes.specs.Typing.{field_number, field_type, item_in, held_in}
 use Rattle.dsde_program_nodes.specs.Expressions as nodes
-use Rattle.dsde_program_nodes.specs.Expressions.{Resolved, nested, sign_binary, over_one}
+use Rattle.dsde_declared.specs.Operators.{nested, sign_binary}
+use Rattle.dsde_program_nodes.specs.Expressions.{Resolved, over_one}
 use Rattle.dsde_eval_meaning.specs.Outcome.{Outcome, ◌>>=◌}
 use Rattle.dsde_eval_meaning.specs.Operators.{combined, unwrapped, indexed}
 use Rattle.dsde_eval_meaning.specs.Meaning as meaning

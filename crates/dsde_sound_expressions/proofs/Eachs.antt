@@ -19,7 +19,8 @@ use Rattle.dsde_check_rules.specs.Tables.{field_name}
 use Rattle.dsde_check_rules.specs.Judge.{Scope, Judge, guarded, test_of, judge_step, fresh, fixed, made}
 use Rattle.dsde_program_nodes.specs.declared.node.Node.{Node}
 use Rattle.dsde_program_nodes.specs.declared.node.Node.TheVariants as node
-use Rattle.dsde_program_nodes.specs.Typing.{with_slot, item_in}
+use Rattle.dsde_declared.specs.Names.{with_slot}
+use Rattle.dsde_program_nodes.specs.Typing.{item_in}
 use Rattle.dsde_program_nodes.specs.Expressions.{Resolved, resolve_step, expr_id, cond_nodes, cond_number}
 use Rattle.dsde_eval_meaning.specs.Outcome.{Outcome, ◌>>=◌, truth_of, items_of}
 use Rattle.dsde_eval_meaning.specs.Meaning.{Var, Vars, Mean, Function, mean_step, with_var, holds, kept_of, each_of}

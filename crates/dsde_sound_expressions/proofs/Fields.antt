@@ -23,7 +23,8 @@ use Rattle.dsde_check_rules.specs.declared.wrong.WrongKind.TheVariants.{Unknown,
 use Rattle.dsde_check_rules.specs.Steps.{wrong}
 use Rattle.dsde_check_rules.specs.Tables.{field_name}
 use Rattle.dsde_check_rules.specs.Judge.{fields_at, fields_of, field_in, field_of}
-use Rattle.dsde_program_nodes.specs.Typing.{slot_of, slot_type, fields_in, field_number, field_type}
+use Rattle.dsde_declared.specs.Names.{slot_of}
+use Rattle.dsde_program_nodes.specs.Typing.{slot_type, fields_in, field_number, field_type}
 use Rattle.dsde_eval_meaning.specs.Outcome.{Stuck, Outcome, ◌>>=◌, present}
 use Rattle.dsde_eval_meaning.specs.Meaning.{part_named, field_named}
 use Rattle.dsde_eval_meaning.specs.Tables.{field_at}

@@ -23,7 +23,8 @@ use Rattle.dsde_check_rules.specs.Steps.{unless, wrong}
 use Rattle.dsde_check_rules.specs.Tables.{func_name}
 use Rattle.dsde_check_rules.specs.Judge.{Scope, Judge, SetJudge, judge_step, total, all_of, fit_all, fill, all_fields, in_order, call_of, record_of, record_at, variant_in, variant_at, fields_at, variants_at, declared_type, type_of}
 use Rattle.dsde_program_nodes.specs.declared.node.Node.TheVariants as node
-use Rattle.dsde_program_nodes.specs.Typing.{type_number, variant_number, func_number, func_type}
+use Rattle.dsde_declared.specs.Names.{type_number, variant_number}
+use Rattle.dsde_program_nodes.specs.Typing.{func_number, func_type}
 use Rattle.dsde_program_nodes.specs.Expressions.{Resolved, resolve_step, head_type}
 use Rattle.dsde_eval_meaning.specs.Operators.{listed}
 use Rattle.dsde_eval_meaning.specs.Meaning.{Function, Mean, mean_step, called}

@@ -9,8 +9,8 @@ use Rattle.dsde_values.specs.declared.value.Value.{Value}
 use Rattle.dsde_values.specs.declared.value.Value.TheVariants as value
 use Rattle.dsde_values.specs.Value.{fits_int}
 use Rattle.dsde_faults.specs.declared.kind.FaultKind.TheVariants.{Overflow, DivideByZero, EmptyOption, RangeTooLong}
-use Rattle.dsde_program_nodes.specs.declared.node.Binary.{Binary}
-use Rattle.dsde_program_nodes.specs.declared.node.Binary.TheVariants as binary
+use Rattle.dsde_declared.specs.declared.operator.Binary.{Binary}
+use Rattle.dsde_declared.specs.declared.operator.Binary.TheVariants as binary
 use Rattle.dsde_eval_meaning.specs.Outcome.{Fault, Outcome, ◌>>=◌, int_of, truth_of, items_of, option_of}
 use Rattle.dsde_eval_meaning.specs.Operators.{same_value, whole, nearest, listed, is_zero, divided, remaining, of_ints, truth, joined, operated, combined, denied, negated, or_else, unwrapped, item_at, indexed}
 use Rattle.dsde_eval_meaning.specs.Typed.{Typed, Sound}

@@ -3,7 +3,7 @@ use Rattle.std.proofs.Common.{◌≡◌, Bool, true, false, ◌||◌, List, [], 
 use Rattle.std.specs.List.{list_all}
 use Rattle.dsde_syntax.specs.declared.token.Sign.{Sign}
 use Rattle.dsde_syntax.specs.Levels.{is_sum_sign, is_mul_sign, has_first}
-use Rattle.dsde_program_nodes.specs.declared.node.Binary.{Binary}
+use Rattle.dsde_declared.specs.declared.operator.Binary.{Binary}
 use Rattle.dsde_sound_typing.specs.Truths.{and-left, and-right}
 use Rattle.dsde_sound_expressions.proofs.Signs.{is_operator}
 

@@ -9,7 +9,8 @@ use Rattle.dsde_values.specs.declared.types.Types.{Types}
 use Rattle.dsde_values.specs.declared.value.Value.{Value}
 use Rattle.dsde_check_rules.specs.Tables.{field_name}
 use Rattle.dsde_program_nodes.specs.declared.node.Node.TheVariants as node
-use Rattle.dsde_program_nodes.specs.Typing.{slot_of, slot_type}
+use Rattle.dsde_declared.specs.Names.{slot_of}
+use Rattle.dsde_program_nodes.specs.Typing.{slot_type}
 use Rattle.dsde_eval_meaning.specs.Outcome.{Outcome, ◌>>=◌, present}
 use Rattle.dsde_eval_meaning.specs.Meaning.{Var, Vars, value_named}
 use Rattle.dsde_eval_meaning.specs.Typed.{Typed, Sound, Fits, values_in}

@@ -11,7 +11,7 @@ use Rattle.dsde_check_rules.specs.declared.known.Around.{Around}
 use Rattle.dsde_check_rules.specs.declared.seen.Seen.{Seen}
 use Rattle.dsde_check_rules.specs.Judge.{operand, sign_may_fault, total, compared}
 use Rattle.dsde_check_rules.specs.Types.{wanted, item_type}
-use Rattle.dsde_program_nodes.specs.Expressions.{sign_binary}
+use Rattle.dsde_declared.specs.Operators.{sign_binary}
 use Rattle.dsde_eval_meaning.specs.Outcome.{Outcome}
 use Rattle.dsde_eval_meaning.specs.Operators.{combined}
 use Rattle.dsde_eval_meaning.specs.Typed.{Typed}

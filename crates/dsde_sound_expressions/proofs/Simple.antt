@@ -19,8 +19,10 @@ use Rattle.dsde_check_rules.specs.Steps.{unless, wrong}
 use Rattle.dsde_check_rules.specs.Types.{wanted, held_type}
 use Rattle.dsde_check_rules.specs.Judge.{Scope, Judge, judge_step, made, total, compared, bound_to}
 use Rattle.dsde_program_nodes.specs.declared.node.Node.TheVariants as node
-use Rattle.dsde_program_nodes.specs.Typing.{elapsed_name, slot_type}
-use Rattle.dsde_program_nodes.specs.Expressions.{Resolved, resolve_step, sign_binary}
+use Rattle.dsde_declared.specs.Names.{elapsed_name}
+use Rattle.dsde_program_nodes.specs.Typing.{slot_type}
+use Rattle.dsde_declared.specs.Operators.{sign_binary}
+use Rattle.dsde_program_nodes.specs.Expressions.{Resolved, resolve_step}
 use Rattle.dsde_eval_meaning.specs.Operators.{combined, denied, negated, or_else}
 use Rattle.dsde_eval_meaning.specs.Meaning.{Function, Mean, mean_step}
 use Rattle.dsde_eval_meaning.specs.Tables.{Coded}

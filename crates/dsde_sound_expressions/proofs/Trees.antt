@@ -17,10 +17,11 @@ use Rattle.dsde_check_rules.specs.declared.known.Around.{Around}
 use Rattle.dsde_check_rules.specs.declared.known.Known.{Known}
 use Rattle.dsde_check_rules.specs.Judge as rules
 use Rattle.dsde_check_rules.specs.Judge.{Judge, Guarded, SetJudge, judge, judge_step, chain}
-use Rattle.dsde_program_nodes.specs.declared.node.Binary.{Binary}
-use Rattle.dsde_program_nodes.specs.declared.node.Binary.TheVariants as binary
+use Rattle.dsde_declared.specs.declared.operator.Binary.{Binary}
+use Rattle.dsde_declared.specs.declared.operator.Binary.TheVariants as binary
 use Rattle.dsde_program_nodes.specs.Expressions as nodes
-use Rattle.dsde_program_nodes.specs.Expressions.{Resolved, resolve, resolve_step, nested}
+use Rattle.dsde_declared.specs.Operators.{nested}
+use Rattle.dsde_program_nodes.specs.Expressions.{Resolved, resolve, resolve_step}
 use Rattle.dsde_eval_meaning.specs.Meaning as meaning
 use Rattle.dsde_eval_meaning.specs.Meaning.{Function, Mean, ArmMean, mean, mean_step}
 use Rattle.dsde_eval_meaning.specs.Tables.{Coded}

@@ -11,7 +11,7 @@ use Rattle.dsde_values.specs.Value as values
 use Rattle.dsde_values.specs.Value.{is_variant}
 use Rattle.dsde_check_rules.specs.declared.known.Known.{Known}
 use Rattle.dsde_check_rules.specs.Judge.{declared_type, variants_in, variants_at}
-use Rattle.dsde_program_nodes.specs.Typing.{type_number, variant_number}
+use Rattle.dsde_declared.specs.Names.{type_number, variant_number}
 use Rattle.dsde_eval_meaning.specs.Scopes.{Within, IsDeclared, AreVariants}
 
 -- a place below the length

@@ -22,9 +22,11 @@ use Rattle.dsde_check_rules.specs.Tables.{added, by_text, func_name, text_params
 use Rattle.dsde_check_rules.specs.Blocks.{func_of, body_names}
 use Rattle.dsde_check_rules.specs.Rules.{own_name, apart_all, distinct, behind_type, behind_func, record_rule, atomic_rule, network_rule, top_rule, around_with, decl_rule}
 use Rattle.dsde_program_nodes.specs.Pieces.{Step, Piece, Next, behind, give, over, ◌>>=◌}
-use Rattle.dsde_program_nodes.specs.Items.{model_id, resolve_all, resolve_items}
+use Rattle.dsde_declared.specs.Models.{model_id, with_func, with_funcs}
+use Rattle.dsde_program_nodes.specs.Items.{resolve_all, resolve_items}
 use Rattle.dsde_program_nodes.specs.Statements.{resolve_func, resolve_body, body_scope}
-use Rattle.dsde_program_nodes.specs.Models.{with_func, with_funcs, Parts, place_of_items, resolve_decls}
+use Rattle.dsde_declared.specs.Structures.{place_of_items}
+use Rattle.dsde_program_nodes.specs.Models.{Parts, resolve_decls}
 use Rattle.dsde_eval_meaning.specs.Meaning.{Function}
 use Rattle.dsde_eval_meaning.specs.Functions.{with_function, functions_from}
 use Rattle.dsde_eval_meaning.specs.Tables.{Coded}

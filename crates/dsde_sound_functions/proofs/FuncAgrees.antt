@@ -23,10 +23,11 @@ use Rattle.dsde_check_rules.specs.Judge as rules
 use Rattle.dsde_check_rules.specs.Blocks.{Passed, walk, walk_all, params_all, around_func, return_of, func_height, func_of}
 use Rattle.dsde_program_nodes.specs.declared.code.FnCode.{FnCode}
 use Rattle.dsde_program_nodes.specs.declared.node.Node.{Node}
-use Rattle.dsde_program_nodes.specs.Typing.{with_slots}
+use Rattle.dsde_declared.specs.Names.{with_slots}
 use Rattle.dsde_program_nodes.specs.Expressions.{resolve, expr_id}
 use Rattle.dsde_program_nodes.specs.Pieces.{Block, Next, Piece}
-use Rattle.dsde_program_nodes.specs.Statements.{typed_fields, resolve_stmts, resolve_func}
+use Rattle.dsde_declared.specs.Models.{typed_fields}
+use Rattle.dsde_program_nodes.specs.Statements.{resolve_stmts, resolve_func}
 use Rattle.dsde_eval_meaning.specs.Outcome.{Halt, Fault, Stuck, Outcome, ◌>>=◌}
 use Rattle.dsde_eval_meaning.specs.Flow.{Flow, lifted}
 use Rattle.dsde_eval_meaning.specs.Meaning.{Vars, Function, Scene, scene, mean, block}

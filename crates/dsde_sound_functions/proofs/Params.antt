@@ -14,8 +14,8 @@ use Rattle.dsde_check_rules.specs.Tables.{binding_name, field_name, by_text}
 use Rattle.dsde_check_rules.specs.Judge.{fixed, unbound, type_of}
 use Rattle.dsde_check_rules.specs.Judge as rules
 use Rattle.dsde_check_rules.specs.Blocks.{params_all}
-use Rattle.dsde_program_nodes.specs.Typing.{with_slots}
-use Rattle.dsde_program_nodes.specs.Statements.{typed_fields}
+use Rattle.dsde_declared.specs.Names.{with_slots}
+use Rattle.dsde_declared.specs.Models.{typed_fields}
 use Rattle.dsde_eval_meaning.specs.Functions.{bound_params}
 use Rattle.dsde_eval_meaning.specs.Scopes.{Within}
 use Rattle.dsde_eval_meaning.specs.Typed.{AllTyped, Fits, values_in}

@@ -10,7 +10,8 @@ use Rattle.dsde_check_rules.specs.Tables.{known_of}
 use Rattle.dsde_check_rules.specs.Rules.{apart_all, decls_rule, top_rules, rules}
 use Rattle.dsde_check_rules.specs.Steps as steps
 use Rattle.dsde_program_nodes.specs.Pieces.{Next}
-use Rattle.dsde_program_nodes.specs.Models.{with_funcs, resolve_decls, whole_of, types_of}
+use Rattle.dsde_declared.specs.Models.{with_funcs, whole_of, types_of}
+use Rattle.dsde_program_nodes.specs.Models.{resolve_decls}
 use Rattle.dsde_check_rules.specs.Right.{IsRight}
 use Rattle.dsde_eval_meaning.specs.Functions.{functions_from}
 use Rattle.dsde_eval_meaning.specs.Tables.{Coded}

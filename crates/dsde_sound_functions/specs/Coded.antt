@@ -1,7 +1,8 @@
 -- The tables of a model, and what its functions mean in them.
 use Rattle.dsde_syntax.specs.declared.decl.Model.{Model}
 use Rattle.dsde_check_rules.specs.declared.known.Known.{Known}
-use Rattle.dsde_program_nodes.specs.Models.{whole_of, types_of, resolved}
+use Rattle.dsde_declared.specs.Models.{whole_of, types_of}
+use Rattle.dsde_program_nodes.specs.Models.{resolved}
 use Rattle.dsde_check_rules.specs.Right.{IsRight}
 use Rattle.dsde_eval_meaning.specs.Functions.{functions_of}
 use Rattle.dsde_eval_meaning.specs.Tables.{Coded}

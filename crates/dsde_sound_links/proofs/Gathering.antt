@@ -11,7 +11,7 @@ use Rattle.dsde_values.specs.declared.types.Ty.{Ty}
 use Rattle.dsde_values.specs.declared.types.Types.{Types}
 use Rattle.dsde_values.specs.declared.value.Value.{Value}
 use Rattle.dsde_values.specs.Path.{name_cmp}
-use Rattle.dsde_program_nodes.specs.Models.{types_of}
+use Rattle.dsde_declared.specs.Models.{types_of, Own}
 use Rattle.dsde_structure.specs.declared.plan.End.{End}
 use Rattle.dsde_structure.specs.declared.plan.Entry.{Entry}
 use Rattle.dsde_structure.specs.declared.plan.Link.{Link}
@@ -23,7 +23,6 @@ use Rattle.dsde_structure.specs.Survival.{IsInOrder}
 use Rattle.dsde_check_rules.specs.Right.{IsRight}
 use Rattle.dsde_eval_meaning.specs.Typed.{Typed, AllSent, IsSent}
 use Rattle.dsde_eval_meaning.specs.Agreement.{ExpressionsAgree}
-use Rattle.dsde_sound_places.specs.Bodies.{Own}
 use Rattle.dsde_sound_places.specs.Laws.{KnownIsWithin}
 use Rattle.dsde_sound_functions.specs.Coded.{FunctionsAgree}
 use Rattle.dsde_system.specs.Fitting.{AreOf, Reach}

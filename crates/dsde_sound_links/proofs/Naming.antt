@@ -15,7 +15,7 @@ use Rattle.dsde_structure.specs.declared.plan.Part.{Part}
 use Rattle.dsde_structure.specs.declared.plan.Part.TheVariants as part
 use Rattle.dsde_structure.specs.Gather.{is_part, is_same_name}
 use Rattle.dsde_structure.specs.Survival.{IsInOrder, names}
-use Rattle.dsde_sound_places.specs.Bodies.{Own, owns_of}
+use Rattle.dsde_declared.specs.Models.{Own, owns_of}
 use Rattle.dsde_system.specs.Plans.{ArePortsOf, HasKid, ways}
 
 total : IsTotalOrder name_cmp

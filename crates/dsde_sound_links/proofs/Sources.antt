@@ -8,7 +8,7 @@ use Rattle.dsde_values.specs.declared.types.Field.{Field}
 use Rattle.dsde_values.specs.declared.types.Ty.{Ty}
 use Rattle.dsde_values.specs.declared.types.Types.{Types}
 use Rattle.dsde_values.specs.Path.{name_cmp}
-use Rattle.dsde_program_nodes.specs.Models.{types_of}
+use Rattle.dsde_declared.specs.Models.{types_of, Own}
 use Rattle.dsde_structure.specs.declared.plan.Entry.{Entry}
 use Rattle.dsde_structure.specs.declared.plan.Link.{Link}
 use Rattle.dsde_structure.specs.declared.plan.Part.{Part}
@@ -17,7 +17,6 @@ use Rattle.dsde_structure.specs.declared.sources.Given.{Given}
 use Rattle.dsde_structure.specs.declared.sources.Sources.{Sources}
 use Rattle.dsde_structure.specs.Gather.{Ports, from_part, is_same_name, sent_by}
 use Rattle.dsde_structure.specs.Survival.{IsInOrder}
-use Rattle.dsde_sound_places.specs.Bodies.{Own}
 use Rattle.dsde_system.specs.Fitting.{AreOf, Reach}
 use Rattle.dsde_system.specs.Plans.{ArePortsOf, Cover, FitsGiven, FitsLink, FitsSources, HasKid, HasPort}
 use Rattle.dsde_sound_links.specs.Carrying.{Carries}

@@ -15,18 +15,18 @@ use Rattle.dsde_values.specs.declared.value.Value.TheViews.{outs-Nothing, outs-S
 use Rattle.dsde_values.specs.Value.{type_step, has_type}
 use Rattle.dsde_check_rules.specs.Judge.{judge}
 use Rattle.dsde_program_nodes.specs.Expressions.{resolve}
-use Rattle.dsde_program_nodes.specs.Models.{whole_of, types_of}
+use Rattle.dsde_declared.specs.Models.{whole_of, types_of}
 use Rattle.dsde_structure.specs.declared.plan.Via.{Via}
 use Rattle.dsde_check_rules.specs.Right.{IsRight}
 use Rattle.dsde_eval_meaning.specs.Outcome.{Outcome, Stuck}
 use Rattle.dsde_eval_meaning.specs.Meaning.{Vars}
-use Rattle.dsde_eval_meaning.specs.Functions.{functions_of}
+use Rattle.dsde_eval_meaning.specs.Functions.{functions_of, mean_of}
 use Rattle.dsde_eval_meaning.specs.Typed.{Typed, Sound, Fits, values_in}
 use Rattle.dsde_eval_meaning.specs.Agreement.{Agrees, ExpressionsAgree}
 use Rattle.dsde_sound_places.specs.Places.{IsExpr}
 use Rattle.dsde_sound_places.specs.Laws.{KnownIsWithin}
 use Rattle.dsde_sound_functions.specs.Coded.{coded_of, FuncsAgree, FunctionsAgree}
-use Rattle.dsde_sound_places.specs.Conditions.{mean_of, CanTranslate, Translated, via_values, option_value}
+use Rattle.dsde_sound_places.specs.Conditions.{CanTranslate, Translated, via_values, option_value}
 use Rattle.dsde_sound_typing.specs.Values.{by_layer}
 use Rattle.dsde_system.specs.Plans.{IsKey, Takes, via_slots}
 use Rattle.dsde_system.specs.Program.{system, translated, held_in, key_vars, via_vars}

@@ -7,7 +7,7 @@ use Rattle.dsde_values.specs.declared.types.Field.{Field}
 use Rattle.dsde_values.specs.declared.types.Ty.{Ty}
 use Rattle.dsde_values.specs.declared.types.Types.{Types}
 use Rattle.dsde_values.specs.declared.value.Value.{Value}
-use Rattle.dsde_program_nodes.specs.Models.{types_of}
+use Rattle.dsde_declared.specs.Models.{types_of, Own}
 use Rattle.dsde_structure.specs.declared.plan.Entry.{Entry}
 use Rattle.dsde_structure.specs.declared.plan.Link.{Link}
 use Rattle.dsde_structure.specs.declared.plan.Part.{Part}
@@ -17,7 +17,6 @@ use Rattle.dsde_structure.specs.Gather.{Ports, from_part, gathered}
 use Rattle.dsde_structure.specs.Survival.{IsInOrder}
 use Rattle.dsde_check_rules.specs.Right.{IsRight}
 use Rattle.dsde_eval_meaning.specs.Typed.{Typed, AllSent}
-use Rattle.dsde_sound_places.specs.Bodies.{Own}
 use Rattle.dsde_sound_places.specs.Conditions.{CanTranslate, Translated}
 use Rattle.dsde_system.specs.Fitting.{AreOf, Reach}
 use Rattle.dsde_system.specs.Plans.{ArePortsOf, Cover, FitsLink, FitsSources, Joins, Takes}

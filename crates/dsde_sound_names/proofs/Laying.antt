@@ -9,7 +9,8 @@ use Rattle.dsde_syntax.specs.declared.item.Item.TheViews.{roll-Item, roll-ItemAr
 use Rattle.dsde_syntax.specs.declared.item.Item.TheFolds.{fold-ItemArm, map-Item, map-ItemArm, fold-roll-Item, fold-roll-ItemArm, ind-Item}
 use Rattle.dsde_values.specs.declared.value.Value.{Value}
 use Rattle.dsde_faults.specs.declared.kind.FaultKind.TheVariants.{DuplicateComponent, Crowded}
-use Rattle.dsde_program_nodes.specs.Items.{Place, model_id}
+use Rattle.dsde_declared.specs.Structures.{Place}
+use Rattle.dsde_declared.specs.Models.{model_id}
 use Rattle.dsde_structure.specs.declared.plan.Entry.{Entry}
 use Rattle.dsde_structure.specs.declared.plan.Plan.{Plan}
 use Rattle.dsde_eval_meaning.specs.Outcome.{Fault, Outcome, ◌>>=◌, truth_of, items_of}

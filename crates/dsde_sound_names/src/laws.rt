@@ -5,7 +5,7 @@ ghost use Rattle.std.specs.List.{AllByRecursion, list_all};
 ghost use Rattle.dsde_values.specs.Path.{EXEC};
 ghost use Rattle.dsde_syntax.specs.declared.item.Item.{Item};
 ghost use Rattle.dsde_structure.specs.declared.plan.Plan.{Plan};
-ghost use Rattle.dsde_program_nodes.specs.Items.{Place};
+ghost use Rattle.dsde_declared.specs.Structures.{Place};
 ghost use Rattle.dsde_eval_meaning.specs.Meaning.{Function, Vars};
 ghost use Rattle.dsde_executive_plans.specs.Layout.{structure};
 ghost use Rattle.dsde_structure.specs.Gather.{is_same_name};

@@ -8,15 +8,14 @@ use Rattle.dsde_values.specs.declared.types.Ty.{Ty}
 use Rattle.dsde_check_rules.specs.declared.signatures.Family.{Family}
 use Rattle.dsde_check_rules.specs.Tables.{field_name}
 use Rattle.dsde_check_rules.specs.Structures.{family_named}
-use Rattle.dsde_program_nodes.specs.Items.{model_ports}
-use Rattle.dsde_program_nodes.specs.Models.{whole_of}
-use Rattle.dsde_program_nodes.specs.Typing.{slot_of}
+use Rattle.dsde_declared.specs.Structures.{model_ports}
+use Rattle.dsde_declared.specs.Models.{whole_of, Own, owns_of}
+use Rattle.dsde_declared.specs.Names.{slot_of}
 use Rattle.dsde_structure.specs.declared.plan.End.{End}
 use Rattle.dsde_structure.specs.declared.plan.Entry.{Entry}
 use Rattle.dsde_structure.specs.declared.plan.Part.{Part}
 use Rattle.dsde_structure.specs.declared.plan.Part.TheVariants as part
 use Rattle.dsde_executive_plans.specs.declared.placed.PlacedLink.{PlacedLink}
-use Rattle.dsde_sound_places.specs.Bodies.{Own, owns_of}
 use Rattle.dsde_system.specs.Plans.{ways, body_ways, HasPort, Joins, IsThrough, FitsEntry}
 use Rattle.dsde_sound_typing.specs.Places.{Placed, placed}
 

@@ -30,7 +30,7 @@ use Rattle.dsde_eval_meaning.specs.Proper.{is_proper, all_so}
 use Rattle.dsde_eval_meaning.specs.Typed.{Typed, values_in}
 use Rattle.dsde_eval_meaning.specs.Scopes.{Stands, Sees}
 use Rattle.dsde_sound_grammar.specs.Items as proper
-use Rattle.dsde_sound_places.specs.Structures as standing
+use Rattle.dsde_declared.specs.Structures as standing
 use Rattle.dsde_executive_plans.specs.Layout.{Layout, Lay, ArmLay, lay_all, braced, last_lay, arms_lay, item_step, item_arm_step}
 use Rattle.dsde_executive_plans.specs.Drafts as over_slots
 use Rattle.dsde_executive_plans.specs.Drafts.{Draft, Draw, ArmDraw, arms_draw, else_draw, draw_arm, draws}

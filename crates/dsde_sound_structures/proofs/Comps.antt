@@ -30,11 +30,13 @@ use Rattle.dsde_check_rules.specs.Blocks.{Passed}
 use Rattle.dsde_check_rules.specs.Structures as rule_structures
 use Rattle.dsde_check_rules.specs.Structures.{args_of, family_named, model_named}
 use Rattle.dsde_program_nodes.specs.declared.code.ViaCode.{ViaCode}
+use Rattle.dsde_declared.specs.Models as declared
 use Rattle.dsde_program_nodes.specs.Items as nodes
-use Rattle.dsde_program_nodes.specs.Items.{directed, model_ports, resolve_index, resolve_all, model_id}
-use Rattle.dsde_program_nodes.specs.Models.{whole_of, types_of}
+use Rattle.dsde_declared.specs.Structures.{directed, model_ports}
+use Rattle.dsde_declared.specs.Models.{model_id, whole_of, types_of, Own, owns_of, param_slots}
+use Rattle.dsde_program_nodes.specs.Items.{resolve_index, resolve_all}
 use Rattle.dsde_program_nodes.specs.Pieces.{Next, behind}
-use Rattle.dsde_program_nodes.specs.Typing.{with_slots}
+use Rattle.dsde_declared.specs.Names.{with_slots}
 use Rattle.dsde_structure.specs.declared.plan.Entry.{Entry}
 use Rattle.dsde_eval_meaning.specs.Outcome.{Fault}
 use Rattle.dsde_eval_meaning.specs.Meaning.{mean, values_of}
@@ -43,7 +45,6 @@ use Rattle.dsde_eval_meaning.specs.Typed.{Sound, AllTyped, Fits, values_in}
 use Rattle.dsde_eval_meaning.specs.Scopes.{Sees}
 use Rattle.dsde_sound_grammar.specs.Items as proper
 use Rattle.dsde_sound_places.specs.Structures.{ModelIs, ModelsAre}
-use Rattle.dsde_sound_places.specs.Bodies.{Own, owns_of, param_slots}
 use Rattle.dsde_executive_plans.specs.Layout.{most, inserted, is_there, with_entry, index_of, item_step}
 use Rattle.dsde_executive_plans.specs.Drafts.{index_at}
 use Rattle.dsde_system.specs.Fitting.{Fill, FitsArgs}
@@ -192,7 +193,7 @@ entry-by m own families known models same name model index sig number family val
     let at : slice_get (whole_of m).models number ≡ Some sig =
     ap (λ (l : List ModelSig). slice_get l number) (sym same) ∙ ap (λ (n : ℕ). slice_get known.models n) (sym place) ∙ p.at in
     let told : ModelIs m number sig = models.models number sig at in
-    let own_number : nodes.model_number (whole_of m) model.name ≡ number =
+    let own_number : declared.model_number (whole_of m) model.name ≡ number =
     ap (λ (l : List ModelSig). unwrap_or (place_of model_name l model.name) 0) (sym same) ∙ ap (λ (o : Option ℕ). unwrap_or o 0) is in
     let args : FitsArgs m number values = record {
       below = told.below;

@@ -1,7 +1,7 @@
 -- What each item of tables does.
 use Rattle.std.proofs.Common.{◌≡◌, ℕ, List, [], ◌∷◌, ◌++◌, map, Option, Some, None, Ok, sym, ◌∙◌, ap}
 use Rattle.dsde_program_nodes.specs.declared.ids.ExprId.{ExprId}
-use Rattle.dsde_program_nodes.specs.declared.ids.ModelId.{ModelId}
+use Rattle.dsde_declared.specs.declared.ids.ModelId.{ModelId}
 use Rattle.dsde_program_nodes.specs.declared.make.Make.{Make}
 use Rattle.dsde_program_nodes.specs.declared.make.Make.TheVariants as make
 use Rattle.dsde_program_nodes.specs.declared.make.Make.TheOpen.{Make-F}

@@ -23,10 +23,12 @@ use Rattle.dsde_check_rules.specs.Tables.{field_name, family_name, port_name}
 use Rattle.dsde_check_rules.specs.Judge as rules
 use Rattle.dsde_check_rules.specs.Structures as rule_structures
 use Rattle.dsde_check_rules.specs.Structures.{family_named, kid_end, ports_at}
-use Rattle.dsde_program_nodes.specs.Items.{Place, directed, end_ports, model_ports, resolve_index, resolve_part, resolve_end}
-use Rattle.dsde_program_nodes.specs.Models.{whole_of}
+use Rattle.dsde_declared.specs.Structures.{Place, directed, end_ports, model_ports}
+use Rattle.dsde_program_nodes.specs.Items.{resolve_index, resolve_part, resolve_end}
+use Rattle.dsde_declared.specs.Models.{whole_of, Own}
 use Rattle.dsde_program_nodes.specs.Pieces.{Next}
-use Rattle.dsde_program_nodes.specs.Typing.{slot_of, slot_type}
+use Rattle.dsde_declared.specs.Names.{slot_of}
+use Rattle.dsde_program_nodes.specs.Typing.{slot_type}
 use Rattle.dsde_structure.specs.declared.plan.End.{End}
 use Rattle.dsde_structure.specs.declared.plan.Part.{Part}
 use Rattle.dsde_structure.specs.declared.plan.Part.TheVariants as part
@@ -34,7 +36,6 @@ use Rattle.dsde_eval_meaning.specs.Meaning.{Vars}
 use Rattle.dsde_eval_meaning.specs.Typed.{Fits, values_in}
 use Rattle.dsde_eval_meaning.specs.Scopes.{Stands, Sees}
 use Rattle.dsde_sound_grammar.specs.Items.{is_proper_end}
-use Rattle.dsde_sound_places.specs.Bodies.{Own}
 use Rattle.dsde_sound_places.specs.Structures.{ArePorts}
 use Rattle.dsde_executive_plans.specs.Layout.{index_of, part_of, end_of}
 use Rattle.dsde_executive_plans.specs.Drafts.{index_at, part_at, end_at}

@@ -10,7 +10,7 @@ use Rattle.dsde_check_rules.specs.declared.known.Site.{Site}
 use Rattle.dsde_check_rules.specs.Judge.{judge}
 use Rattle.dsde_program_nodes.specs.declared.code.ViaCode.{ViaCode}
 use Rattle.dsde_program_nodes.specs.Expressions.{resolve}
-use Rattle.dsde_program_nodes.specs.Items.{Place}
+use Rattle.dsde_declared.specs.Structures.{Place}
 use Rattle.dsde_structure.specs.declared.plan.Entry.{Entry}
 use Rattle.dsde_eval_meaning.specs.Outcome.{Fault, Stuck, Outcome, ◌>>=◌}
 use Rattle.dsde_eval_meaning.specs.Meaning.{Function, mean}

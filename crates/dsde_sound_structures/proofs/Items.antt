@@ -22,8 +22,8 @@ use Rattle.dsde_program_nodes.specs.Pieces.{Step, all}
 use Rattle.dsde_eval_meaning.specs.Proper.{all_so}
 use Rattle.dsde_sound_grammar.specs.Items as proper
 use Rattle.dsde_sound_grammar.specs.Items.{is_proper_item}
-use Rattle.dsde_sound_places.specs.Structures as standing
-use Rattle.dsde_sound_places.specs.Structures.{vias_in}
+use Rattle.dsde_declared.specs.Structures as standing
+use Rattle.dsde_declared.specs.Structures.{vias_in}
 use Rattle.dsde_executive_plans.specs.Layout as layouts
 use Rattle.dsde_executive_plans.specs.Layout.{Lay, ArmLay, lay, lay_all}
 use Rattle.dsde_sound_structures.proofs.Ground.{Ground}

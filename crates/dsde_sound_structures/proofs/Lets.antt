@@ -14,7 +14,7 @@ use Rattle.dsde_check_rules.specs.Judge.{fresh, judge}
 use Rattle.dsde_check_rules.specs.Blocks.{Passed, var_kind}
 use Rattle.dsde_check_rules.specs.Structures as rule_structures
 use Rattle.dsde_program_nodes.specs.declared.node.Node.{Node}
-use Rattle.dsde_program_nodes.specs.Typing.{with_slot}
+use Rattle.dsde_declared.specs.Names.{with_slot}
 use Rattle.dsde_program_nodes.specs.Expressions.{resolve, expr_id}
 use Rattle.dsde_program_nodes.specs.Items as nodes
 use Rattle.dsde_eval_meaning.specs.Meaning.{mean, with_var}
@@ -22,7 +22,7 @@ use Rattle.dsde_eval_meaning.specs.Proper.{is_plain, is_proper}
 use Rattle.dsde_eval_meaning.specs.Typed.{Typed, values_in}
 use Rattle.dsde_eval_meaning.specs.Scopes.{Sees}
 use Rattle.dsde_sound_grammar.specs.Items as proper
-use Rattle.dsde_sound_places.specs.Structures as standing
+use Rattle.dsde_declared.specs.Structures as standing
 use Rattle.dsde_executive_plans.specs.Layout.{item_step}
 use Rattle.dsde_executive_plans.specs.Drafts.{draft_of}
 use Rattle.dsde_sound_typing.specs.Steps.{went, ok-is}

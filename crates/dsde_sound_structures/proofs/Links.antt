@@ -17,8 +17,10 @@ use Rattle.dsde_check_rules.specs.Structures as rule_structures
 use Rattle.dsde_check_rules.specs.Structures.{through}
 use Rattle.dsde_program_nodes.specs.declared.code.ViaCode.{ViaCode}
 use Rattle.dsde_program_nodes.specs.Items as nodes
-use Rattle.dsde_program_nodes.specs.Items.{end_ports, resolve_end, maybe_via, via_by}
-use Rattle.dsde_program_nodes.specs.Models.{types_of, resolved}
+use Rattle.dsde_declared.specs.Structures.{end_ports, vias_of, vias_there}
+use Rattle.dsde_program_nodes.specs.Items.{resolve_end, maybe_via, via_by}
+use Rattle.dsde_declared.specs.Models.{types_of, Own}
+use Rattle.dsde_program_nodes.specs.Models.{resolved}
 use Rattle.dsde_program_nodes.specs.Pieces.{Next, behind}
 use Rattle.dsde_program_nodes.specs.Typing.{slot_type}
 use Rattle.dsde_structure.specs.declared.plan.Link.{Link}
@@ -27,9 +29,7 @@ use Rattle.dsde_eval_meaning.specs.Outcome.{Fault}
 use Rattle.dsde_eval_meaning.specs.Typed.{Sound, Fits, values_in}
 use Rattle.dsde_eval_meaning.specs.Scopes.{Stands, Sees}
 use Rattle.dsde_sound_grammar.specs.Items as proper
-use Rattle.dsde_sound_places.specs.Bodies.{Own}
 use Rattle.dsde_sound_places.specs.Places.{KnownAt}
-use Rattle.dsde_sound_places.specs.Structures.{vias_of, vias_there}
 use Rattle.dsde_executive_plans.specs.declared.placed.PlacedLink.{PlacedLink}
 use Rattle.dsde_executive_plans.specs.Layout.{most, vias_in, with_link, end_of, via_of, item_step}
 use Rattle.dsde_executive_plans.specs.Drafts.{end_at, via_at}

@@ -19,7 +19,8 @@ use Rattle.dsde_check_rules.specs.Structures.{Enter, enter_all}
 use Rattle.dsde_program_nodes.specs.declared.code.ViaCode.{ViaCode}
 use Rattle.dsde_program_nodes.specs.declared.make.Make.{Make}
 use Rattle.dsde_program_nodes.specs.declared.node.Node.{Node}
-use Rattle.dsde_program_nodes.specs.Typing.{with_slot, item_in}
+use Rattle.dsde_declared.specs.Names.{with_slot}
+use Rattle.dsde_program_nodes.specs.Typing.{item_in}
 use Rattle.dsde_program_nodes.specs.Expressions.{resolve, expr_id}
 use Rattle.dsde_program_nodes.specs.Items as nodes
 use Rattle.dsde_program_nodes.specs.Pieces.{Next, Piece, Step, all}
@@ -29,7 +30,7 @@ use Rattle.dsde_eval_meaning.specs.Proper.{is_plain, is_proper, all_so}
 use Rattle.dsde_eval_meaning.specs.Typed.{Typed, values_in}
 use Rattle.dsde_eval_meaning.specs.Scopes.{Sees}
 use Rattle.dsde_sound_grammar.specs.Items as proper
-use Rattle.dsde_sound_places.specs.Structures as standing
+use Rattle.dsde_declared.specs.Structures as standing
 use Rattle.dsde_executive_plans.specs.Layout.{Lay, lay_all, item_step}
 use Rattle.dsde_sound_typing.specs.Values.{IsList, items-sound}
 use Rattle.dsde_sound_typing.specs.Types.{item-is, item-in-list}

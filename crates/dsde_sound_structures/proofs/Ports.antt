@@ -15,8 +15,9 @@ use Rattle.dsde_check_rules.specs.declared.wrong.WrongKind.TheVariants.{Unknown,
 use Rattle.dsde_check_rules.specs.Steps.{wrong, unless}
 use Rattle.dsde_check_rules.specs.Tables.{field_name, port_name}
 use Rattle.dsde_check_rules.specs.Structures.{port_at, end_at, ports_at}
-use Rattle.dsde_program_nodes.specs.Typing.{with_slot, with_slots, slot_type}
-use Rattle.dsde_program_nodes.specs.Items.{directed, model_ports}
+use Rattle.dsde_declared.specs.Names.{with_slot, with_slots}
+use Rattle.dsde_program_nodes.specs.Typing.{slot_type}
+use Rattle.dsde_declared.specs.Structures.{directed, model_ports}
 use Rattle.dsde_sound_typing.specs.Steps.{went, ok-is, unless-is}
 use Rattle.dsde_sound_typing.specs.Places.{same-name, pick, or_last, named-cons, named-snoc}
 use Rattle.dsde_sound_typing.specs.Fitting.{field_of}

@@ -11,8 +11,8 @@ use Rattle.dsde_values.specs.declared.types.Field.{Field}
 use Rattle.dsde_values.specs.Path.{is_executive, name_cmp}
 use Rattle.dsde_check_rules.specs.declared.signatures.Family.{Family}
 use Rattle.dsde_check_rules.specs.Structures.{family_named}
-use Rattle.dsde_program_nodes.specs.Items.{model_ports}
-use Rattle.dsde_program_nodes.specs.Models.{whole_of}
+use Rattle.dsde_declared.specs.Structures.{model_ports}
+use Rattle.dsde_declared.specs.Models.{whole_of, Own}
 use Rattle.dsde_structure.specs.declared.plan.Entry.{Entry}
 use Rattle.dsde_structure.specs.declared.plan.Part.{Part}
 use Rattle.dsde_structure.specs.declared.plan.Part.TheVariants as part
@@ -22,7 +22,6 @@ use Rattle.dsde_eval_meaning.specs.Outcome.{Fault, Outcome}
 use Rattle.dsde_eval_meaning.specs.Typed.{Sound}
 use Rattle.dsde_executive_plans.specs.declared.placed.PlacedLink.{PlacedLink}
 use Rattle.dsde_executive_plans.specs.Layout.{is_there, has_part, tied}
-use Rattle.dsde_sound_places.specs.Bodies.{Own}
 use Rattle.dsde_system.specs.Plans.{ArePortsOf, HasKid, FitsLink, FitsEntry}
 use Rattle.dsde_sound_typing.specs.Truths.{and-left, and-right}
 use Rattle.dsde_sound_structures.proofs.ByFamily.{EntryBy, LinkBy, KidBy, PortsBy}

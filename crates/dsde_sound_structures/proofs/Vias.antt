@@ -27,9 +27,10 @@ use Rattle.dsde_program_nodes.specs.declared.code.ViaCode.{ViaCode}
 use Rattle.dsde_program_nodes.specs.declared.node.Node.{Node}
 use Rattle.dsde_program_nodes.specs.Expressions.{resolve, expr_id}
 use Rattle.dsde_program_nodes.specs.Items.{maybe_via}
-use Rattle.dsde_program_nodes.specs.Models.{whole_of, types_of, resolved}
+use Rattle.dsde_declared.specs.Models.{whole_of, types_of}
+use Rattle.dsde_program_nodes.specs.Models.{resolved}
 use Rattle.dsde_program_nodes.specs.Pieces.{Next}
-use Rattle.dsde_program_nodes.specs.Typing.{with_slot}
+use Rattle.dsde_declared.specs.Names.{with_slot}
 use Rattle.dsde_structure.specs.declared.plan.Via.{Via}
 use Rattle.dsde_eval_meaning.specs.Meaning.{Vars, mean}
 use Rattle.dsde_eval_meaning.specs.Proper.{is_plain, is_proper}
@@ -37,7 +38,7 @@ use Rattle.dsde_eval_meaning.specs.Typed.{Typed, Fits, values_in}
 use Rattle.dsde_eval_meaning.specs.Scopes.{Stands, Sees}
 use Rattle.dsde_sound_grammar.specs.Items.{is_proper_key, is_proper_via}
 use Rattle.dsde_sound_places.specs.Places.{KnownAt, IsExpr}
-use Rattle.dsde_sound_places.specs.Structures.{vias_of, vias_there}
+use Rattle.dsde_declared.specs.Structures.{vias_of, vias_there}
 use Rattle.dsde_executive_plans.specs.Layout.{via_of, key_of}
 use Rattle.dsde_executive_plans.specs.Drafts.{via_at, key_at}
 use Rattle.dsde_sound_places.specs.Conditions.{IsVia}

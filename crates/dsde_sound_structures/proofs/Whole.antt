@@ -11,8 +11,9 @@ use Rattle.dsde_check_rules.specs.declared.signatures.Family.{Family}
 use Rattle.dsde_check_rules.specs.Blocks.{walk_all}
 use Rattle.dsde_check_rules.specs.Structures.{enter, enter_all, item_walk}
 use Rattle.dsde_program_nodes.specs.declared.make.Make.{Make}
-use Rattle.dsde_program_nodes.specs.Items.{Place, kin_all, kin_of}
-use Rattle.dsde_program_nodes.specs.Models.{whole_of, types_of, resolved, place_of_items}
+use Rattle.dsde_declared.specs.Structures.{Place, kin_all, kin_of, place_of_items, vias_in, vias_of}
+use Rattle.dsde_declared.specs.Models.{whole_of, types_of, Own, owns_of}
+use Rattle.dsde_program_nodes.specs.Models.{resolved}
 use Rattle.dsde_check_rules.specs.Right.{IsRight}
 use Rattle.dsde_structure.specs.declared.plan.Entry.{Entry}
 use Rattle.dsde_structure.specs.declared.plan.Plan.{Plan}
@@ -27,9 +28,9 @@ use Rattle.dsde_eval_meaning.specs.Scopes.{Stands}
 use Rattle.dsde_eval_meaning.specs.Agreement.{ExpressionsAgree}
 use Rattle.dsde_sound_grammar.specs.Items.{is_proper_item}
 use Rattle.dsde_sound_functions.specs.Coded.{FunctionsAgree, coded_of}
-use Rattle.dsde_sound_places.specs.Bodies.{Own, owns_of, body_slots}
+use Rattle.dsde_sound_places.specs.Bodies.{body_slots}
 use Rattle.dsde_sound_places.specs.Laws.{KnownIsWithin}
-use Rattle.dsde_sound_places.specs.Structures.{IsStructure, ModelsAre, ModelsAreKnown, PortsApart, vias_in, vias_of}
+use Rattle.dsde_sound_places.specs.Structures.{IsStructure, ModelsAre, ModelsAreKnown, PortsApart}
 use Rattle.dsde_executive_plans.specs.declared.placed.PlacedLink.{PlacedLink}
 use Rattle.dsde_executive_plans.specs.Layout.{Layout, lay, lay_all, tied, plan_of, structure}
 use Rattle.dsde_executive_plans.specs.Drafts.{Draft, draws, draft_of}

@@ -3,7 +3,8 @@ use Rattle.std.specs.Prelude.{◌≡◌, ◌≢◌, ℕ, ◌≤◌, List, Some, 
 use Rattle.dsde_syntax.specs.declared.decl.Model.{Model}
 use Rattle.dsde_syntax.specs.declared.item.Item.{Item}
 use Rattle.dsde_program_nodes.specs.declared.make.Make.{Make}
-use Rattle.dsde_program_nodes.specs.Models.{whole_of, types_of, place_of_items}
+use Rattle.dsde_declared.specs.Models.{whole_of, types_of, Own, owns_of}
+use Rattle.dsde_declared.specs.Structures.{place_of_items}
 use Rattle.dsde_check_rules.specs.Right.{IsRight}
 use Rattle.dsde_structure.specs.declared.plan.Plan.{Plan}
 use Rattle.dsde_eval_meaning.specs.Outcome.{Stuck, Outcome}
@@ -13,7 +14,7 @@ use Rattle.dsde_eval_meaning.specs.Tables.{means_in}
 use Rattle.dsde_eval_meaning.specs.Typed.{Fits, values_in}
 use Rattle.dsde_executive_plans.specs.Layout.{structure}
 use Rattle.dsde_executive_plans.specs.Drafts.{planned}
-use Rattle.dsde_sound_places.specs.Bodies.{Own, owns_of, body_slots}
+use Rattle.dsde_sound_places.specs.Bodies.{body_slots}
 use Rattle.dsde_sound_places.specs.Structures.{IsStructure}
 use Rattle.dsde_sound_functions.specs.Coded.{coded_of}
 use Rattle.dsde_system.specs.Plans.{FitsPlan}

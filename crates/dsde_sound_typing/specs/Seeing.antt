@@ -13,7 +13,7 @@ use Rattle.dsde_check_rules.specs.Judge.{bound_to, fresh, unbound}
 use Rattle.dsde_check_rules.specs.declared.wrong.WrongKind.TheVariants.{Duplicate}
 use Rattle.dsde_check_rules.specs.Steps.{apart}
 use Rattle.dsde_check_rules.specs.Judge as rules
-use Rattle.dsde_program_nodes.specs.Typing.{with_slot, elapsed_name}
+use Rattle.dsde_declared.specs.Names.{with_slot, elapsed_name}
 use Rattle.dsde_eval_meaning.specs.Proper.{is_plain}
 use Rattle.dsde_words.specs.Words.{is_reserved}
 use Rattle.dsde_eval_meaning.specs.Scopes.{Slotted, Sees}

@@ -3,8 +3,9 @@
 ghost use Rattle.dsde_check_rules.specs.Right.{IsRight};
 
 use anyhow::{Result, bail};
+use dsde_declared::{ModelId, ViaId};
 use dsde_program::{Program, resolve};
-use dsde_program_nodes::{BlockId, ExprId, ModelId, ViaId};
+use dsde_program_nodes::{BlockId, ExprId};
 use dsde_syntax::Model;
 use std::alloc::Global;
 

@@ -3,7 +3,7 @@ use Rattle.std.proofs.Common.{◌≡◌, Bool, true, false, List, [], ◌∷◌,
 use Rattle.std.specs.Prelude.{if◌then◌else◌, option_and_then, option_map}
 use Rattle.dsde_values.specs.declared.name.Name.{Name}
 use Rattle.dsde_values.specs.declared.value.Value.{Value}
-use Rattle.dsde_program_nodes.specs.declared.ids.ModelId.{ModelId}
+use Rattle.dsde_declared.specs.declared.ids.ModelId.{ModelId}
 use Rattle.dsde_formalism.specs.declared.leaf.Leaf.{Leaf}
 use Rattle.dsde_structure.specs.declared.plan.Link.{Link}
 use Rattle.dsde_structure.specs.Gather.{is_same_name}

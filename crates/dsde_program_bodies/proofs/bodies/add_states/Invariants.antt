@@ -1,7 +1,7 @@
 -- What the rest lays behind what was laid so far is what all lay.
 use Rattle.std.proofs.Common.{◌≡◌, ◌++◌, drop}
-use Rattle.dsde_program_nodes.specs.Statements.{state_fields}
-use Rattle.dsde_program_nodes.specs.Typing.{with_slots}
+use Rattle.dsde_declared.specs.Models.{state_fields}
+use Rattle.dsde_declared.specs.Names.{with_slots}
 use Rattle.dsde_program_layout.specs.LayStatements.{lay_states}
 use Rattle.dsde_program_bodies.proofs.bodies.add_states.Given as goal
 

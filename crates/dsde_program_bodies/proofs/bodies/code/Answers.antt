@@ -2,8 +2,8 @@ use Rattle.std.proofs.Common.{◌≡◌, [], List, IfOk, OnOk, ap, subst, ◌∙
 use Rattle.dsde_syntax.specs.declared.decl.StateDecl.{StateDecl}
 use Rattle.dsde_program_nodes.specs.declared.ids.ExprId.{ExprId}
 use Rattle.dsde_program_nodes.specs.declared.tables.Tables.{Tables}
-use Rattle.dsde_program_nodes.specs.Statements.{state_fields}
-use Rattle.dsde_program_nodes.specs.Typing.{Scope, with_slots}
+use Rattle.dsde_declared.specs.Models.{state_fields}
+use Rattle.dsde_declared.specs.Names.{Scope, with_slots}
 use Rattle.dsde_program_layout.specs.LayStatements.{lay_states}
 use Rattle.dsde_program_bodies.specs.Parts.{lay_moves}
 use Rattle.dsde_program_bodies.proofs.bodies.code.Goals as goal

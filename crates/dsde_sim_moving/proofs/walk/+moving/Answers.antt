@@ -1,6 +1,6 @@
 use Rattle.std.proofs.Common.{arith, ◌∙◌, ap, sym, subst, List, [], map, Err, Ok}
 use Rattle.std.proofs.lemmas.Result.{err_from_is_err_and}
-use Rattle.dsde_program_nodes.specs.declared.ids.ModelId.{ModelId}
+use Rattle.dsde_declared.specs.declared.ids.ModelId.{ModelId}
 use Rattle.dsde_formalism.specs.System.{Ports}
 use Rattle.dsde_sim_events.specs.Told.{Tells}
 use Rattle.dsde_sim_telling.specs.GoingOn.{GoesOn, goes-ok, goes-step, goes-end, stops, ends, lacks, tail}

@@ -1,5 +1,5 @@
 use Rattle.std.proofs.Common.{ap, ◌∙◌}
-use Rattle.dsde_program_nodes.specs.declared.ids.ModelId.{ModelId}
+use Rattle.dsde_declared.specs.declared.ids.ModelId.{ModelId}
 use Rattle.dsde_system.specs.Program.{system}
 use Rattle.dsde_sim_starting.specs.Fits.{tree-leaf}
 use Rattle.dsde_sim_starting.proofs.parts.start_atomic.Goals as goal

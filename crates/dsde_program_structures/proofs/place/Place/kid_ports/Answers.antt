@@ -7,8 +7,8 @@ use Rattle.dsde_check_rules.specs.declared.signatures.Family.{Family}
 use Rattle.dsde_check_rules.specs.declared.signatures.ModelSig.{ModelSig}
 use Rattle.dsde_check_rules.specs.Tables.{family_name}
 use Rattle.dsde_names.specs.Table.{named}
-use Rattle.dsde_program_nodes.specs.Typing.{with_slots}
-use Rattle.dsde_program_nodes.specs.Items.{Place, directed, kid_ports, model_ports}
+use Rattle.dsde_declared.specs.Names.{with_slots}
+use Rattle.dsde_declared.specs.Structures.{Place, directed, kid_ports, model_ports}
 use Rattle.dsde_program_structures.specs.declared.gate.Gate.{Gate}
 use Rattle.dsde_program_structures.specs.Sides.{gate_at, gate_of, gates_of, side_of}
 use Rattle.dsde_program_structures.proofs.place.Place.kid_ports.Goals as goal

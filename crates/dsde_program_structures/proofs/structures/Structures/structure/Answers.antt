@@ -1,6 +1,6 @@
 -- What is laid at the place that was made is laid at that of the definitions.
 use Rattle.std.proofs.Common.{◌≡◌, IfOk, OnOk, [], subst}
-use Rattle.dsde_program_nodes.specs.Items.{Place}
+use Rattle.dsde_declared.specs.Structures.{Place}
 use Rattle.dsde_program_nodes.specs.Statements.{body_scope}
 use Rattle.dsde_program_layout.specs.LayPieces.{over}
 use Rattle.dsde_program_layout.specs.LayItems.{lay_items}
