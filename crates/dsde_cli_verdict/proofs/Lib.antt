@@ -1,2 +1,3 @@
 pub mod OffenceLemmas
 pub mod VerdictLemmas
+pub mod EachVerdict

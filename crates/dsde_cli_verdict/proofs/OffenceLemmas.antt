@@ -46,7 +46,7 @@ begins_less toks fewer many less begins =
     }
 
 -- the first wrong thing is not before another
-not_before : (toks : Tokens) (this that : ℕ) → IsFirstWrong toks this → IsFirstWrong toks that → this < that → ⊥
+pub not_before : (toks : Tokens) (this that : ℕ) → IsFirstWrong toks this → IsFirstWrong toks that → this < that → ⊥
 not_before toks this that first other less =
     let within = other.within in
     first.through (omega arith) (begins_less toks (this + 1) that (omega arith) other.before)

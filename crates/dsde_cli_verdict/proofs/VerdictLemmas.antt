@@ -1,20 +1,13 @@
 -- A text has one verdict.
-use Rattle.std.proofs.Common.{◌≡◌, ℕ, zero, suc, ◌+◌, ◌-◌, ◌<◌, ◌≤◌, ◌⊎◌, inl, inr, true, false, List, [], ◌∷◌, length, Result, Ok, Err, refl, sym, ap, subst, ◌∙◌, arith}
-use Rattle.std.specs.Prelude.{◌≢◌, ◌==◌, ◌&&◌, not, nat_lt, nat_le, Bool, take_while, take, drop, Option, Some, None}
-use Rattle.std.proofs.lemmas.Bool.{cases_order, lt-ltb, le-ltb}
+use Rattle.std.proofs.Common.{◌≡◌, ℕ, ◌<◌, ◌≤◌, ◌⊎◌, inl, inr, true, List, length, Result, Ok, Err, refl, sym, ap, subst, ◌∙◌, arith}
+use Rattle.std.specs.Prelude.{◌≢◌, nat_lt}
+use Rattle.std.proofs.lemmas.Bool.{cases_order, lt-ltb}
 use Rattle.dsde_syntax.specs.declared.token.Token.{Token}
 use Rattle.dsde_syntax.specs.declared.decl.Model.{Model}
 use Rattle.dsde_lexer.specs.declared.lexer.LexError.{LexError}
 use Rattle.dsde_lexer.specs.declared.lexer.LexError.TheVariants as lex_error
 use Rattle.dsde_lexer.specs.Lines.{place_of}
-use Rattle.dsde_lexer.specs.Tokens.{tokens, tokens_from, front_of, before, placed, is_blank, sign_piece, word_token}
-use Rattle.dsde_syntax.specs.declared.token.Sign.{Sign}
-use Rattle.dsde_syntax.specs.declared.token.Tok.TheVariants as tok
-use Rattle.dsde_syntax.specs.Spelling.{sign_of, sign_text}
-use Rattle.dsde_words.specs.Words.{is_word_byte, begins_word}
-use Rattle.std.specs.List.{prefix_len}
-use Rattle.std.specs.Str.Parse.{digits_value}
-use Rattle.std.specs.Char.{is_ascii_digit}
+use Rattle.dsde_lexer.specs.Tokens.{tokens}
 use Rattle.dsde_cli_verdict.specs.declared.refusal.Refusal.{Refusal}
 use Rattle.dsde_cli_verdict.specs.declared.refusal.Refusal.TheVariants as refusal
 use Rattle.dsde_cli_verdict.specs.declared.refusal.ReadModel.{ReadModel}
@@ -46,65 +39,6 @@ short bytes error is other = by_length (cases_order 1_048_576 (length bytes))
     by_length (inl same) = omega arith
     by_length (inr (inl long)) = absurd (other (one_error bytes error lex_error.TooLong is (too_long bytes long)))
     by_length (inr (inr less)) = omega arith
-
--- no token makes a text too long
-never_before : (first : List Token) (behind : Result (List Token) LexError) → (behind ≡ Err lex_error.TooLong → ⊥) → before first behind ≡ Err lex_error.TooLong → ⊥
-never_before first (Ok cut) never is = cc is
-never_before first (Err error) never is = never is
-
-never_bad : (error : LexError) → (error ≡ lex_error.TooLong → ⊥) → ◌≡◌ {A = Result (List Token) LexError} (Err error) (Err lex_error.TooLong) → ⊥
-never_bad error other is = other (cc is)
-
--- what stands at the front of a text makes it none
-abbrev NotLong : ℕ → List ℕ → Result (List Token) LexError → Type 0
-NotLong at text behind = placed at (front_of text).1 (front_of text).0 behind ≡ Err lex_error.TooLong → ⊥
-
-never_piece : (at byte : ℕ) (bytes : List ℕ) (behind : Result (List Token) LexError) → (behind ≡ Err lex_error.TooLong → ⊥) → NotLong at (byte ∷ bytes) behind
-never_piece at byte bytes behind never = by_blank (is_blank byte) refl
-  where
-    by_sign : (found : Option Sign) → sign_of (byte ∷ bytes) ≡ found → is_blank byte ≡ false → (byte == 35) ≡ false → is_ascii_digit byte ≡ false → is_word_byte byte ≡ false → NotLong at (byte ∷ bytes) behind
-    by_sign (Some mark) here no_blank no_hash no_digit no_word = rw (no_blank, no_hash, no_word, no_digit, here, sign_piece) (never_before (record { tok = tok.Sign mark; from = at; to = at + length (sign_text mark) } ∷ []) behind never)
-    by_sign None here no_blank no_hash no_digit no_word = rw (no_blank, no_hash, no_word, no_digit, here, sign_piece) (never_bad (lex_error.BadByte at) (λ same. cc same))
-
-    by_word : (test : Bool) → is_word_byte byte ≡ test → is_blank byte ≡ false → (byte == 35) ≡ false → is_ascii_digit byte ≡ false → NotLong at (byte ∷ bytes) behind
-    by_word true here no_blank no_hash no_digit = rw (no_blank, no_hash, here, no_digit) (never_before (record { tok = word_token (take (1 + prefix_len is_word_byte bytes) (byte ∷ bytes)); from = at; to = at + length (take (1 + prefix_len is_word_byte bytes) (byte ∷ bytes)) } ∷ []) behind never)
-    by_word false here no_blank no_hash no_digit = by_sign (sign_of (byte ∷ bytes)) refl no_blank no_hash no_digit here
-
-    by_number : (test : Bool) → (nat_le (digits_value 10 (take_while is_ascii_digit (byte ∷ bytes))) 9223372036854775807 && not (begins_word (drop (length (take_while is_ascii_digit (byte ∷ bytes))) (byte ∷ bytes)))) ≡ test → is_blank byte ≡ false → (byte == 35) ≡ false → is_ascii_digit byte ≡ true → NotLong at (byte ∷ bytes) behind
-    by_number true here no_blank no_hash digit = rw (no_blank, no_hash, here, digit) (never_before (record { tok = tok.Int (digits_value 10 (take (1 + prefix_len is_ascii_digit bytes) (byte ∷ bytes))); from = at; to = at + length (take (1 + prefix_len is_ascii_digit bytes) (byte ∷ bytes)) } ∷ []) behind never)
-    by_number false here no_blank no_hash digit = rw (no_blank, no_hash, here, digit) (never_bad (lex_error.BadNumber at) (λ same. cc same))
-
-    by_digit : (test : Bool) → is_ascii_digit byte ≡ test → is_blank byte ≡ false → (byte == 35) ≡ false → NotLong at (byte ∷ bytes) behind
-    by_digit true here no_blank no_hash = by_number (nat_le (digits_value 10 (take_while is_ascii_digit (byte ∷ bytes))) 9223372036854775807 && not (begins_word (drop (length (take_while is_ascii_digit (byte ∷ bytes))) (byte ∷ bytes)))) refl no_blank no_hash here
-    by_digit false here no_blank no_hash = by_word (is_word_byte byte) refl no_blank no_hash here
-
-    by_hash : (test : Bool) → (byte == 35) ≡ test → is_blank byte ≡ false → NotLong at (byte ∷ bytes) behind
-    by_hash true here no_blank = rw (no_blank, here) never
-    by_hash false here no_blank = by_digit (is_ascii_digit byte) refl no_blank here
-
-    by_blank : (test : Bool) → is_blank byte ≡ test → NotLong at (byte ∷ bytes) behind
-    by_blank true here = rw here never
-    by_blank false here = by_hash (byte == 35) refl here
-
-never_long : (at inside : ℕ) (bytes : List ℕ) → tokens_from at inside bytes ≡ Err lex_error.TooLong → ⊥
-unfolding tokens_from
-never_long at inside [] is = cc is
-never_long at (suc inside) (byte ∷ bytes) is = never_long (at + 1) inside bytes is
-never_long at zero (byte ∷ bytes) is =
-    let more = (front_of (byte ∷ bytes)).1 - 1 in
-    never_piece at byte bytes (tokens_from (at + 1) more bytes) (never_long (at + 1) more bytes) is
-
--- a text that is too long says so
-pub long : (bytes : List ℕ) → tokens bytes ≡ Err lex_error.TooLong → 1_048_576 < length bytes
-long bytes is = by_length (cases_order 1_048_576 (length bytes))
-  where
-    cut_whole : length bytes ≤ 1_048_576 → tokens_from 0 0 bytes ≡ Err lex_error.TooLong
-    cut_whole few = let less : nat_lt 1_048_576 (length bytes) ≡ false = le-ltb 1_048_576 (length bytes) few in rw less at is
-
-    by_length : (1_048_576 ≡ length bytes) ⊎ ((1_048_576 < length bytes) ⊎ (length bytes < 1_048_576)) → 1_048_576 < length bytes
-    by_length (inl same) = absurd (never_long 0 0 bytes (cut_whole (omega arith)))
-    by_length (inr (inl more)) = more
-    by_length (inr (inr less)) = absurd (never_long 0 0 bytes (cut_whole (omega arith)))
 
 -- why a text is refused: for a byte that no token begins with, for a number that is none, or for a token
 data Cause (bytes : List ℕ) (kind : Refusal) (line column : ℕ) : Type 0 where
@@ -208,8 +142,8 @@ one_verdict one bytes (Err read_model.TooLong) (Err read_model.Memory) first oth
 one_verdict one bytes (Err read_model.Memory) that first other = absurd first
 
 -- what is said of a text that is too long
-pub told_long : (bytes : List ℕ) (error : LexError) → error ≡ lex_error.TooLong → (error ≢ lex_error.Memory → tokens bytes ≡ Err error) → 1_048_576 < length bytes
-told_long bytes error is told = long bytes (told (λ same. let both = sym is ∙ same in cc both) ∙ ap Err is)
+pub told_long : ((bytes : List ℕ) → tokens bytes ≡ Err lex_error.TooLong → 1_048_576 < length bytes) → (bytes : List ℕ) (error : LexError) → error ≡ lex_error.TooLong → (error ≢ lex_error.Memory → tokens bytes ≡ Err error) → 1_048_576 < length bytes
+told_long long bytes error is told = long bytes (told (λ same. let both = sym is ∙ same in cc both) ∙ ap Err is)
 
 -- no text has two verdicts
 abbrev pub OneVerdict : Type 0

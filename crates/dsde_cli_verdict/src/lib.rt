@@ -6,6 +6,6 @@ mod place;
 mod read;
 mod refusal;
 
-pub use law::one_verdict;
+pub use law::{each_text_has_a_verdict, one_verdict};
 pub use read::read_model;
 pub use refusal::{ReadModel, Refusal};

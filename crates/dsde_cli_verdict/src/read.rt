@@ -12,7 +12,7 @@ use crate::law::one_verdict;
 use crate::place::line_column;
 use crate::{ReadModel, Refusal};
 use dsde_check::{CheckError, check};
-use dsde_lexer::{LexError, Places, lex};
+use dsde_lexer::{LexError, Places, lex, texts_are_cut};
 use dsde_parser::{ParseError, parse};
 use dsde_syntax::{Model, Token};
 use std::alloc::Global;
@@ -70,6 +70,8 @@ fn unlexed(bytes: &[u8], error: LexError) -> ReadModel
     requires { error ≢ LexError.Memory → tokens_of_text bytes.now ≡ Err error }
     ensures { result ≢ ReadModel.Memory → IsVerdict bytes.now (Err result) }
 {
+    // A law: only a text that is too long has no tokens for that.
+    texts_are_cut();
     match error {
         LexError::TooLong => ReadModel::TooLong,
         LexError::BadByte(offset) => at_byte(bytes, Refusal::BadByte, offset),
