@@ -86,7 +86,7 @@ pub record Tabled (coded : Coded) (count : ℕ) (next : Next) (piece : Piece Par
 
 module _ (coded : Coded) (count : ℕ) where
   -- what stands behind a piece
-  tabled-behind : {A : Type 0} (first : Step A) (rest : A → Step Parts) (scope : List Field) (next : Next) → Tabled coded count next ((first >>= rest) scope next)
+  pub tabled-behind : {A : Type 0} (first : Step A) (rest : A → Step Parts) (scope : List Field) (next : Next) → Tabled coded count next ((first >>= rest) scope next)
       → Tabled coded count (behind next (first scope next)) (rest (first scope next).own (first scope next).scope (behind next (first scope next)))
   tabled-behind first rest scope next t =
       let one = first scope next in
@@ -97,7 +97,7 @@ module _ (coded : Coded) (count : ℕ) where
         functions = t.functions;
       }
 
-  tabled-given : (rest : Step Parts) (change : Parts → Parts) (scope : List Field) (next : Next) → ((parts : Parts) → (change parts).functions ≡ parts.functions)
+  pub tabled-given : (rest : Step Parts) (change : Parts → Parts) (scope : List Field) (next : Next) → ((parts : Parts) → (change parts).functions ≡ parts.functions)
       → Tabled coded count next ((rest >>= (λ parts. give (change parts))) scope next) → Tabled coded count next (rest scope next)
   tabled-given rest change scope next keeps t =
       let one = rest scope next in

@@ -43,7 +43,7 @@ use Rattle.dsde_sound_typing.specs.Types.{wanted-is}
 use Rattle.dsde_sound_typing.specs.Seeing.{slots_of, slots-see}
 use Rattle.dsde_sound_functions.proofs.Params.{ty_of, params-slots, Given, params-given}
 
-abbrev height_of : Passed → Seen → ℕ
+abbrev pub height_of : Passed → Seen → ℕ
 height_of passed found = max passed.height (above found.height)
 
 -- What is judged of a function in which nothing is wrong.
@@ -60,7 +60,7 @@ record Judged (known : Known) (id : Id) (params : List syntax.Typed) (stmts : Li
   low : height_of passed found ≤ 512
   high : above (height_of passed found) ≡ func.height
 
-not-above : (n : ℕ) → nat_lt 512 n ≡ false → n ≤ 512
+pub not-above : (n : ℕ) → nat_lt 512 n ≡ false → n ≤ 512
 not-above n h = grind (arith, nat_tests)
 
 least-is : (n m : ℕ) → n ≡ m → m ≤ 512 → n ≤ 512
@@ -70,15 +70,15 @@ abbrev func_as : Id → rules.Scope → Ty → ℕ → Func
 func_as id scope own height = record { name = id.name; params = map ty_of scope; result = own; height = above height }
 
 -- the highest statement of a function, `return` among them
-record Highest (known : Known) (stmts : List Stmt) (value : Expr) (own : Ty) (scope : rules.Scope) (height : ℕ) : Type 0 where
-  passed : Passed
-  found : Seen
-  walked : walk_all (map (walk (around_func known) []) stmts) 0 scope ≡ Ok passed
-  judged : judge (around_func known) value passed.scope ≡ Ok found
-  of : found.ty ≡ own
-  is : height_of passed found ≡ height
+pub record Highest (known : Known) (stmts : List Stmt) (value : Expr) (own : Ty) (scope : rules.Scope) (height : ℕ) : Type 0 where
+  pub passed : Passed
+  pub found : Seen
+  pub walked : walk_all (map (walk (around_func known) []) stmts) 0 scope ≡ Ok passed
+  pub judged : judge (around_func known) value passed.scope ≡ Ok found
+  pub of : found.ty ≡ own
+  pub is : height_of passed found ≡ height
 
-highest-of : (known : Known) (stmts : List Stmt) (value : Expr) (own : Ty) (scope : rules.Scope) (height : ℕ) → func_height (around_func known) stmts value own scope ≡ Ok height
+pub highest-of : (known : Known) (stmts : List Stmt) (value : Expr) (own : Ty) (scope : rules.Scope) (height : ℕ) → func_height (around_func known) stmts value own scope ≡ Ok height
     → Highest known stmts value own scope height
 highest-of known stmts value own scope height h =
     let around : Around = around_func known in

@@ -4,3 +4,4 @@ mod FuncAgrees
 mod Frame
 mod Decls
 mod Whole
+mod FuncStanding

@@ -26,18 +26,18 @@ use Rattle.dsde_sound_typing.specs.Steps.{went}
 use Rattle.dsde_sound_functions.proofs.Decls.{Tabled, Here, Ended, walk-decls}
 
 -- the whole of a table
-all-stands : {A : Type 0} (table : List A) → Stands table 0 table
+pub all-stands : {A : Type 0} (table : List A) → Stands table 0 table
 all-stands table = record { before = []; rest = []; is = sym (append-nil table); at = refl }
 
 -- Nothing is wrong where no first thing is.
-abbrev first_of : Result (Unit {0}) Wrong → Option Wrong
+abbrev pub first_of : Result (Unit {0}) Wrong → Option Wrong
 first_of tests = elim tests [ Ok _ ↦ None | Err first ↦ Some first ]
 
-none-wrong : (tests : Result (Unit {0}) Wrong) → first_of tests ≡ None → tests ≡ Ok tt
+pub none-wrong : (tests : Result (Unit {0}) Wrong) → first_of tests ≡ None → tests ≡ Ok tt
 none-wrong (Ok u) h = refl
 none-wrong (Err first) h = cc
 
-abbrev first_next : Next
+abbrev pub first_next : Next
 first_next = record { node = 0; block = 0; via = 0 }
 
 pub functions-agree : ExpressionsAgree → BlocksAgree → KnownIsWithin → ShapedIsProper → (model : Model) (known : Known) → IsRight model → KnownAt model known → FuncsAgree model known

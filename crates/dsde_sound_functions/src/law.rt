@@ -1,6 +1,7 @@
-//! A law of the functions of a model.
+//! Laws of the functions of a model.
 
 ghost use Rattle.dsde_sound_functions.specs.Coded.{FunctionsAgree};
+ghost use Rattle.dsde_sound_functions.specs.Standing.{FunctionsStand};
 
 use dsde_sound_blocks::blocks_agree;
 use dsde_sound_expressions::expressions_agree;
@@ -14,6 +15,18 @@ pub fn functions_agree()
     ensures { FunctionsAgree }
 {
     expressions_agree();
+    blocks_agree();
+    shaped_is_proper();
+    known_is_within();
+}
+
+/// A law: each function of a model in which nothing is wrong has its text at its number, and stands
+/// there in the tables: its statements as a block over its parameters, and its value, of the type of
+/// its result, over the names behind them.
+pub fn functions_stand()
+    ensures { FunctionsStand }
+{
+    functions_agree();
     blocks_agree();
     shaped_is_proper();
     known_is_within();

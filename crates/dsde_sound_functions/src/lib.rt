@@ -3,4 +3,4 @@
 
 mod law;
 
-pub use law::functions_agree;
+pub use law::{functions_agree, functions_stand};
