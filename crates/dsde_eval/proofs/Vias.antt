@@ -1,12 +1,16 @@
 -- Any translation of a model in which nothing is wrong.
-use Rattle.std.proofs.Common.{◌≡◌, ◌≢◌, ℕ, ◌<◌, true, List, length, Option, Some, is_some, Result, Ok, Err, slice_get, sym, ◌∙◌, ap, subst}
+use Rattle.std.proofs.Common.{◌≡◌, ◌≢◌, ℕ, ◌<◌, true, List, length, Option, None, Some, is_some, Result, Ok, Err, slice_get, sym, ◌∙◌, ap, subst}
+use Rattle.std.specs.Prelude.{IfSome}
 use Rattle.std.proofs.lemmas.Option.{slice_get_within}
 use Rattle.dsde_syntax.specs.declared.expr.Expr.{Expr}
 use Rattle.dsde_syntax.specs.declared.decl.Model.{Model}
 use Rattle.dsde_values.specs.declared.types.Field.{Field}
 use Rattle.dsde_values.specs.declared.types.Ty.{Ty}
 use Rattle.dsde_values.specs.declared.types.Ty.TheVariants as ty
-use Rattle.dsde_values.specs.declared.value.Value.{Value}
+use Rattle.dsde_values.specs.declared.value.Value.{Value, Value-F}
+use Rattle.dsde_values.specs.declared.value.Value.TheOpen as layer
+use Rattle.dsde_values.specs.declared.value.Value.TheVariants as value_of
+use Rattle.dsde_values.specs.declared.value.Value.TheViews.{outs-Some}
 use Rattle.dsde_faults.specs.declared.kind.FaultKind.{FaultKind}
 use Rattle.dsde_faults.specs.declared.end.EvalEnd.{EvalEnd}
 use Rattle.dsde_faults.specs.declared.end.EvalEnd.TheVariants as end_of
@@ -19,7 +23,13 @@ use Rattle.dsde_sound_places.specs.Places.{IsExpr}
 use Rattle.dsde_eval_meaning.specs.Functions.{mean_of}
 use Rattle.dsde_sound_places.specs.Conditions.{CanEval, Came, IsVia, CanTranslate, Translated, via_values, option_value}
 use Rattle.dsde_sound_typing.specs.Outcomes.{sound-given}
+use Rattle.dsde_sound_typing.specs.Values.{Held, option-sound}
+use Rattle.dsde_eval.specs.Translations.{HasTargetType}
 use Rattle.dsde_eval.proofs.Typing.{is-option, total-ok}
+
+-- an option by its layer
+abbrev option_in : Value-F Value → Outcome (Option Value)
+option_in own = elim own [ layer.Nothing ↦ Ok None | layer.Some inner ↦ Ok (Some inner) | _ ↦ Err Stuck ]
 
 some-is : (a b : ViaCode) → (let r : Option ViaCode = Some a in r) ≡ Some b → a ≡ b
 some-is a b e = cc
@@ -68,3 +78,16 @@ module _ (model : Model) (number : ℕ) (key : Option Value) (own : Value) where
       via-came value held given same = λ slots body inner vars is fits are.
           subst (λ (r : Result Value EvalEnd). Gives (mean_of model body vars) r) given (came.gives true slots body (ty.Opt inner) vars (body-is slots body inner is) fits (are ∙ sym are_values))
           ∙ ap (λ (v : Value). (let r : Outcome Value = Ok v in r)) (sym same)
+
+      held-typed : (inner : Ty) (held : Option Value) → Typed (types_of model) (ty.Opt inner) (option_value held) → IfSome held (λ value. Typed (types_of model) inner value)
+      held-typed inner None typed = tt
+      held-typed inner (Some value) typed =
+          let is : option_of (value_of.Some value) ≡ Ok (Some value) = ap option_in (outs-Some value) in
+          subst (λ (o : Outcome (Option Value)). Sound true (Held (types_of model) true inner) o) is (option-sound (types_of model) true (value_of.Some value) inner typed)
+
+      pub via-typed : (value : Value) (held : Option Value) → result ≡ Ok value → option_value held ≡ value → HasTargetType model number key own held
+      via-typed value held given same = λ slots body inner vars is fits are.
+          let sound : Sound true (Typed (types_of model) (ty.Opt inner)) (mean_of model body vars) = came.sound true slots body (ty.Opt inner) vars (body-is slots body inner is) fits (are ∙ sym are_values) in
+          let gives : Gives (mean_of model body vars) (Ok value) = subst (λ (r : Result Value EvalEnd). Gives (mean_of model body vars) r) given (came.gives true slots body (ty.Opt inner) vars (body-is slots body inner is) fits (are ∙ sym are_values)) in
+          held-typed inner held
+          (subst (λ (v : Value). Typed (types_of model) (ty.Opt inner) v) (sym same) (sound-given true (Typed (types_of model) (ty.Opt inner)) (mean_of model body vars) value sound gives))

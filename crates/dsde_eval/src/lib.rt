@@ -5,5 +5,6 @@ mod env;
 mod laws;
 mod via;
 
+pub use dsde_faults::{EvalEnd, FaultKind};
 pub use env::{Env, eval, run_block};
 pub use via::translate;

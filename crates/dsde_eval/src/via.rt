@@ -2,6 +2,7 @@
 
 ghost use Rattle.std.specs.Prelude.{◌≡◌, Some, option_copied, IfOk};
 ghost use Rattle.dsde_sound_places.specs.Conditions.{CanTranslate, Translated, via_values, option_value, IsOption};
+ghost use Rattle.dsde_eval.specs.Translations.{HasTargetType};
 
 use crate::env::{Env, eval};
 use dsde_declared::ViaId;
@@ -12,7 +13,7 @@ use dsde_values::{Seq, Value, Values, copy_value};
 use std::alloc::Global;
 
 /// What the translation with a number makes of a value, with the key of the component at its other
-/// end where it takes one: a value, or none.
+/// end where it takes one: a value of the type of the target's port, or none.
 pub fn translate(
     alloc: Global,
     program: &Program,
@@ -21,7 +22,8 @@ pub fn translate(
     value: &Value,
 ) -> Result<Option<Value>, Memory>
     requires { CanTranslate program.now via.0 (option_copied key) value.now }
-    ensures { IfOk result (λ held. Translated program.now via.0 (option_copied key.entry) value.now held) }
+    ensures means { IfOk result (λ held. Translated program.now via.0 (option_copied key.entry) value.now held) }
+    ensures typed { IfOk result (λ held. HasTargetType program.now via.0 (option_copied key.entry) value.now held) }
 {
     let code = program.via(via);
     let mut env = Env {

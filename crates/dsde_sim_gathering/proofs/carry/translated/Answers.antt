@@ -16,4 +16,4 @@ returns c =
     (λ held. Translated c.args.program.now c.args.via.now.id.0 c.args.via.now.key c.args.value.now held)
     (λ made. made ≡ (system c.args.program.now).translate c.args.via.now c.args.value.now)
     (λ held came. sym (c.translates_exactly.ensures c.args.program.now c.args.via.now c.requires.from c.requires.to c.args.value.now held c.requires.takes c.requires.typed came))
-    (rw c.as_ref.ensures.value at c.translate.ensures)
+    (rw c.as_ref.ensures.value at c.translate.ensures.means)
