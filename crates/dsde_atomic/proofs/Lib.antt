@@ -7,7 +7,7 @@ pub mod Inits
 pub mod Landing
 pub mod Phases
 pub mod Inner
-pub mod Inputs
+pub mod InputSlots
 pub mod Outer
 pub mod Transitions
 pub mod Settling

@@ -23,7 +23,7 @@ use Rattle.dsde_atomic.specs.Steps.{own_at, sited, CanMove, Moved, IsPhase, HasP
 use Rattle.dsde_atomic.proofs.Ends.{some-is, site-end, site-ok}
 use Rattle.dsde_atomic.proofs.Filling.{fits-append, values-append}
 use Rattle.dsde_atomic.proofs.Bodies.{args-fill, state-fill, body-fits, body-are}
-use Rattle.dsde_atomic.proofs.Inputs.{inputs-fit, inputs-are}
+use Rattle.dsde_atomic.proofs.InputSlots.{inputs-fit, inputs-are}
 use Rattle.dsde_atomic.proofs.Phases.{phase-gives, phase-fits}
 
 module _ (model : Model) (number : ℕ) (args state : List Value) (elapsed : ℕ) (got : Ports)

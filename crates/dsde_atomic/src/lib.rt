@@ -11,6 +11,8 @@ mod moves;
 mod ports;
 mod top;
 
+pub use dsde_faults::{LeafEnd, Site};
+pub use dsde_formalism::{Inputs, Leaf, MoveKind};
 pub use leaf::{move_leaf, output_leaf, start_leaf};
 pub use ports::{
     component_at, is_network, network_at, network_in, network_out, ports_in, ports_out,

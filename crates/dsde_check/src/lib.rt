@@ -5,5 +5,6 @@ mod declared;
 mod own;
 mod whole;
 
+pub use dsde_check_rules::WrongKind;
 pub use dsde_check_scope::CheckError;
 pub use whole::check;

@@ -6,4 +6,8 @@ mod made;
 mod program;
 mod whole;
 
+pub use dsde_program_nodes::{
+    Act, ActArm, Binary, BlockId, Builtin, Code, ExprId, FnCode, Info, Make, MakeArm, MakeEnd,
+    MakeIndex, MakePart, MakeVia, ModelId, Node, NodeArm, Port, ViaCode, ViaId,
+};
 pub use program::{Program, resolve};

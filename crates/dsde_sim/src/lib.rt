@@ -5,4 +5,7 @@ mod heads;
 mod plain;
 mod turn;
 
+pub use dsde_sim_events::TurnEnd;
+pub use dsde_sim_tree::{Kid, Net, Sim};
+pub use dsde_sim_turns::Step;
 pub use plain::Plain;
