@@ -5,3 +5,4 @@ pub mod Layers
 pub mod Values
 pub mod Ports
 pub mod Lines
+pub mod Orders

@@ -1,5 +1,5 @@
 -- The records of an input, line after line, up to its end or its first offence.
-use Rattle.std.specs.Prelude.{ℕ, ◌+◌, ◌-◌, ◌^◌, min, max, nat_lt, if◌then◌else◌, List, [], ◌∷◌, length, Option, Some, None, unwrap_or, Result, Ok, Err}
+use Rattle.std.specs.Prelude.{ℕ, ◌+◌, ◌-◌, ◌^◌, ◌≤◌, min, max, nat_lt, if◌then◌else◌, List, [], ◌∷◌, length, Option, Some, None, unwrap_or, Result, Ok, Err}
 use Rattle.dsde_values.specs.declared.arrival.Arrival.{Arrival}
 use Rattle.dsde_values.specs.declared.types.Field.{Field}
 use Rattle.dsde_values.specs.declared.types.Types.{Types}
@@ -40,3 +40,9 @@ records_of ports types floor [] number last = end
 records_of ports types floor (line ∷ lines) number last =
     before (line_record ports types (next_number number) (max (unwrap_or last 0) floor) line)
     (λ arrival. records_of ports types floor lines (next_number number) (Some arrival.time))
+
+-- Records come in the order of their times, and none before this time.
+abbrev pub ComeFrom : ℕ → Records → Type 0
+ComeFrom least end = Unit {0}
+ComeFrom least (bad offence) = Unit {0}
+ComeFrom least (one arrival later) = (least ≤ arrival.time) × ComeFrom arrival.time later

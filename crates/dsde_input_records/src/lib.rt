@@ -7,4 +7,4 @@ mod end;
 mod laws;
 
 pub use end::InputEnd;
-pub use laws::{record_is_spelled, value_is_spelled};
+pub use laws::{record_is_spelled, records_come_in_order, value_is_spelled};
