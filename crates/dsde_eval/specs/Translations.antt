@@ -5,7 +5,7 @@ use Rattle.dsde_syntax.specs.declared.decl.Model.{Model}
 use Rattle.dsde_values.specs.declared.types.Field.{Field}
 use Rattle.dsde_values.specs.declared.types.Ty.{Ty}
 use Rattle.dsde_values.specs.declared.value.Value.{Value}
-use Rattle.dsde_program_nodes.specs.Models.{types_of}
+use Rattle.dsde_declared.specs.Models.{types_of}
 use Rattle.dsde_eval_meaning.specs.Meaning.{Vars}
 use Rattle.dsde_eval_meaning.specs.Typed.{Typed, Fits, values_in}
 use Rattle.dsde_sound_places.specs.Conditions.{IsVia, via_values}

@@ -6,8 +6,9 @@ mod made;
 mod program;
 mod whole;
 
+pub use dsde_declared::{Binary, Builtin, ModelId, ViaId};
 pub use dsde_program_nodes::{
-    Act, ActArm, Binary, BlockId, Builtin, Code, ExprId, FnCode, Info, Make, MakeArm, MakeEnd,
-    MakeIndex, MakePart, MakeVia, ModelId, Node, NodeArm, Port, ViaCode, ViaId,
+    Act, ActArm, BlockId, Code, ExprId, FnCode, Info, Make, MakeArm, MakeEnd, MakeIndex, MakePart,
+    MakeVia, Node, NodeArm, Port, ViaCode,
 };
 pub use program::{Program, resolve};

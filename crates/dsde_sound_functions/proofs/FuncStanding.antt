@@ -27,9 +27,11 @@ use Rattle.dsde_program_nodes.specs.declared.ids.ExprId.{ExprId}
 use Rattle.dsde_program_nodes.specs.declared.make.Make.{Make}
 use Rattle.dsde_program_nodes.specs.Pieces.{Block, Next, Piece, Step, behind, give, over, ◌>>=◌}
 use Rattle.dsde_program_nodes.specs.Expressions.{resolve}
-use Rattle.dsde_program_nodes.specs.Items.{model_id, resolve_all, resolve_items}
+use Rattle.dsde_declared.specs.Models.{model_id, whole_of, types_of}
+use Rattle.dsde_program_nodes.specs.Items.{resolve_all, resolve_items}
 use Rattle.dsde_program_nodes.specs.Statements.{resolve_func, resolve_body, body_scope}
-use Rattle.dsde_program_nodes.specs.Models.{Parts, place_of_items, resolve_decls, resolved, whole_of, types_of}
+use Rattle.dsde_declared.specs.Structures.{place_of_items}
+use Rattle.dsde_program_nodes.specs.Models.{Parts, resolve_decls, resolved}
 use Rattle.dsde_eval_meaning.specs.Functions.{functions_of}
 use Rattle.dsde_eval_meaning.specs.Meaning.{block}
 use Rattle.dsde_eval_meaning.specs.Scopes.{Stands, Sees, Within}

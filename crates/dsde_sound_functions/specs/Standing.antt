@@ -12,9 +12,9 @@ use Rattle.dsde_values.specs.declared.types.Field.{Field}
 use Rattle.dsde_check_rules.specs.Tables.{by_text}
 use Rattle.dsde_check_rules.specs.Right.{IsRight}
 use Rattle.dsde_program_nodes.specs.declared.code.FnCode.{FnCode}
-use Rattle.dsde_program_nodes.specs.Typing.{with_slots}
-use Rattle.dsde_program_nodes.specs.Statements.{typed_fields}
-use Rattle.dsde_program_nodes.specs.Models.{whole_of, resolved}
+use Rattle.dsde_declared.specs.Names.{with_slots}
+use Rattle.dsde_declared.specs.Models.{typed_fields, whole_of}
+use Rattle.dsde_program_nodes.specs.Models.{resolved}
 use Rattle.dsde_sound_places.specs.Places.{IsBlock, IsExpr, piece_of}
 
 -- a function as it is written
