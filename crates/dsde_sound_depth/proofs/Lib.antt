@@ -1,0 +1,17 @@
+mod Going
+mod Nests
+mod Lists
+mod TypeGoes
+mod ExprParts
+mod ExprGoes
+mod Lines
+mod StmtGoes
+mod ItemGoes
+mod DeclGoes
+mod Sure
+mod ExprTall
+mod FormsTall
+mod ExprHeights
+mod StmtTall
+mod ItemTall
+mod DeclTall
