@@ -1,3 +1,4 @@
+mod Completing
 pub mod Loads
 pub mod Outcomes
 pub mod Spots

@@ -1,5 +1,5 @@
 -- How a call ends that runs a model, and what it leaves.
-use Rattle.std.specs.Prelude.{ℕ, ◌≡◌, ◌⊎◌, ⊤, List, [], ◌++◌, take, Option, Some, IsSomeAnd}
+use Rattle.std.specs.Prelude.{ℕ, ◌≡◌, ◌⊎◌, ⊤, List, [], ◌++◌, take, Option, Some, IfSome, IsSomeAnd}
 use Rattle.dsde_input_records.specs.Records.{Records}
 use Rattle.dsde_sim_events.specs.declared.event.Finish.{Finish}
 use Rattle.dsde_sim_events.specs.declared.event.Finish.TheVariants as how
@@ -62,3 +62,14 @@ status_of how.Bound = Done
 status_of how.Quiet = Done
 status_of (how.Input kind line) = BadInput kind line
 status_of (how.Fault fault) = ModelFault fault
+
+-- The run came to its end, and the status is that of this end, unless memory ran out. Where the source
+-- tells its bytes it is the end of the run on their records, which there always is.
+pub record Completes (own : Running) (tells : Records → Run) (input : Option (List ℕ)) (status : Status) : Type 0 where
+  pub how : Finish
+  pub end : IfSome input (λ bytes. (tells (records_in own bytes)).end ≡ Some how)
+  pub is : (status ≡ status_of how) ⊎ (status ≡ Memory)
+
+-- A check is done, unless memory ran out.
+abbrev pub CompletesCheck : Status → Type 0
+CompletesCheck status = (status ≡ Done) ⊎ (status ≡ Memory)

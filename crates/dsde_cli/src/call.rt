@@ -11,7 +11,7 @@ ghost use Rattle.dsde_cli.specs.Causes.{Cause, CauseCheck, Has, HoldsNone, Holds
 ghost use Rattle.dsde_cli_verdict.specs.declared.refusal.Refusal.{Refusal};
 ghost use Rattle.dsde_cli_verdict.specs.Verdict.{Refuses};
 ghost use Rattle.dsde_cli.specs.Loaded.{Loaded, tells_of};
-ghost use Rattle.dsde_cli.specs.Outcome.{Comes, SaysEnd};
+ghost use Rattle.dsde_cli.specs.Outcome.{Comes, Completes, CompletesCheck, SaysEnd};
 
 use crate::check::load_and_check;
 use crate::run::load_and_run;
@@ -43,6 +43,14 @@ pub fn dsde<F: Shelf, R: Source, W: Sink, E: Sink>(
     // The status says how that run ends, whatever the sink tells.
     ensures ends { (loaded : Loaded (map string_bytes words.now) (F.held shelf.old))
         → IfSome (R.left input.old) (λ bytes. SaysEnd (tells_of loaded (records_in loaded.own bytes)).end (R.left input.new) result) }
+
+    // An accepted model is run to the end: where no device fails, the status is that of the run's end,
+    // which there always is, unless memory runs out. And its check is done.
+    ensures complete { (loaded : Loaded (map string_bytes words.now) (F.held shelf.old))
+        → ¬ (Rose (F.faults shelf.old) (F.faults shelf.new)) → ¬ (Rose (R.faults input.old) (R.faults input.new)) → ¬ (Rose (W.faults out.old) (W.faults out.new))
+        → Completes loaded.own (tells_of loaded) (R.left input.old) result }
+    ensures complete_check { Checked (map string_bytes words.now) (F.held shelf.old)
+        → ¬ (Rose (F.faults shelf.old) (F.faults shelf.new)) → ¬ (Rose (W.faults out.old) (W.faults out.new)) → CompletesCheck result }
 
     // No byte of the input is taken that no turn wants.
     ensures taken { (loaded : Loaded (map string_bytes words.now) (F.held shelf.old))

@@ -5,6 +5,7 @@ ghost use Rattle.dsde_io.specs.Fault.{Rose};
 ghost use Rattle.dsde_syntax.specs.declared.decl.Model.{Model};
 ghost use Rattle.dsde_cli.specs.Answer.{Answers, answer_of};
 ghost use Rattle.dsde_cli.specs.Causes.{CauseCheck, Has, HoldsModel, HoldsNoModel, IsBeforeRun, IsOfAnswer, Tells};
+ghost use Rattle.dsde_cli.specs.Outcome.{CompletesCheck};
 ghost use Rattle.dsde_cli_verdict.specs.declared.refusal.Refusal.{Refusal};
 ghost use Rattle.dsde_cli_verdict.specs.Verdict.{Refuses};
 
@@ -29,6 +30,8 @@ pub(crate) fn load_and_check<F: Shelf, W: Sink>(
         → IfSome (W.written out.old) (λ written. Answers (answer_of print model) written (W.written out.new) result) }
     ensures cause { CauseCheck name.now (F.held shelf.old) (Rose (F.faults shelf.old) (F.faults shelf.new))
         (Rose (W.faults out.old) (W.faults out.new)) result }
+    ensures complete { (model : Model) → HoldsModel name.now (F.held shelf.old) model
+        → ¬ (Rose (F.faults shelf.old) (F.faults shelf.new)) → ¬ (Rose (W.faults out.old) (W.faults out.new)) → CompletesCheck result }
     ensures refused { (kind : Refusal) → (line column : ℕ)
         → Has name.now (F.held shelf.old) (λ bytes. Refuses bytes kind line column) → Tells kind line column result }
     ensures unanswered { HoldsNoModel name.now (F.held shelf.old) → out.new ≡ out.old }

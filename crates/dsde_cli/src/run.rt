@@ -9,7 +9,7 @@ ghost use Rattle.dsde_cli.specs.Causes.{Cause, Has, Holds, HoldsNone, IsBeforeRu
 ghost use Rattle.dsde_cli_verdict.specs.declared.refusal.Refusal.{Refusal};
 ghost use Rattle.dsde_cli_verdict.specs.Verdict.{Refuses};
 ghost use Rattle.dsde_cli.specs.Loaded.{own_of};
-ghost use Rattle.dsde_cli.specs.Outcome.{Comes, SaysEnd, status_of};
+ghost use Rattle.dsde_cli.specs.Outcome.{Comes, Completes, SaysEnd, status_of};
 
 use crate::load::{Runnable, load_runnable};
 use dsde_cli_status::{Status, What, Why};
@@ -18,6 +18,7 @@ use dsde_io::{Shelf, Sink, SinkEnd, Source, write_all};
 use dsde_program::resolve;
 use dsde_run::{Cut, Running, run_model};
 use dsde_sim_events::Finish;
+use dsde_sound_runs::{inputs_arrive, runs_end};
 use dsde_values::Text;
 use std::alloc::Global;
 
@@ -36,6 +37,9 @@ pub(crate) fn load_and_run<F: Shelf, R: Source, W: Sink>(
         Comes own (λ records. run own records turns) bytes (R.left input.new) written (W.written out.new) result)) }
     ensures ends { (own : Running) → Holds name.now (F.held shelf.old) own
         → IfSome (R.left input.old) (λ bytes. SaysEnd (run own (records_in own bytes) turns).end (R.left input.new) result) }
+    ensures complete { (own : Running) → Holds name.now (F.held shelf.old) own
+        → ¬ (Rose (F.faults shelf.old) (F.faults shelf.new)) → ¬ (Rose (R.faults input.old) (R.faults input.new)) → ¬ (Rose (W.faults out.old) (W.faults out.new))
+        → Completes own (λ records. run own records turns) (R.left input.old) result }
     ensures taken { (own : Running) → Holds name.now (F.held shelf.old) own
         → Told (R.left input.old) (R.left input.new) (λ before. TakesWanted (λ records. run own records turns) (records_in own before) before) }
     ensures idle { turns ≡ 0 → input.new ≡ input.old }
@@ -50,8 +54,10 @@ pub(crate) fn load_and_run<F: Shelf, R: Source, W: Sink>(
     ensures input_counted { R.faults input.old ≤ R.faults input.new }
     ensures out_counted { W.faults out.old ≤ W.faults out.new }
 {
-    // A law: a text has one verdict.
+    // Laws: a text has one verdict, and the runs of an accepted model end.
     one_verdict();
+    runs_end();
+    inputs_arrive();
     match load_runnable(alloc, name, shelf) {
         Ok(loaded) => run_loaded(alloc, &loaded, turns, input, out),
         Err(status) => status,

@@ -5,7 +5,8 @@ use Rattle.dsde_run.specs.Run.{run, records_in}
 use Rattle.dsde_cli_command.specs.Commands.{CheckCommand, RunCommand, checks, runs}
 use Rattle.dsde_cli.specs.Answer.{Answers, answer_of}
 use Rattle.dsde_cli.specs.Causes.{Holds, HoldsModel}
-use Rattle.dsde_cli.specs.Outcome.{Comes, SaysEnd}
+use Rattle.dsde_cli.specs.Outcome.{Comes, Completes, SaysEnd}
+use Rattle.dsde_cli.proofs.Completing.{check-reported, completes-reported}
 use Rattle.dsde_cli.proofs.Outcomes.{same_run, same_check, no_run, no_task, comes-reported, ends-reported, answers-reported}
 use Rattle.dsde_cli.proofs.call.dsde.Goals as goal
 use Rattle.dsde_cli.proofs.call.dsde.Goals.{in-Some-Check, in-Some-Run, in-None}
@@ -72,4 +73,31 @@ returns-clause-ends g c = λ loaded. elim c.match-read_command.branch [
       w.load_and_run-status.result c.report.result (w.load_and_run-status.ensures.ends loaded.own here) (rw w.status-is at c.report.ensures.same)))
   | in-Some-Check w ↦ absurd (no_run (record { model = w.in-Some-Check.model.now; print = w.in-Some-Check.print }) loaded.asked.run ((rw w.in-Some-Check.field-0-is at w.in-Some-Check.ensures.spelled) ∙ loaded.asked.spelled))
   | in-None w ↦ absurd (no_task (runs loaded.asked.run) (w.in-None.ensures.spelled ∙ loaded.asked.spelled))
+]
+
+pub returns-clause-complete : goal.returns-clause-complete
+returns-clause-complete g c = λ loaded. elim c.match-read_command.branch [
+  | in-Some-Run w ↦
+      let asked : RunCommand = record { model = w.in-Some-Run.model.now; turns = w.in-Some-Run.turns } in
+      let same = same_run asked loaded.asked.run ((rw w.in-Some-Run.field-0-is at w.in-Some-Run.ensures.spelled) ∙ loaded.asked.spelled) in
+      let here = subst (λ asked. Holds asked.model (g.F.Shelf.held c.args.shelf.now) loaded.own) (sym same) loaded.holds in
+      let turns : asked.turns ≡ loaded.asked.run.turns = ap (λ asked. asked.turns) same in
+      rw (w.shelf-is, w.input-is, w.out-is) (λ shelf source sink.
+      subst (λ turns. Completes loaded.own (λ records. run loaded.own records turns) (g.R.Source.left c.args.input.now) c.report.result) turns
+      (completes-reported loaded.own (λ records. run loaded.own records asked.turns) (g.R.Source.left c.args.input.now)
+      w.load_and_run-status.result c.report.result (w.load_and_run-status.ensures.complete loaded.own here shelf source sink) (rw w.status-is at c.report.ensures.same)))
+  | in-Some-Check w ↦ absurd (no_run (record { model = w.in-Some-Check.model.now; print = w.in-Some-Check.print }) loaded.asked.run ((rw w.in-Some-Check.field-0-is at w.in-Some-Check.ensures.spelled) ∙ loaded.asked.spelled))
+  | in-None w ↦ absurd (no_task (runs loaded.asked.run) (w.in-None.ensures.spelled ∙ loaded.asked.spelled))
+]
+
+pub returns-clause-complete_check : goal.returns-clause-complete_check
+returns-clause-complete_check g c = λ checked. elim c.match-read_command.branch [
+  | in-Some-Check w ↦
+      let own : CheckCommand = record { model = w.in-Some-Check.model.now; print = w.in-Some-Check.print } in
+      let same = same_check own checked.asked.check ((rw w.in-Some-Check.field-0-is at w.in-Some-Check.ensures.spelled) ∙ checked.asked.spelled) in
+      let here = subst (λ asked. HoldsModel asked.model (g.F.Shelf.held c.args.shelf.now) checked.model) (sym same) checked.holds in
+      rw (w.shelf-is, w.out-is) (λ shelf sink.
+      check-reported w.load_and_check-status.result c.report.result (w.load_and_check-status.ensures.complete checked.model here shelf sink) (rw w.status-is at c.report.ensures.same))
+  | in-Some-Run w ↦ absurd (no_run checked.asked.check (record { model = w.in-Some-Run.model.now; turns = w.in-Some-Run.turns }) (sym ((rw w.in-Some-Run.field-0-is at w.in-Some-Run.ensures.spelled) ∙ checked.asked.spelled)))
+  | in-None w ↦ absurd (no_task (checks checked.asked.check) (w.in-None.ensures.spelled ∙ checked.asked.spelled))
 ]

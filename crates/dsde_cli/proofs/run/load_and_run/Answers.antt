@@ -3,6 +3,7 @@ use Rattle.std.specs.Prelude.{IfSome}
 use Rattle.dsde_run.specs.Reading.{Told, TakesWanted}
 use Rattle.dsde_run.specs.Run.{run, records_in}
 use Rattle.dsde_cli.specs.Outcome.{Comes, SaysEnd}
+use Rattle.dsde_cli.proofs.Completing.{none-completes, run-completes}
 use Rattle.dsde_cli.proofs.Loads.{comes-cut, refusal_tells, run_cut, run_unrefused, told_same}
 use Rattle.dsde_cli.proofs.run.load_and_run.Goals as goal
 
@@ -40,3 +41,17 @@ returns-in-Ok-clause-ends g c = λ own holds.
     subst (λ own. IfSome (g.R.Source.left c.args.input.now) (λ bytes.
     SaysEnd (run own (records_in own bytes) c.args.turns).end (g.R.Source.left c.run_loaded.new.input) c.run_loaded.result))
     (sym (c.in-Ok.ensures.only own holds)) c.run_loaded.ensures.ends
+
+pub returns-in-Ok-clause-complete : goal.returns-in-Ok-clause-complete
+returns-in-Ok-clause-complete g c = λ own holds shelf source sink.
+    run-completes c.runs_end.ensures c.inputs_arrive.ensures c.args.name.now (g.F.Shelf.held c.args.shelf.now) own c.args.turns holds _ _
+    (g.R.Source.left c.args.input.now) (g.R.Source.left c.run_loaded.new.input) c.run_loaded.result c.run_loaded.ensures.cause
+    (subst (λ own. IfSome (g.R.Source.left c.args.input.now) (λ bytes.
+    SaysEnd (run own (records_in own bytes) c.args.turns).end (g.R.Source.left c.run_loaded.new.input) c.run_loaded.result))
+    (sym (c.in-Ok.ensures.only own holds)) c.run_loaded.ensures.ends) source sink
+
+pub returns-in-Err-clause-complete : goal.returns-in-Err-clause-complete
+returns-in-Err-clause-complete g c = λ own holds shelf source sink.
+    none-completes c.runs_end.ensures c.inputs_arrive.ensures c.args.name.now (g.F.Shelf.held c.args.shelf.now) own c.args.turns holds _
+    (g.R.Source.left c.args.input.now) c.in-Err.status c.in-Err.ensures.none
+    (run_cut c.one_verdict.ensures c.args.name.now (g.F.Shelf.held c.args.shelf.now) _ c.in-Err.status own c.in-Err.ensures.none holds) shelf
