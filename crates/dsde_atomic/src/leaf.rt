@@ -34,6 +34,7 @@ pub fn start_leaf(
     ensures fits { IfOk result (λ leaf. FitsLeaf program.now leaf) }
     ensures model { IfOk result (λ leaf. leaf.model ≡ model) }
     ensures args { IfOk result (λ leaf. leaf.args ≡ args) }
+    ensures boss { IfOk result (λ leaf. leaf.boss ≡ boss) }
 {
     let state = init(alloc, program, model, &args)?;
     settled(alloc, program, model, boss, args, state, time)
@@ -56,6 +57,7 @@ fn settled(
     ensures fits { IfOk result (λ leaf. FitsLeaf program.now leaf) }
     ensures model { IfOk result (λ leaf. leaf.model ≡ model) }
     ensures args { IfOk result (λ leaf. leaf.args ≡ args) }
+    ensures boss { IfOk result (λ leaf. leaf.boss ≡ boss) }
 {
     let params = args.len();
     let slots = slots_of(alloc, &args, state)?;
@@ -108,6 +110,7 @@ pub fn move_leaf(
     ensures fits { IfOk result (λ leaf. FitsLeaf program.now leaf) }
     ensures model { IfOk result (λ moved. moved.model ≡ leaf.now.model) }
     ensures args { IfOk result (λ moved. moved.args ≡ leaf.now.args) }
+    ensures boss { IfOk result (λ moved. moved.boss ≡ leaf.now.boss) }
 {
     let state = copy_values(alloc, leaf.state.as_slice())?;
     let elapsed = time.saturating_sub(leaf.last);

@@ -25,6 +25,7 @@ use Rattle.dsde_formalism.specs.System.{State}
 use Rattle.dsde_system.specs.Body.{at_site}
 use Rattle.dsde_system.specs.Program.{network_at, plan_at, system}
 use Rattle.dsde_sim_movers.specs.Names.{AreNames, NamesParts}
+use Rattle.dsde_sim_movers.specs.lemmas.Named.{entries-named}
 
 both : (one other : Bool) → (one && other) ≡ true → (one ≡ true) × (other ≡ true)
 both true true is = (refl, refl)
@@ -49,10 +50,6 @@ proper-at [] number all = refl
 proper-at (items ∷ structures) zero all = all.0
 proper-at (items ∷ structures) (suc number) all = proper-at structures number all.1
 
-each-name : (P : Name → Type 0) (entries : List Entry) → AllByRecursion (λ entry. P entry.name) entries → AllByRecursion P (names entries)
-each-name P [] all = tt
-each-name P (entry ∷ entries) all = (all.0, each-name P entries all.1)
-
 abbrev pub PlansInOrder : Type 0
 PlansInOrder = (place : Place) (functions : List Function) (items : List Item) (number : ℕ) (vars : Vars) (plan : Plan) →
     structure place functions items number vars ≡ Ok plan → IsInOrder plan.entries
@@ -72,11 +69,8 @@ module _ (proper : ShapedItemsAreProper) (order : PlansInOrder) (ordinary : Plan
   names-by (Some own) number args state plan is =
       let items = unwrap_or (slice_get (structures_of model.decls) number) [] in
       let came : plan_at model own number items args state ≡ Ok plan = came-of (plan_at model own number items args state) plan is in
-      record {
-        order = order _ _ items _ _ plan came;
-        ordinary = each-name (λ name. is_same_name EXEC name ≡ false) plan.entries
-            (ordinary _ _ items _ _ plan (proper-at (structures_of model.decls) number (all-proper model.decls (proper model shaped))) came);
-      }
+      entries-named plan.entries (order _ _ items _ _ plan came)
+      (ordinary _ _ items _ _ plan (proper-at (structures_of model.decls) number (all-proper model.decls (proper model shaped))) came)
 
   pub names-parts : NamesParts (system model)
   unfolding system

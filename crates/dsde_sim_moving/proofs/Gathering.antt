@@ -97,7 +97,7 @@ module _ (model : Model) (net : Net) (sources : Sources) (asked : IsAsked model 
   sources-sorted = subst AreInOrder (sym asked.asked.names) kids-sorted-by
 
   boss-number : (out-Net net).boss.model.0 ≡ (out-Net net).model.0
-  boss-number = ap (λ (number : ModelId). number.0) asked.shape.boss_is
+  boss-number = ap (λ (number : ModelId). number.0) asked.shape.boss_is.model
 
   boss-own : asked.boss.own ≡ own
   boss-own = same-own (slice_get (owns_of model.decls) (out-Net net).model.0) asked.boss.own own
@@ -132,7 +132,7 @@ module _ (model : Model) (net : Net) (sources : Sources) (asked : IsAsked model 
       }
         where
           count : ins ≡ length (body_ins model own)
-          count = sym is ∙ ap (λ (number : ModelId). ((system model).component number args).ins) asked.shape.boss_is ∙ component-ins model (out-Net net).model own asked.shape.links.found args
+          count = sym is ∙ ap (λ (number : ModelId). ((system model).component number args).ins) asked.shape.boss_is.model ∙ component-ins model (out-Net net).model own asked.shape.links.found args
 
       -- what comes to a component
       kid-fits : (kid : Kid) → Contains entries (entry_of kid) → FitsInside model kid → AreFew (box_of (system model) links sources kid) →

@@ -1,11 +1,13 @@
 -- Components and links that are made anew fit.
-use Rattle.std.proofs.Common.{◌≡◌, true, List, map, sym, ap, subst}
+use Rattle.std.proofs.Common.{◌≡◌, true, false, List, map, sym, ap, subst}
 use Rattle.std.specs.List.{AllByRecursion}
 use Rattle.dsde_syntax.specs.declared.decl.Model.{Model}
 use Rattle.dsde_values.specs.declared.name.Name.{Name}
+use Rattle.dsde_values.specs.Path.{EXEC}
 use Rattle.dsde_declared.specs.declared.ids.ModelId.{ModelId}
 use Rattle.dsde_structure.specs.declared.plan.Entry.{Entry}
 use Rattle.dsde_structure.specs.declared.plan.Plan.{Plan}
+use Rattle.dsde_structure.specs.Gather.{is_same_name}
 use Rattle.dsde_structure.specs.Survival.{IsInOrder}
 use Rattle.dsde_executive.specs.Structure.{IsPlan}
 use Rattle.dsde_system.specs.Program.{system}
@@ -30,5 +32,6 @@ module _ (model : Model) where
     found = fits.found;
     network = network;
     order = subst IsInOrder (sym are) fits.fits.order;
+    ordinary = subst (AllByRecursion (λ entry. is_same_name EXEC entry.name ≡ false)) (sym are) fits.fits.ordinary;
     each = subst (λ (entries : List Entry). AllByRecursion (FitsLink model fits.own entries) plan.links) (sym are) fits.fits.links;
   }

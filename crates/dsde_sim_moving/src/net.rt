@@ -10,7 +10,7 @@ ghost use Rattle.dsde_system.specs.Program.{system};
 ghost use Rattle.dsde_system.specs.Fitting.{FitsArgs, FitsInputs, FitsLeaf};
 ghost use Rattle.dsde_sim_tree.specs.Tree.{parts_of_net, parts_of_kids, entry_of};
 ghost use Rattle.dsde_sim_tree.specs.Move.{replanned, after_boss, boss_moves};
-ghost use Rattle.dsde_sim_starting.specs.Fitting.{FitsKid, FitsLinks, FitsNet};
+ghost use Rattle.dsde_sim_starting.specs.Fitting.{FitsKid, FitsLinks, FitsNet, IsExecutive};
 ghost use Rattle.dsde_sim_starting.specs.Starting.{IsNet};
 
 use crate::leaf::{boss_move, kind_of};
@@ -44,7 +44,7 @@ fn replanned(
     requires few { parts_of_kids kids + room < 2 ^ 64 }
     requires args { FitsArgs program.now model.0 args }
     requires boss { FitsLeaf program.now boss }
-    requires boss_is { boss.model ≡ model }
+    requires boss_is { IsExecutive model args boss }
     requires kids { AllByRecursion (FitsKid program.now) kids }
     requires order { IsInOrder (map entry_of kids) }
     requires plan { IsPlan program.now model.0 plan }
@@ -77,7 +77,7 @@ fn after_boss(
     requires few { parts_of_kids kids + room < 2 ^ 64 }
     requires args { FitsArgs program.now model.0 args }
     requires boss { FitsLeaf program.now boss }
-    requires boss_is { boss.model ≡ model }
+    requires boss_is { IsExecutive model args boss }
     requires kids { AllByRecursion (FitsKid program.now) kids }
     requires order { IsInOrder (map entry_of kids) }
     requires network { (system program.now).is_network model ≡ true }
@@ -111,7 +111,7 @@ pub(crate) fn boss_moves(
     requires few { parts_of_kids kids + room < 2 ^ 64 }
     requires args { FitsArgs program.now model.0 args }
     requires boss { FitsLeaf program.now boss }
-    requires boss_is { boss.model ≡ model }
+    requires boss_is { IsExecutive model args boss }
     requires kids { AllByRecursion (FitsKid program.now) kids }
     requires links { FitsLinks program.now model (map entry_of kids) links }
     requires got { FitsInputs program.now model.0 got }

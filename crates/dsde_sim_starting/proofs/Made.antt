@@ -32,7 +32,7 @@ module _ (model : Model) where
   -- the links of a plan
   pub plan-links : (number : ModelId) (plan : Plan) → (system model).is_network number ≡ true → IsPlan model number.0 plan → FitsLinks model number plan.entries plan.links
   plan-links number plan network is =
-      record { own = is.own; found = is.found; network = network; order = is.fits.order; each = is.fits.links }
+      record { own = is.own; found = is.found; network = network; order = is.fits.order; ordinary = is.fits.ordinary; each = is.fits.links }
 
 -- a network that is made of its parts
 pub net-of-fits : (number : ModelId) (args : List Value) (boss : Leaf) (kids : List Kid) (links : List Link) (net : Net) → net ≡ net_of number args boss kids links

@@ -117,7 +117,7 @@ module _ (model : Model) (net : Net) (sources : Sources) (fits : FitsNet model n
   boss-own : are.boss.own ≡ own
   boss-own =
       some-is (slice_get (owns_of model.decls) (out-Net net).model.0) are.boss.own own
-      (ap (λ (m : ModelId). slice_get (owns_of model.decls) m.0) (sym shape.boss_is) ∙ are.boss.found) shape.links.found
+      (ap (λ (m : ModelId). slice_get (owns_of model.decls) m.0) (sym shape.boss_is.model) ∙ are.boss.found) shape.links.found
 
   given : FitsSources model own entries sources
   given = record {

@@ -3,12 +3,15 @@ use Rattle.std.specs.Prelude.{◌≡◌, ℕ, ◌<◌, ◌^◌, true, false, Lis
 use Rattle.std.proofs.Common.{inl, inr}
 use Rattle.std.specs.List.{AllByRecursion}
 use Rattle.dsde_syntax.specs.declared.decl.Model.{Model}
+use Rattle.dsde_values.specs.declared.value.Value.{Value}
+use Rattle.dsde_values.specs.Path.{EXEC}
 use Rattle.dsde_declared.specs.declared.ids.ModelId.{ModelId}
 use Rattle.dsde_declared.specs.Models.{types_of, Own, owns_of}
 use Rattle.dsde_formalism.specs.declared.leaf.Leaf.{Leaf}
 use Rattle.dsde_formalism.specs.System.{Ports}
 use Rattle.dsde_structure.specs.declared.plan.Entry.{Entry}
 use Rattle.dsde_structure.specs.declared.plan.Link.{Link}
+use Rattle.dsde_structure.specs.Gather.{is_same_name}
 use Rattle.dsde_structure.specs.Survival.{IsInOrder}
 use Rattle.dsde_system.specs.Program.{system}
 use Rattle.dsde_system.specs.Fitting.{FitsArgs, FitsLeaf, Reach}
@@ -18,24 +21,33 @@ use Rattle.dsde_sim_tree.specs.declared.sim.Net.{Net}
 use Rattle.dsde_sim_tree.specs.declared.sim.Sim.{Sim}
 use Rattle.dsde_sim_tree.specs.Spots.{Spot, Shape, spots, spots_of_kid, spots_of_net}
 
--- An atomic component is one of the program.
+-- An atomic component is one of the program, and no executive.
 pub record FitsAtomic (model : Model) (leaf : Leaf) : Type 0 where
   pub fits : FitsLeaf model leaf
   pub atomic : (system model).is_network leaf.model ≡ false
+  pub component : leaf.boss ≡ false
 
--- The links of the network with this number, whose components stand in the order of their names.
+-- The executive of a network of this model with these arguments.
+pub record IsExecutive (number : ModelId) (values : List Value) (leaf : Leaf) : Type 0 where
+  pub model : leaf.model ≡ number
+  pub args : leaf.args ≡ values
+  pub executive : leaf.boss ≡ true
+
+-- The links of the network with this number, whose components stand in the order of their names, none of
+-- them named as an executive.
 pub record FitsLinks (model : Model) (number : ModelId) (entries : List Entry) (links : List Link) : Type 0 where
   pub own : Own
   pub found : slice_get (owns_of model.decls) number.0 ≡ Some own
   pub network : (system model).is_network number ≡ true
   pub order : IsInOrder entries
+  pub ordinary : AllByRecursion (λ entry. is_same_name EXEC entry.name ≡ false) entries
   pub each : AllByRecursion (FitsLink model own entries) links
 
 -- A network is one of the program: its arguments, its executive, its components and its links.
 pub record FitsShape (model : Model) (shape : Shape) : Type 0 where
   pub args : FitsArgs model shape.model.0 shape.args
   pub boss : FitsLeaf model shape.boss
-  pub boss_is : shape.boss.model ≡ shape.model
+  pub boss_is : IsExecutive shape.model shape.args shape.boss
   pub links : FitsLinks model shape.model shape.entries shape.links
 
 abbrev pub FitsSpot : Model → Spot → Type 0

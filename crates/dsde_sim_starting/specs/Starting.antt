@@ -11,7 +11,7 @@ use Rattle.dsde_sim_tree.specs.declared.sim.Kid.{Kid}
 use Rattle.dsde_sim_tree.specs.declared.sim.Net.{Net}
 use Rattle.dsde_sim_tree.specs.declared.sim.Sim.TheViews.{out-Net}
 use Rattle.dsde_sim_tree.specs.Tree.{entry_of}
-use Rattle.dsde_sim_starting.specs.Fitting.{FitsKid, FitsLinks, FitsNet}
+use Rattle.dsde_sim_starting.specs.Fitting.{FitsKid, FitsLinks, FitsNet, IsExecutive}
 
 -- A network is of this model with these arguments.
 pub record IsNet (number : ModelId) (values : List Value) (net : Net) : Type 0 where
@@ -22,6 +22,6 @@ pub record IsNet (number : ModelId) (values : List Value) (net : Net) : Type 0 w
 abbrev pub FitsWhereItsPartsDo : ModelId → List Value → Leaf → List Kid → List Link → Net → Type 0
 FitsWhereItsPartsDo number args boss kids links net =
     (model : Model)
-    → FitsArgs model number.0 args → FitsLeaf model boss → boss.model ≡ number
+    → FitsArgs model number.0 args → FitsLeaf model boss → IsExecutive number args boss
     → AllByRecursion (FitsKid model) kids → FitsLinks model number (map entry_of kids) links
     → FitsNet model net

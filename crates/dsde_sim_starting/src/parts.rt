@@ -12,7 +12,7 @@ ghost use Rattle.dsde_system.specs.Fitting.{FitsArgs, FitsLeaf};
 ghost use Rattle.dsde_system.specs.Plans.{FitsEntry};
 ghost use Rattle.dsde_sim_tree.specs.Tree.{parts, parts_of_net, parts_of_kid, parts_of_kids, model_of, args_of, entry_of};
 ghost use Rattle.dsde_sim_tree.specs.Start.{entered, start_leaf_at, start_atomic, start, start_net, started_kid, starts, with_boss};
-ghost use Rattle.dsde_sim_starting.specs.Fitting.{FitsTree, FitsKid, FitsNet};
+ghost use Rattle.dsde_sim_starting.specs.Fitting.{FitsTree, FitsKid, FitsNet, IsExecutive};
 ghost use Rattle.dsde_sim_starting.specs.Starting.{IsNet};
 
 use crate::networks::{net_of, structure_of};
@@ -72,6 +72,7 @@ fn start_leaf_at(
     ensures fits { IfOk result (λ started. FitsLeaf program.now started.0) }
     ensures model { IfOk result (λ started. started.0.model ≡ model) }
     ensures args { IfOk result (λ started. started.0.args ≡ args) }
+    ensures boss { IfOk result (λ started. started.0.boss ≡ boss) }
 {
     let rest = entered(alloc, left, path, component_at(program, model), room)?;
     let leaf = started(alloc, program, model, boss, args, path, time)?;
@@ -95,6 +96,7 @@ fn started(
     ensures fits { IfOk result (λ leaf. FitsLeaf program.now leaf) }
     ensures model { IfOk result (λ leaf. leaf.model ≡ model) }
     ensures args { IfOk result (λ leaf. leaf.args ≡ args) }
+    ensures boss { IfOk result (λ leaf. leaf.boss ≡ boss) }
 {
     at(
         alloc,
@@ -214,7 +216,7 @@ fn start_boss(
     ensures told { Tells (start_leaf_at (system program.now) left model true args.now (to_boss path.now) time room) events.old events.new result }
     ensures room { IfOk result (λ started. started.1 + 1 ≡ room) }
     ensures fits { IfOk result (λ started. FitsLeaf program.now started.0) }
-    ensures model { IfOk result (λ started. started.0.model ≡ model) }
+    ensures is { IfOk result (λ started. IsExecutive model args.now started.0) }
 {
     let path = boss_of(alloc, path)?;
     let args = copy_values(alloc, args.as_slice())?;
@@ -241,7 +243,7 @@ fn with_boss(
     requires network { (system program.now).is_network model ≡ true }
     requires args { FitsArgs program.now model.0 args }
     requires boss { FitsLeaf program.now boss }
-    requires boss_is { boss.model ≡ model }
+    requires boss_is { IsExecutive model args boss }
     ensures told { Tells (with_boss (system program.now) (start (system program.now) left) model args path.now time (boss, room)) events.old events.new result }
     ensures room { IfOk result (λ started. parts_of_net started.0 + started.1 ≡ room + 2) }
     ensures fits { IfOk result (λ started. FitsNet program.now started.0) }

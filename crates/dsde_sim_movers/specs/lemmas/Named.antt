@@ -10,9 +10,10 @@ use Rattle.std.specs.Str.{bytes_eq}
 use Rattle.std.specs.List.{AllByRecursion, IsDistinct, flat_map}
 use Rattle.dsde_values.specs.declared.name.Name.{Name}
 use Rattle.dsde_values.specs.Path.{EXEC, name_cmp, is_executive}
+use Rattle.dsde_structure.specs.declared.plan.Entry.{Entry}
 use Rattle.dsde_structure.specs.Gather.{is_same_name}
 use Rattle.dsde_structure.specs.Survival as entry
-use Rattle.dsde_structure.specs.Survival.{AreInOrder}
+use Rattle.dsde_structure.specs.Survival.{AreInOrder, IsInOrder}
 use Rattle.dsde_sim_tree.specs.declared.sim.Kid.{Kid}
 use Rattle.dsde_sim_tree.specs.declared.sim.Net.{Net}
 use Rattle.dsde_sim_tree.specs.declared.sim.Sim.{Sim}
@@ -22,7 +23,7 @@ use Rattle.dsde_sim_tree.specs.Opened.{shape_in, spots-Net, spots-kid, spots-net
 use Rattle.dsde_sim_tree.specs.Spots.{Spot, spots, spots_of_kid}
 use Rattle.dsde_sim_tree.specs.Tree.{entry_of}
 use Rattle.dsde_sim_delivery.specs.lemmas.Events.{each-weaker, each-flat}
-use Rattle.dsde_sim_movers.specs.Names.{HasNames, IsNamed}
+use Rattle.dsde_sim_movers.specs.Names.{AreNames, HasNames, IsNamed}
 use Rattle.dsde_sim_movers.specs.lemmas.Seats.{name_of}
 
 -- The names of a network's components are distinct, and none is an executive's.
@@ -104,3 +105,11 @@ not-executive total name other = by (is_executive name) refl
         let stem : name.stem ≡ EXEC.stem = (bytes_eq-Decides name.stem EXEC.stem).0 parts.0 in
         let index = index-none name.index parts.1 in
         let e : true ≡ false = sym (same_name total EXEC) ∙ (λ i. is_same_name EXEC (record { stem = sym stem i; index = sym index i })) ∙ other in cc
+
+-- the names of entries in their order, none of them an executive's
+pub entries-named : (entries : List Entry) → IsInOrder entries → AllByRecursion (λ own. is_same_name EXEC own.name ≡ false) entries → AreNames (entry.names entries)
+entries-named entries order ordinary = record { order = order; ordinary = each-name entries ordinary }
+  where
+    each-name : (list : List Entry) → AllByRecursion (λ own. is_same_name EXEC own.name ≡ false) list → AllByRecursion (λ name. is_same_name EXEC name ≡ false) (entry.names list)
+    each-name [] all = tt
+    each-name (own ∷ list) all = (all.0, each-name list all.1)

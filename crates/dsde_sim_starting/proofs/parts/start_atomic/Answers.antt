@@ -9,4 +9,5 @@ returns-clause-fits c =
     tree-leaf c.args.program.now c.in_ok-leaf.leaf (record {
       fits = c.in_ok-leaf.ensures.fits;
       atomic = ap (λ (m : ModelId). (system c.args.program.now).is_network m) c.in_ok-leaf.ensures.model ∙ c.requires.atomic;
+      component = c.in_ok-leaf.ensures.boss;
     })
