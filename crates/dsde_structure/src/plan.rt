@@ -52,6 +52,16 @@ pub struct Via {
     pub key: Option<Value>,
 }
 
+/// What stands where a short list of translations has room.
+impl Default for Via {
+    fn default() -> Via {
+        Via {
+            id: ViaId(0),
+            key: None,
+        }
+    }
+}
+
 /// A link: it carries the values of a source to a target.
 #[derive(Debug, Drop)]
 pub struct Link {

@@ -1,0 +1,14 @@
+pub mod Opens
+pub mod Adding
+pub mod Passes
+pub mod Changes
+pub mod Each
+pub mod Shapes
+pub mod Handles
+pub mod Gathers
+pub mod Distinct
+pub mod Repairs
+pub mod Touching
+pub mod Uses
+pub mod Touches
+pub mod Bridging

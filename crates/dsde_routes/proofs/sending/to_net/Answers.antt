@@ -1,0 +1,11 @@
+use Rattle.dsde_structure.specs.declared.plan.Part.TheVariants as part
+use Rattle.dsde_routes.specs.Passing.{from_parts}
+use Rattle.dsde_routes_wiring.specs.Ways.{nowhere}
+use Rattle.dsde_routes.proofs.Flows.{passing-more, joined}
+use Rattle.dsde_routes.proofs.sending.to_net.Goals as goal
+
+pub loop-number-preserved : goal.loop-number-preserved
+loop-number-preserved c =
+    joined c.loop-number.ways c.carry_out.new.ways _ _ _ _ c.loop-number.invariant
+    (passing-more (from_parts nowhere c.args.boss c.args.kids.now) c.args.links.now c.loop-number.number c.index-links-number.result part.Net c.loop-number-test.true c.index-links-number.is)
+    c.in_ok-carry_out.ensures

@@ -1,0 +1,9 @@
+use Rattle.std.proofs.Common.{◌≡◌, ◌++◌, drop}
+use Rattle.dsde_structure.specs.declared.plan.Part.TheVariants as part
+use Rattle.dsde_routes_wiring.specs.Ways.{nowhere}
+use Rattle.dsde_routes.specs.Passing.{from_parts, passing}
+use Rattle.dsde_routes.proofs.sending.to_net.Given as goal
+
+abbrev pub invariant-loop-number : goal.invariant-loop-number
+invariant-loop-number l =
+    l.ways ++ passing (from_parts nowhere l.boss l.kids) l.number (drop l.number l.links) part.Net ≡ passing (from_parts nowhere l.boss l.kids) 0 l.links part.Net

@@ -1,0 +1,4 @@
+pub mod Passing
+pub mod Sents
+pub mod Sending
+pub mod Putting

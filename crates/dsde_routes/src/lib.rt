@@ -1,0 +1,11 @@
+//! Tables of routes built from wirings.
+#![tactic(auto)]
+
+mod carry;
+mod comes;
+mod flowing;
+mod sending;
+mod sent;
+mod ways;
+
+pub use flowing::build;

@@ -1,0 +1,114 @@
+//! Ways that go on over links.
+
+ghost use Rattle.std.specs.Prelude.{◌≡◌, ◌++◌, map, IfOk, OnOk};
+ghost use Rattle.dsde_routes_wiring.specs.Ways.{begin, onward};
+ghost use Rattle.dsde_routes.specs.Passing.{at_port, ways_in};
+
+use dsde_bank::Handle;
+use dsde_lists::Memory;
+use dsde_routes_wiring::{Chain, Passing, Rank, Way};
+use dsde_structure::{Link, Via};
+use dsde_values::{Seq, Value, copy_value};
+use std::alloc::Global;
+
+/// A key of a translation equal to this one.
+fn copy_key(alloc: Global, key: &Option<Value>) -> Result<Option<Value>, Memory>
+    ensures { IfOk result (λ copy. copy ≡ key.now) }
+{
+    match key {
+        Some(value) => Ok(Some(copy_value(alloc, value)?)),
+        None => Ok(None),
+    }
+}
+
+/// A translation equal to this one.
+fn copy_via(alloc: Global, via: &Via) -> Result<Via, Memory>
+    ensures { IfOk result (λ copy. copy ≡ via.now) }
+{
+    Ok(Via {
+        id: via.id,
+        key: copy_key(alloc, &via.key)?,
+    })
+}
+
+/// A chain equal to this one.
+fn copy_chain(alloc: Global, chain: &Chain) -> Result<Chain, Memory>
+    ensures { IfOk result (λ copy. copy ≡ chain.now) }
+{
+    let mut copy = Chain::new(alloc);
+    for via in chain.as_slice() {
+        copy.push(copy_via(alloc, via)?)?;
+    }
+    Ok(copy)
+}
+
+/// A way that goes on over the link of this number.
+pub fn go_on(alloc: Global, number: usize, link: &Link, way: &Way) -> Result<Way, Memory>
+    ensures { IfOk result (λ on. on ≡ onward number link.now way.now) }
+{
+    let mut chain = copy_chain(alloc, &way.chain)?;
+    if let Some(via) = &link.via {
+        chain.push(copy_via(alloc, via)?)?;
+    }
+    Ok(Way {
+        source: way.source,
+        port: way.port,
+        rank: way.rank.behind(alloc, number)?,
+        chain,
+    })
+}
+
+/// The way that begins at a port of a source and goes over a link.
+pub fn begin_over(
+    alloc: Global,
+    number: usize,
+    link: &Link,
+    source: Handle,
+    ways: &mut Seq<Passing>,
+) -> Result<(), Memory>
+    ensures { OnOk result (ways.new ≡ ways.old ++ map (λ way. at_port link.now.to.port (onward number link.now way)) (begin source link.now.from.port)) }
+{
+    let first = Way {
+        source,
+        port: link.from.port,
+        rank: Rank::new(alloc),
+        chain: Chain::new(alloc),
+    };
+    ways.push(Passing {
+        port: link.to.port,
+        way: go_on(alloc, number, link, &first)?,
+    })
+}
+
+/// The ways that end at the port that a link leads from go on over it.
+pub fn go_over(
+    alloc: Global,
+    number: usize,
+    link: &Link,
+    come: &[Passing],
+    ways: &mut Seq<Passing>,
+) -> Result<(), Memory>
+    ensures { OnOk result (ways.new ≡ ways.old ++ map (λ way. at_port link.now.to.port (onward number link.now way)) (ways_in come.now link.now.from.port)) }
+{
+    for passing in come {
+        if passing.port == link.from.port {
+            ways.push(Passing {
+                port: link.to.port,
+                way: go_on(alloc, number, link, &passing.way)?,
+            })?;
+        }
+    }
+    Ok(())
+}
+
+/// A way equal to this one.
+pub fn copy_way(alloc: Global, way: &Way) -> Result<Way, Memory>
+    ensures { IfOk result (λ copy. copy ≡ way.now) }
+{
+    Ok(Way {
+        source: way.source,
+        port: way.port,
+        rank: way.rank.copy(alloc)?,
+        chain: copy_chain(alloc, &way.chain)?,
+    })
+}

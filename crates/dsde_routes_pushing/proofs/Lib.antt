@@ -1,0 +1,10 @@
+pub mod Lists
+pub mod Opens
+pub mod Along
+pub mod Carrying
+pub mod Rising
+pub mod Picking
+pub mod Apart
+pub mod Whole
+pub mod Each
+pub mod Once

@@ -1,0 +1,13 @@
+pub mod Side
+pub mod Numbers
+pub mod Ways
+pub mod Sets
+pub mod Rows
+pub mod Wired
+pub mod Flatten
+pub mod Opened
+pub mod Routes
+pub mod Places
+pub mod Touched
+pub mod Gathered
+pub mod Keys
