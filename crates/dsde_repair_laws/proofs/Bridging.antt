@@ -90,9 +90,9 @@ pub coming-flat : (sources : Sources) (around : Around) → Alike sources around
 coming-flat sources around alike me number [] end = refl
 coming-flat sources around alike me number (link ∷ links) end =
     ap₂ (λ (xs ys : List Flat). xs ++ ys)
-        (ap (λ own_ways. if is_end link.to end then own_ways else []) (over-flat sources around alike me number link)
-            ∙ if-map plain (is_end link.to end) (map (extended Out (step_from me (number, link))) (at_end Out around link.from)))
-        (coming-flat sources around alike me (number + 1) links end)
+    (ap (λ own_ways. if is_end link.to end then own_ways else []) (over-flat sources around alike me number link)
+    ∙ if-map plain (is_end link.to end) (map (extended Out (step_from me (number, link))) (at_end Out around link.from)))
+    (coming-flat sources around alike me (number + 1) links end)
     ∙ sym (map-append plain (coming_by around end (step_from me (number, link))) (flat_map (coming_by around end) (map (step_from me) (enumerate_from (number + 1) links))))
 
 -- a kid's name and its ways
@@ -112,7 +112,7 @@ kid-ways : (kid : WiredKid) → Beneath WaysClaim (out-WiredKid kid).below → K
 kid-ways kid claim named port =
     ap (λ (own_flow : KidFlow). own_flow.sent.ways port) (kid-flow-is kid) ∙ by (out-WiredKid kid).below claim named
     ∙ ap (λ (own_inner : Name × Inner). map plain (own_inner.1.ways Out port)) (sym (kid-is kid))
-   where
+  where
     by : (below : Option Wiring) → Beneath WaysClaim below → Beneath AreNamed below →
         (below_flow (out-WiredKid kid).name (out-WiredKid kid).handle (flow_below below)).sent.ways port ≡ map plain ((below_step (out-WiredKid kid).handle (below_inner below)).ways Out port)
     by None own_claim own_named = refl
@@ -128,10 +128,11 @@ none-of : (name : Name) (port : ℕ) (kids : List WiredKid) → weight (named na
 none-of name port [] none = refl
 none-of name port (kid ∷ kids) none =
     ap₂ (λ (xs ys : List Way). xs ++ ys) (of-is name port kid ∙ by (is_same_name (out-WiredKid kid).name name) none) (none-of name port kids (rest (is_same_name (out-WiredKid kid).name name) none))
-   where
+  where
     by : (same : Bool) → (if same then 1 else 0) + weight (named name) kids ≡ 0 → (if same then (inner_of_kid kid).1.ways Out port else []) ≡ []
     by true sum = absurd (omega arith)
     by false sum = refl
+
     rest : (same : Bool) → (if same then 1 else 0) + weight (named name) kids ≡ 0 → weight (named name) kids ≡ 0
     rest true sum = absurd (omega arith)
     rest false sum = omega arith
@@ -143,7 +144,7 @@ kids-alike name port (kid ∷ kids) one ways =
     ap (λ (own_name : Name). (if is_same_name own_name name then (flow_of_kid kid).sent.ways else sent_by (map (λ (own_flow : KidFlow). own_flow.sent) (map flow_of_kid kids)) name) port) (sent-name kid)
     ∙ by (is_same_name (out-WiredKid kid).name name) one (λ less. kids-alike name port kids less ways.1)
     ∙ ap (λ first. map plain (first ++ flat_map (of_kid Out name port) (map inner_of_kid kids))) (sym (of-is name port kid))
-   where
+  where
     by : (same : Bool) → (if same then 1 else 0) + weight (named name) kids ≤ 1 →
         (weight (named name) kids ≤ 1 → sent_by (map (λ (own_flow : KidFlow). own_flow.sent) (map flow_of_kid kids)) name port ≡ map plain (flat_map (of_kid Out name port) (map inner_of_kid kids))) →
         (if same then (flow_of_kid kid).sent.ways else sent_by (map (λ (own_flow : KidFlow). own_flow.sent) (map flow_of_kid kids)) name) port
@@ -167,7 +168,7 @@ ways-claim wiring claims own_named port =
     let y : Wiring-F WiredKid Wiring = out-Wiring wiring in
     ap (λ (own_flow : NetFlow). ways_at own_flow.out port) (flow-is wiring)
     ∙ coming-flat (from_ways nowhere y.boss (map flow_of_kid y.kids)) (within no_ways y.boss (map inner_of_kid y.kids))
-        (alike-kids nowhere (λ _. []) no_ways y.boss y.kids (λ _. refl) (net-named wiring own_named).here (each-kid (λ _. Unit {0}) y.kids claims (net-named wiring own_named).below)) y.me 0 y.links (record { part = part.Net; port = port })
+    (alike-kids nowhere (λ _. []) no_ways y.boss y.kids (λ _. refl) (net-named wiring own_named).here (each-kid (λ _. Unit {0}) y.kids claims (net-named wiring own_named).below)) y.me 0 y.links (record { part = part.Net; port = port })
     ∙ ap (λ (inner : Inner). map plain (inner.ways Out port)) (sym (inner-is wiring))
 
 pub each-ways : (wiring : Wiring) → WaysClaim wiring
@@ -207,8 +208,8 @@ module _ (total : IsTotalOrder name_cmp) where
   flat-ended target link (before ∷ befores) =
       let way : Way = extended Out link before in
       ap₂ (λ (own_row : Row) (others : List Row). own_row ∷ others)
-          (ap (λ chain. flat.row_of target link.1.to.port (record { source = way.handle; port = way.port; rank = rank_of way.steps; chain = chain })) (sym (append-nil way.chain)))
-          (flat-ended target link befores)
+      (ap (λ chain. flat.row_of target link.1.to.port (record { source = way.handle; port = way.port; rank = rank_of way.steps; chain = chain })) (sym (append-nil way.chain)))
+      (flat-ended target link befores)
 
   rows-into : (sources : Sources) (around : Around) → Alike sources around → (me target : Handle) (own_part : Part) (number : ℕ) (links : List Link) →
       rows_into target own_part sources number links ≡ map row_of (map (ended target) (flat_map (arriving_by around own_part) (map (step_from me) (enumerate_from number links))))
@@ -218,12 +219,12 @@ module _ (total : IsTotalOrder name_cmp) where
       let first : Arrivals = arriving_by around own_part step in
       let later : Arrivals = flat_map (arriving_by around own_part) (map (step_from me) (enumerate_from (number + 1) links)) in
       ap₂ (λ (xs ys : List Row). xs ++ ys)
-          (ap (λ own_ways. if is_part link.to.part own_part then map (flat.row_of target link.to.port) own_ways else []) (over-flat sources around alike me number link)
-              ∙ ap (λ (test : Bool). if test then map (flat.row_of target link.to.port) (map plain (map (extended Out step) (at_end Out around link.from))) else []) (same-part link.to.part own_part)
-              ∙ by step (is_part own_part link.to.part))
-          (rows-into sources around alike me target own_part (number + 1) links)
+      (ap (λ own_ways. if is_part link.to.part own_part then map (flat.row_of target link.to.port) own_ways else []) (over-flat sources around alike me number link)
+      ∙ ap (λ (test : Bool). if test then map (flat.row_of target link.to.port) (map plain (map (extended Out step) (at_end Out around link.from))) else []) (same-part link.to.part own_part)
+      ∙ by step (is_part own_part link.to.part))
+      (rows-into sources around alike me target own_part (number + 1) links)
       ∙ sym (ap (map row_of) (map-append (ended target) first later) ∙ map-append row_of (map (ended target) first) (map (ended target) later))
-     where
+    where
       by : (step : Numbered) (test : Bool) → (if test then map (flat.row_of target step.1.to.port) (map plain (map (extended Out step) (at_end Out around step.1.from))) else [])
           ≡ map row_of (map (ended target) (if test then map (arrived step) (at_end Out around step.1.from) else []))
       by step true = flat-ended target step (at_end Out around step.1.from)
@@ -237,7 +238,7 @@ module _ (total : IsTotalOrder name_cmp) where
     by none false = refl
   port-arrived port link (before ∷ befores) =
       ap (λ later. (if port == link.1.to.port then extended Out link before ∷ [] else []) ++ later) (port-arrived port link befores) ∙ by (port == link.1.to.port)
-     where
+    where
       by : (test : Bool) → (if test then extended Out link before ∷ [] else []) ++ (if test then map (extended Out link) befores else []) ≡ (if test then extended Out link before ∷ map (extended Out link) befores else [])
       by true = refl
       by false = refl
@@ -251,9 +252,10 @@ module _ (total : IsTotalOrder name_cmp) where
   at-port port around own_part (link ∷ links) =
       port-flat port (arriving_by around own_part link) (flat_map (arriving_by around own_part) links)
       ∙ ap₂ (λ (xs ys : List Way). xs ++ ys) (here (is_part own_part link.1.to.part) (is_part link.1.to.part own_part) (same-part own_part link.1.to.part)) (at-port port around own_part links)
-     where
+    where
       ports : (test : Bool) → (port == link.1.to.port) ≡ test → (if port == link.1.to.port then map (extended Out link) (at_end Out around link.1.from) else []) ≡ (if link.1.to.port == port then map (extended Out link) (at_end Out around link.1.from) else [])
       ports test is = ap (λ (b : Bool). if b then map (extended Out link) (at_end Out around link.1.from) else []) (same-number port link.1.to.port)
+
       here : (test other : Bool) → test ≡ other → at_port port (if test then map (arrived link) (at_end Out around link.1.from) else []) ≡ (if other && link.1.to.port == port then map (extended Out link) (at_end Out around link.1.from) else [])
       here true true is = port-arrived port link (at_end Out around link.1.from) ∙ ports (port == link.1.to.port) refl
       here false false is = refl
@@ -272,9 +274,10 @@ module _ (total : IsTotalOrder name_cmp) where
   kid-reaches sources around alike me links g kid claim own_named =
       ap (λ (own_flow : KidFlow). weight g (flat_map rows_at (own_flow.sites links sources))) (kid-flow-is kid) ∙ by (out-WiredKid kid).below claim own_named
       ∙ ap (λ (own_reach : Arrivals → List Route). weight (weigh g) (own_reach (arriving around (numbered me links) (part.Kid (out-WiredKid kid).name)))) (sym (kid-reach-is kid))
-     where
+    where
       name : Name
       name = (out-WiredKid kid).name
+
       by : (below : Option Wiring) → Beneath ReachClaim below → Beneath AreNamed below →
           weight g (flat_map rows_at ((below_flow (out-WiredKid kid).name (out-WiredKid kid).handle (flow_below below)).sites links sources))
           ≡ weight (weigh g) (reach_below (out-WiredKid kid).handle (below_reach below) (arriving around (numbered me links) (part.Kid (out-WiredKid kid).name)))
@@ -283,8 +286,8 @@ module _ (total : IsTotalOrder name_cmp) where
           ∙ weight-map g row_of (map (ended (out-WiredKid kid).handle) (arriving around (numbered me links) (part.Kid (out-WiredKid kid).name)))
       by (Some wiring) own_claim is =
           own_claim is g (λ port. coming sources 0 links (record { part = part.Kid (out-WiredKid kid).name; port = port })) (λ port. at_port port (arriving around (numbered me links) (part.Kid (out-WiredKid kid).name)))
-              (λ port. coming-flat sources around alike me 0 links (record { part = part.Kid (out-WiredKid kid).name; port = port })
-                  ∙ ap (map plain) (sym (at-port port around (part.Kid (out-WiredKid kid).name) (numbered me links))))
+          (λ port. coming-flat sources around alike me 0 links (record { part = part.Kid (out-WiredKid kid).name; port = port })
+          ∙ ap (map plain) (sym (at-port port around (part.Kid (out-WiredKid kid).name) (numbered me links))))
 
   kids-reach : (sources : Sources) (around : Around) → Alike sources around → (me : Handle) (links : List Link) (g : Row → ℕ) (kids : List WiredKid) → AllByRecursion (λ kid. Beneath ReachClaim (out-WiredKid kid).below) kids → AllByRecursion KidNamed kids →
       weight g (flat_map rows_at (flat_map (λ (own_flow : KidFlow). own_flow.sites links sources) (map flow_of_kid kids)))
@@ -315,9 +318,9 @@ module _ (total : IsTotalOrder name_cmp) where
       ap (λ (own_flow : NetFlow). weight g (flat_map rows_at (own_flow.sites come))) (flow-is wiring)
       ∙ weight-flat g rows_at (kids ++ boss ∷ []) ∙ weight-append rows_of kids (boss ∷ [])
       ∙ flipped _ _ _ _ _
-          (sym (weight-flat g rows_at kids) ∙ kids-reach S A alike y.me y.links g y.kids claims (net-named wiring own_named).below)
-          (add-zero (rows_of boss) ∙ ap (weight g) (rows-into S A alike y.me y.boss part.Boss 0 y.links) ∙ weight-map g row_of came)
-          (ap (weight (weigh g)) (reach-opened wiring ins) ∙ weight-append (weigh g) came below)
+      (sym (weight-flat g rows_at kids) ∙ kids-reach S A alike y.me y.links g y.kids claims (net-named wiring own_named).below)
+      (add-zero (rows_of boss) ∙ ap (weight g) (rows-into S A alike y.me y.boss part.Boss 0 y.links) ∙ weight-map g row_of came)
+      (ap (weight (weigh g)) (reach-opened wiring ins) ∙ weight-append (weigh g) came below)
 
   pub each-reach : (wiring : Wiring) → ReachClaim wiring
   each-reach = each_wiring ReachClaim reach-claim
@@ -356,8 +359,8 @@ module _ (total : IsTotalOrder name_cmp) where
       let S : Sources = from_ways nowhere y.boss (map flow_of_kid y.kids) in
       let alike : Alike S (within no_ways y.boss kids) = alike-kids nowhere (λ _. []) no_ways y.boss y.kids (λ _. refl) (net-named wiring own_named).here (all-ways y.kids (net-named wiring own_named).below) in
       let outer : rows_of (flow wiring).out ≡ weight (weigh g) came =
-          ap (λ (own_flow : NetFlow). rows_of own_flow.out) (flow-is wiring) ∙ ap (weight g) (rows-into S (within no_ways y.boss kids) alike y.me y.me part.Net 0 y.links
-              ∙ ap (λ arrivals. map row_of (map (ended y.me) arrivals)) (all-arrive (entry (own y.me Out)) y.boss kids y.me 0 y.links free)) ∙ weight-map g row_of came in
+      ap (λ (own_flow : NetFlow). rows_of own_flow.out) (flow-is wiring) ∙ ap (weight g) (rows-into S (within no_ways y.boss kids) alike y.me y.me part.Net 0 y.links
+      ∙ ap (λ arrivals. map row_of (map (ended y.me) arrivals)) (all-arrive (entry (own y.me Out)) y.boss kids y.me 0 y.links free)) ∙ weight-map g row_of came in
       ap (λ (own_flow : NetFlow). weight g (flat_map rows_at ((flow wiring).sites (begin own_flow.out.part) ++ (flow wiring).out ∷ []))) (flow-is wiring)
       ∙ weight-flat g rows_at ((flow wiring).sites (begin y.me) ++ (flow wiring).out ∷ [])
       ∙ weight-append rows_of ((flow wiring).sites (begin y.me)) ((flow wiring).out ∷ [])

@@ -24,9 +24,11 @@ kid-chain : (name : Name) (f g h : Wiring → Wiring) → ((x : Wiring) → f (g
 kid-chain name f g h one kid = by (is_same_name (out-WiredKid kid).name name) refl where
   y : WiredKid-F WiredKid Wiring
   y = out-WiredKid kid
+
   belows : (below : Option Wiring) → below_changed f (below_changed g below) ≡ below_changed h below
   belows None = refl
   belows (Some wiring) = ap Some (one wiring)
+
   by : (same : Bool) → is_same_name y.name name ≡ same →
       kid_changed name f (if same then roll-WiredKid (record y { below = below_changed g y.below }) else kid) ≡ (if same then roll-WiredKid (record y { below = below_changed h y.below }) else kid)
   by true is =
@@ -57,9 +59,11 @@ module _ {X : Type 0} (own before : Wiring → List X) (g : Wiring → Wiring) (
   kid-after name own before g one kid = by (is_same_name (out-WiredKid kid).name name) refl where
     y : WiredKid-F WiredKid Wiring
     y = out-WiredKid kid
+
     belows : (below : Option Wiring) → below_at own (below_changed g below) ≡ below_at before below
     belows None = refl
     belows (Some wiring) = one wiring
+
     by : (same : Bool) → is_same_name y.name name ≡ same →
         kid_at name own (if same then roll-WiredKid (record y { below = below_changed g y.below }) else kid) ≡ (if same then below_at before y.below else [])
     by true is =
@@ -118,5 +122,5 @@ pub kids-given : (links : List Link) (kids : List WiredKid) (place : List Name) 
     at_place (λ (own : Wiring). (out-Wiring own).kids) place (changed place (renewed links kids) wiring) ≡ kids
 kids-given links kids place wiring net is =
     place-after (λ (own : Wiring). (out-Wiring own).kids) (λ _. kids) (renewed links kids)
-        (λ x. ap (λ (z : Wiring-F WiredKid Wiring). z.kids) (out-roll-Wiring (record (out-Wiring x) { links = links; kids = kids }))) place wiring
+    (λ x. ap (λ (z : Wiring-F WiredKid Wiring). z.kids) (out-roll-Wiring (record (out-Wiring x) { links = links; kids = kids }))) place wiring
     ∙ place-nets (λ (_ : Wiring). kids) place wiring ∙ ap (flat_map (λ (_ : Wiring). kids)) is ∙ append-nil kids

@@ -84,7 +84,7 @@ ways-few around few net links port rank =
     let each = weight-le (λ link. weight (counted (ranked rank)) (ways_by Out around port link)) (begins rank) (λ link. by link (is_border port link.1.to)) (numbered net links) in
     let once = begins-once rank net links in
     omega arith
-   where
+  where
     by : (link : Numbered) (test : Bool) → weight (counted (ranked rank)) (if test then map (extended Out link) (at_end Out around link.1.from) else []) ≤ begins rank link
     by link true = let own = over-link link (at_end Out around link.1.from) (few link.1.from) rank in let is = weight-map (counted (ranked rank)) (extended Out link) (at_end Out around link.1.from) in omega arith
     by link false = omega arith
@@ -102,11 +102,12 @@ arrivals-few around few net links own_part port rank =
     let each = weight-le (λ link. weight (counted (arrives port rank)) (arriving_by around own_part link)) (begins rank) (λ link. by link (is_part own_part link.1.to.part)) (numbered net links) in
     let once = begins-once rank net links in
     omega arith
-   where
+  where
     under : (a b : Bool) → (if a && b then 1 else 0) ≤ (if b then 1 else 0)
     under true b = le_refl _
     under false true = omega arith
     under false false = omega arith
+
     by : (link : Numbered) (test : Bool) → weight (counted (arrives port rank)) (if test then map (arrived link) (at_end Out around link.1.from) else []) ≤ begins rank link
     by link true =
         let own = over-link link (at_end Out around link.1.from) (few link.1.from) rank in
@@ -121,7 +122,7 @@ port-few port arrivals few rank =
     let is = weight-flat (counted (ranked rank)) (λ (arrival : ℕ × Way). if port == arrival.0 then arrival.1 ∷ [] else []) arrivals in
     let same = weight-same (λ (arrival : ℕ × Way). weight (counted (ranked rank)) (if port == arrival.0 then arrival.1 ∷ [] else [])) (counted (arrives port rank)) (λ (arrival : ℕ × Way). by arrival.1 (port == arrival.0)) arrivals in
     omega arith
-   where
+  where
     by : (way : Way) (here : Bool) → weight (counted (ranked rank)) (if here then way ∷ [] else []) ≡ (if here && ranked rank way then 1 else 0)
     by way true = add-zero _
     by way false = refl
@@ -171,10 +172,10 @@ kids-few name port rank (kid ∷ kids) few named =
     let sum = weight-append (counted (ranked rank)) (of_kid Out name port (inner_of_kid kid)) (flat_map (of_kid Out name port) (map inner_of_kid kids)) in
     let own_ways : List Way = (inner_of_kid kid).1.ways Out port in
     let here : weight (counted (ranked rank)) (of_kid Out name port (inner_of_kid kid)) ≤ (if is_same_name (out-WiredKid kid).name name then 1 else 0) =
-        subst (λ (own : Name). weight (counted (ranked rank)) (if is_same_name own name then (inner_of_kid kid).1.ways Out port else []) ≤ (if is_same_name (out-WiredKid kid).name name then 1 else 0)) (sym (ap (λ (own : Name × Inner). own.0) (kid-is kid)))
-            (by (is_same_name (out-WiredKid kid).name name) (kid-few kid few.0 named.0 port rank)) in
+    subst (λ (own : Name). weight (counted (ranked rank)) (if is_same_name own name then (inner_of_kid kid).1.ways Out port else []) ≤ (if is_same_name (out-WiredKid kid).name name then 1 else 0)) (sym (ap (λ (own : Name × Inner). own.0) (kid-is kid)))
+    (by (is_same_name (out-WiredKid kid).name name) (kid-few kid few.0 named.0 port rank)) in
     omega arith
-   where
+  where
     by : (same : Bool) → count (ranked rank) ((inner_of_kid kid).1.ways Out port) ≤ 1 → weight (counted (ranked rank)) (if same then (inner_of_kid kid).1.ways Out port else []) ≤ (if same then 1 else 0)
     by true most = most
     by false most = omega arith
@@ -192,7 +193,7 @@ net-few wiring few named port =
     let y : Wiring-F WiredKid Wiring = out-Wiring wiring in
     let own_named : IsNetNamed wiring = net-named wiring named in
     subst (λ (inner : Inner). AreFew (inner.ways Out port)) (sym (inner-is wiring))
-        (ways-few (within no_ways y.boss (map inner_of_kid y.kids)) (around-few no_ways y.boss y.kids (λ port rank. omega arith) few own_named.below own_named.here) y.me y.links port)
+    (ways-few (within no_ways y.boss (map inner_of_kid y.kids)) (around-few no_ways y.boss y.kids (λ port rank. omega arith) few own_named.below own_named.here) y.me y.links port)
 
 pub each-few : (wiring : Wiring) → Few wiring
 each-few = each_wiring Few net-few
@@ -217,7 +218,7 @@ module _ (target : Handle) (port : ℕ) (rank : List ℕ) where
       let is = weight-map keyed (ended handle) arrivals in
       let le = by (is_same_handle target handle) in
       omega arith
-     where
+    where
       by : (same : Bool) → weight (λ (arrival : ℕ × Way). if same && arrives port rank arrival then 1 else 0) arrivals ≤ (if same then 1 else 0)
       by true = few port rank
       by false = let none = weight-zero (λ (arrival : ℕ × Way). 0) (λ arrival. refl) arrivals in omega arith
@@ -228,9 +229,9 @@ module _ (target : Handle) (port : ℕ) (rank : List ℕ) where
   kid-once : (kid : WiredKid) → Beneath Once (out-WiredKid kid).below → KidNamed kid → (arrivals : Arrivals) → FewArrivals arrivals → weight keyed (kid_reach kid arrivals) ≤ standing (handles_of_kid kid)
   kid-once kid once named arrivals few =
       subst (λ handles. weight keyed (kid_reach kid arrivals) ≤ standing handles) (sym (kid-handles kid))
-          (subst (λ (own : Arrivals → List Route). weight keyed (own arrivals) ≤ standing (below_known (out-WiredKid kid).handle (out-WiredKid kid).below)) (sym (kid-reach-is kid))
-              (by (out-WiredKid kid).below once named))
-     where
+      (subst (λ (own : Arrivals → List Route). weight keyed (own arrivals) ≤ standing (below_known (out-WiredKid kid).handle (out-WiredKid kid).below)) (sym (kid-reach-is kid))
+      (by (out-WiredKid kid).below once named))
+    where
       by : (below : Option Wiring) → Beneath Once below → Beneath AreNamed below → weight keyed (reach_below (out-WiredKid kid).handle (below_reach below) arrivals) ≤ standing (below_known (out-WiredKid kid).handle below)
       by None own is = let le = ended-few (out-WiredKid kid).handle arrivals few in omega arith
       by (Some wiring) own is =

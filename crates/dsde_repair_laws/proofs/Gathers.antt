@@ -18,11 +18,10 @@ use Rattle.dsde_routes_wiring.specs.declared.wiring.WiredKid.TheOpen.{Wiring-F, 
 use Rattle.dsde_routes_wiring.specs.declared.wiring.WiredKid.TheViews.{out-Wiring, out-WiredKid, roll-Wiring, roll-WiredKid, roll-out-Wiring, roll-out-WiredKid}
 use Rattle.dsde_routes_wiring.specs.Side.{near, far}
 use Rattle.dsde_routes_wiring.specs.Routes.{Step, Way, Route, Ways, Around, Inner, Numbered, own, no_ways, links_of, numbered, around_of, within, is_border, extended, met, crossed, crossed_by, crossing, ways_by, net_ways, routes_in, routes_by, routes, at_part, at_end, of_kid, inner_of, inner_of_kid, inner_net, below_step}
-use Rattle.dsde_routes_wiring.specs.Places.{crossed_passing}
 use Rattle.dsde_routes_wiring.specs.Gathered.{Arrivals, arrived, arriving_by, arriving, ended, at_port, entry, NetReach, KidReach, reach_net, reach_below, reach_of_net, reach_of_kid, reach, kid_reach, gathered}
 use Rattle.dsde_repair_laws.specs.Weights.{weight, weight-append, weight-flat, weight-map, weight-same, weight-adds, weight-zero, weight-swap}
 use Rattle.dsde_repair_laws.proofs.Opens.{below_inner, inner-is, kid-is}
-use Rattle.dsde_repair_laws.proofs.Adding.{AddsAround, rows-add, crossed-weight}
+use Rattle.dsde_repair_laws.proofs.Adding.{crossed_passing, AddsAround, rows-add, crossed-weight}
 use Rattle.dsde_routes_wiring.specs.Opened.{Beneath, each_wiring}
 
 abbrev pair : WiredKid → WiredKid × KidReach
@@ -57,12 +56,12 @@ entered ins wiring = around_of (entry ins) wiring
 
 pub reach-opened : (wiring : Wiring) (ins : ℕ → List Way) → reach wiring ins
     ≡ map (ended (out-Wiring wiring).boss) (arriving (entered ins wiring) (links_of wiring) part.Boss)
-      ++ flat_map (λ kid. kid_reach kid (arriving (entered ins wiring) (links_of wiring) (part.Kid (out-WiredKid kid).name))) (out-Wiring wiring).kids
+    ++ flat_map (λ kid. kid_reach kid (arriving (entered ins wiring) (links_of wiring) (part.Kid (out-WiredKid kid).name))) (out-Wiring wiring).kids
 reach-opened wiring ins =
     let y : Wiring-F WiredKid Wiring = out-Wiring wiring in
     let whole : List (Name × Inner) → List Route = λ kids.
-        map (ended y.boss) (arriving (within (entry ins) y.boss kids) (links_of wiring) part.Boss)
-        ++ flat_map (λ (kid : WiredKid × KidReach). kid.1 (arriving (within (entry ins) y.boss kids) (links_of wiring) (part.Kid (out-WiredKid kid.0).name))) (map pair y.kids) in
+    map (ended y.boss) (arriving (within (entry ins) y.boss kids) (links_of wiring) part.Boss)
+    ++ flat_map (λ (kid : WiredKid × KidReach). kid.1 (arriving (within (entry ins) y.boss kids) (links_of wiring) (part.Kid (out-WiredKid kid.0).name))) (map pair y.kids) in
     ap (λ (own : NetReach). own ins) (reach-is wiring) ∙ ap whole (inner-pairs y.kids)
     ∙ ap (λ others. map (ended y.boss) (arriving (entered ins wiring) (links_of wiring) part.Boss) ++ others) (reach-pairs (λ name. arriving (entered ins wiring) (links_of wiring) (part.Kid name)) y.kids)
 
@@ -116,7 +115,7 @@ module _ (g : Route → ℕ) (boss : Handle) (kids : List (Name × Inner)) (arri
       let over : Way → ℕ = λ before. weight (λ after. g (met (extended Out link before) after)) afters in
       crossed-weight g link (at_port port arrivals) afters ∙ weight-flat over (λ (arrival : ℕ × Way). if port == arrival.0 then arrival.1 ∷ [] else []) arrivals
       ∙ weight-same _ _ (λ (arrival : ℕ × Way). by arrival.1 (port == arrival.0)) arrivals
-     where
+    where
       by : (way : Way) (here : Bool) → weight (λ before. weight (λ after. g (met (extended Out link before) after)) afters) (if here then way ∷ [] else [])
           ≡ weight (λ after. g (met way after)) (if here then map (extended Into link) afters else [])
       by way true = add-zero (weight (λ after. g (met (extended Out link way) after)) afters) ∙ weight-same _ _ (λ after. ap g (met-assoc link way after)) afters ∙ sym (weight-map (λ after. g (met way after)) (extended Into link) afters)
@@ -139,9 +138,9 @@ module _ (g : Route → ℕ) (boss : Handle) (kids : List (Name × Inner)) (arri
   entered-crossing links =
       rows-add whole first second entry-adds g links
       ∙ ap (λ n. n + weight g (crossing second links))
-          (weight-flat g (crossed_passing first whole second) links ∙ weight-same _ _ by-link links
-          ∙ weight-swap (λ link (arrival : ℕ × Way). weight (λ after. g (met arrival.1 after)) (ways_by Into second arrival.0 link)) links arrivals
-          ∙ weight-same _ _ (λ (arrival : ℕ × Way). sym (weight-flat (λ after. g (met arrival.1 after)) (ways_by Into second arrival.0) links)) arrivals)
+      (weight-flat g (crossed_passing first whole second) links ∙ weight-same _ _ by-link links
+      ∙ weight-swap (λ link (arrival : ℕ × Way). weight (λ after. g (met arrival.1 after)) (ways_by Into second arrival.0 link)) links arrivals
+      ∙ weight-same _ _ (λ (arrival : ℕ × Way). sym (weight-flat (λ after. g (met arrival.1 after)) (ways_by Into second arrival.0) links)) arrivals)
 
 abbrev NetClaim : Wiring → Type 0
 NetClaim wiring = (g : Route → ℕ) (ins : ℕ → List Way) → weight g (reach wiring ins) ≡ weight g (routes_in (entry ins) wiring)
@@ -159,7 +158,7 @@ kid-claim kid claim g arrivals =
     let y : WiredKid-F WiredKid Wiring = out-WiredKid kid in
     ap (λ (own : KidReach). weight g (own arrivals)) (kid-reach-is kid) ∙ by y.below claim
     ∙ ap (λ (own : Name × Inner). weight g own.1.routes + weight (onward g own.1) arrivals) (sym (kid-is kid))
-   where
+  where
     by : (below : Option Wiring) → Beneath NetClaim below → weight g (reach_below (out-WiredKid kid).handle (below_reach below) arrivals)
         ≡ weight g (below_step (out-WiredKid kid).handle (below_inner below)).routes + weight (onward g (below_step (out-WiredKid kid).handle (below_inner below))) arrivals
     by None own_claim =
@@ -170,9 +169,9 @@ kid-claim kid claim g arrivals =
         let kids : List (Name × Inner) = map inner_of_kid z.kids in
         own_claim g (λ port. at_port port arrivals)
         ∙ three _ _ _ _ _ _
-            (weight-append g (crossing (within (entry (λ port. at_port port arrivals)) z.boss kids) (links_of wiring)) (flat_map (λ (own : Name × Inner). own.1.routes) kids))
-            (entered-crossing g z.boss kids arrivals (links_of wiring))
-            (ap (weight g) (inner-routes wiring) ∙ weight-append g (crossing (within no_ways z.boss kids) (links_of wiring)) (flat_map (λ (own : Name × Inner). own.1.routes) kids))
+        (weight-append g (crossing (within (entry (λ port. at_port port arrivals)) z.boss kids) (links_of wiring)) (flat_map (λ (own : Name × Inner). own.1.routes) kids))
+        (entered-crossing g z.boss kids arrivals (links_of wiring))
+        (ap (weight g) (inner-routes wiring) ∙ weight-append g (crossing (within no_ways z.boss kids) (links_of wiring)) (flat_map (λ (own : Name × Inner). own.1.routes) kids))
         ∙ ap (λ (inner : Inner). weight g (inner_of wiring).routes + weight (onward g inner) arrivals) (sym (inner-is wiring))
 
 -- over one link: to the executive, or to a component
@@ -183,7 +182,7 @@ module _ (g : Route → ℕ) (boss : Handle) (around : Around) (link : Numbered)
   to-kid port wanted kid =
       ap (λ (own : Name). weight (λ before. weight (λ after. g (met (extended Out link before) after)) (if is_same_name own wanted then (inner_of_kid kid).1.ways Into port else [])) befores) (ap (λ (own : Name × Inner). own.0) (kid-is kid))
       ∙ by (is_same_name (out-WiredKid kid).name wanted)
-     where
+    where
       by : (same : Bool) → weight (λ before. weight (λ after. g (met (extended Out link before) after)) (if same then (inner_of_kid kid).1.ways Into port else [])) befores
           ≡ weight (onward g (inner_of_kid kid).1) (if same then map (λ way. (port, extended Out link way)) befores else [])
       by true = sym (weight-map (onward g (inner_of_kid kid).1) (λ way. (port, extended Out link way)) befores)
@@ -192,7 +191,7 @@ module _ (g : Route → ℕ) (boss : Handle) (around : Around) (link : Numbered)
   to-part : (ins : ℕ → List Way) (kids : List WiredKid) (port : ℕ) (own_part : Part) →
       weight g (crossed link befores (at_part Into (within (entry ins) boss (map inner_of_kid kids)) own_part port))
       ≡ weight (λ arrival. g (ended boss arrival)) (if is_part part.Boss own_part then map (λ way. (port, extended Out link way)) befores else [])
-        + weight (λ kid. weight (onward g (inner_of_kid kid).1) (if is_part (part.Kid (out-WiredKid kid).name) own_part then map (λ way. (port, extended Out link way)) befores else [])) kids
+      + weight (λ kid. weight (onward g (inner_of_kid kid).1) (if is_part (part.Kid (out-WiredKid kid).name) own_part then map (λ way. (port, extended Out link way)) befores else [])) kids
   to-part ins kids port part.Net = nothing-crosses g link befores ∙ sym (weight-zero (λ (kid : WiredKid). 0) (λ kid. refl) kids) ∙ sym (zero-add _)
   to-part ins kids port part.Boss =
       crossed-weight g link befores (own boss Into port)
@@ -213,11 +212,11 @@ kids-claim : (g : Route → ℕ) (arrivals : Name → Arrivals) (kids : List Wir
 kids-claim g arrivals [] claims = refl
 kids-claim g arrivals (kid ∷ kids) claims =
     five _ _ _ _ _ _ _ _
-        (weight-append g (kid_reach kid (arrivals (out-WiredKid kid).name)) (flat_map (λ kid. kid_reach kid (arrivals (out-WiredKid kid).name)) kids))
-        (weight-append g (inner_of_kid kid).1.routes (flat_map (λ (kid : Name × Inner). kid.1.routes) (map inner_of_kid kids)))
-        (kid-claim kid claims.0 g (arrivals (out-WiredKid kid).name))
-        (kids-claim g arrivals kids claims.1)
-   where
+    (weight-append g (kid_reach kid (arrivals (out-WiredKid kid).name)) (flat_map (λ kid. kid_reach kid (arrivals (out-WiredKid kid).name)) kids))
+    (weight-append g (inner_of_kid kid).1.routes (flat_map (λ (kid : Name × Inner). kid.1.routes) (map inner_of_kid kids)))
+    (kid-claim kid claims.0 g (arrivals (out-WiredKid kid).name))
+    (kids-claim g arrivals kids claims.1)
+  where
     five : (x xs yy a c b bs xx : ℕ) → xx ≡ x + xs → yy ≡ a + c → x ≡ a + b → xs ≡ c + bs → xx ≡ yy + (b + bs)
     five x xs yy a c b bs xx p q r s = omega arith
 
@@ -230,19 +229,19 @@ net-claim wiring claims g ins =
     let to_boss : Numbered → ℕ = λ link. weight (λ arrival. g (ended y.boss arrival)) (arriving_by A part.Boss link) in
     let to_kid : Numbered → WiredKid → ℕ = λ link kid. weight (onward g (inner_of_kid kid).1) (arriving_by A (part.Kid (out-WiredKid kid).name) link) in
     let crosses : weight g (crossing A links) ≡ weight to_boss links + weight (λ link. weight (to_kid link) y.kids) links =
-        weight-flat g (crossed_by A) links ∙ weight-adds (λ link. weight g (crossed_by A link)) to_boss (λ link. weight (to_kid link) y.kids)
-            (λ link. to-part g y.boss A link (at_end Out A link.1.from) ins y.kids link.1.to.port link.1.to.part) links in
+    weight-flat g (crossed_by A) links ∙ weight-adds (λ link. weight g (crossed_by A link)) to_boss (λ link. weight (to_kid link) y.kids)
+    (λ link. to-part g y.boss A link (at_end Out A link.1.from) ins y.kids link.1.to.port link.1.to.part) links in
     let bosses : weight g (map (ended y.boss) (arriving A links part.Boss)) ≡ weight to_boss links =
-        weight-map g (ended y.boss) (arriving A links part.Boss) ∙ weight-flat (λ arrival. g (ended y.boss arrival)) (arriving_by A part.Boss) links in
+    weight-map g (ended y.boss) (arriving A links part.Boss) ∙ weight-flat (λ arrival. g (ended y.boss arrival)) (arriving_by A part.Boss) links in
     let swapped : weight (λ kid. weight (onward g (inner_of_kid kid).1) (arriving A links (part.Kid (out-WiredKid kid).name))) y.kids ≡ weight (λ link. weight (to_kid link) y.kids) links =
-        weight-same _ _ (λ kid. weight-flat (onward g (inner_of_kid kid).1) (arriving_by A (part.Kid (out-WiredKid kid).name)) links) y.kids
-        ∙ weight-swap (λ kid link. to_kid link kid) y.kids links in
+    weight-same _ _ (λ kid. weight-flat (onward g (inner_of_kid kid).1) (arriving_by A (part.Kid (out-WiredKid kid).name)) links) y.kids
+    ∙ weight-swap (λ kid link. to_kid link kid) y.kids links in
     ap (weight g) (reach-opened wiring ins)
     ∙ six _ _ _ _ _ _ _ _ _
-        (weight-append g (map (ended y.boss) (arriving A links part.Boss)) (flat_map (λ kid. kid_reach kid (arriving A links (part.Kid (out-WiredKid kid).name))) y.kids))
-        bosses (kids-claim g (λ name. arriving A links (part.Kid name)) y.kids claims) swapped crosses
-        (weight-append g (crossing A links) (flat_map (λ (kid : Name × Inner). kid.1.routes) kids))
-   where
+    (weight-append g (map (ended y.boss) (arriving A links part.Boss)) (flat_map (λ kid. kid_reach kid (arriving A links (part.Kid (out-WiredKid kid).name))) y.kids))
+    bosses (kids-claim g (λ name. arriving A links (part.Kid name)) y.kids claims) swapped crosses
+    (weight-append g (crossing A links) (flat_map (λ (kid : Name × Inner). kid.1.routes) kids))
+  where
     six : (all b k bs r o os c whole : ℕ) → all ≡ b + k → b ≡ bs → k ≡ r + o → o ≡ os → c ≡ bs + os → whole ≡ c + r → all ≡ whole
     six all b k bs r o os c whole p q s t u v = omega arith
 
@@ -259,24 +258,27 @@ routes-gathered g wiring =
     let A : Around = entered (own y.me Out) wiring in
     let to_net : Numbered → ℕ = λ link. weight (λ arrival. g (ended y.me arrival)) (arriving_by A part.Net link) in
     last _ _ _ _ _ _ _ _ _
-        (weight-append g (crossing W links) (flat_map (λ (kid : Name × Inner). kid.1.routes) kids))
-        (weight-flat g (crossed_by W) links ∙ weight-adds (λ link. weight g (crossed_by W link)) (λ link. weight g (crossed_by A link)) to_net
-            (λ link. ap (λ befores. weight g (crossed link befores (at_end Into W link.1.to))) (from-same link.1.from.part link.1.from.port)
-                ∙ to-end link (at_end Out A link.1.from) link.1.to.part link.1.to.port) links
-            ∙ ap (λ n. n + weight to_net links) (sym (weight-flat g (crossed_by A) links)))
-        (weight-append g (crossing A links) (flat_map (λ (kid : Name × Inner). kid.1.routes) kids))
-        (each-claim wiring g (own y.me Out))
-        (weight-map g (ended y.me) (arriving A links part.Net) ∙ weight-flat (λ arrival. g (ended y.me arrival)) (arriving_by A part.Net) links)
-        (weight-append g (reach wiring (own y.me Out)) (map (ended y.me) (arriving A links part.Net)))
-   where
+    (weight-append g (crossing W links) (flat_map (λ (kid : Name × Inner). kid.1.routes) kids))
+    (weight-flat g (crossed_by W) links ∙ weight-adds (λ link. weight g (crossed_by W link)) (λ link. weight g (crossed_by A link)) to_net
+    (λ link. ap (λ befores. weight g (crossed link befores (at_end Into W link.1.to))) (from-same link.1.from.part link.1.from.port)
+    ∙ to-end link (at_end Out A link.1.from) link.1.to.part link.1.to.port) links
+    ∙ ap (λ n. n + weight to_net links) (sym (weight-flat g (crossed_by A) links)))
+    (weight-append g (crossing A links) (flat_map (λ (kid : Name × Inner). kid.1.routes) kids))
+    (each-claim wiring g (own y.me Out))
+    (weight-map g (ended y.me) (arriving A links part.Net) ∙ weight-flat (λ arrival. g (ended y.me arrival)) (arriving_by A part.Net) links)
+    (weight-append g (reach wiring (own y.me Out)) (map (ended y.me) (arriving A links part.Net)))
+  where
     me : Handle
     me = (out-Wiring wiring).me
+
     kids : List (Name × Inner)
     kids = map inner_of_kid (out-Wiring wiring).kids
+
     from-same : (own_part : Part) (port : ℕ) → at_part Out (within (own me) (out-Wiring wiring).boss kids) own_part port ≡ at_part Out (entered (own me Out) wiring) own_part port
     from-same part.Net port = refl
     from-same part.Boss port = refl
     from-same (part.Kid wanted) port = refl
+
     to-end : (link : Numbered) (befores : List Way) (own_part : Part) (port : ℕ) → weight g (crossed link befores (at_part Into (within (own me) (out-Wiring wiring).boss kids) own_part port))
         ≡ weight g (crossed link befores (at_part Into (entered (own me Out) wiring) own_part port)) + weight (λ arrival. g (ended me arrival)) (if is_part part.Net own_part then map (λ way. (port, extended Out link way)) befores else [])
     to-end link befores part.Net port =
@@ -285,5 +287,6 @@ routes-gathered g wiring =
         ∙ ap (λ n. n + weight (λ arrival. g (ended me arrival)) (map (λ way. (port, extended Out link way)) befores)) (sym (nothing-crosses g link befores))
     to-end link befores part.Boss port = sym (add-zero _)
     to-end link befores (part.Kid wanted) port = sym (add-zero _)
+
     last : (x cw cr ca n z r e all : ℕ) → x ≡ cw + cr → cw ≡ ca + n → z ≡ ca + cr → r ≡ z → e ≡ n → all ≡ r + e → x ≡ all
     last x cw cr ca n z r e all p q s t u v = omega arith

@@ -57,11 +57,14 @@ kid-splits : (name : Name) (place : List Name) → SplitsAt place → (g : Handl
 kid-splits name place at g kid = by (is_same_name (out-WiredKid kid).name name) where
   y : WiredKid-F WiredKid Wiring
   y = out-WiredKid kid
+
   alone : (n : ℕ) → n ≡ n + 0
   alone n = omega arith
+
   belows : (below : Option Wiring) → weight g (below_known y.handle below) ≡ weight g (below_known y.handle (below_changed (changed place bared) below)) + weight g (flat_map handles_of_kid (below_at (kids_at place) below))
   belows None = alone (weight g (y.handle ∷ []))
   belows (Some wiring) = at g wiring
+
   by : (same : Bool) → weight g (handles_of_kid kid)
       ≡ weight g (handles_of_kid (if same then roll-WiredKid (record y { below = below_changed (changed place bared) y.below }) else kid)) + weight g (flat_map handles_of_kid (if same then below_at (kids_at place) y.below else []))
   by true = ap (weight g) (kid-handles kid) ∙ belows y.below ∙ ap (λ handles. weight g handles + weight g (flat_map handles_of_kid (below_at (kids_at place) y.below))) (sym (kid-handles-roll (record y { below = below_changed (changed place bared) y.below })))
@@ -77,12 +80,12 @@ kids-splits name place at g (kid ∷ kids) =
     let less : WiredKid → WiredKid = kid_changed name (changed place bared) in
     let f : WiredKid → List WiredKid = kid_at name (kids_at place) in
     four _ _ _ _ _ _ _ _ (kid-splits name place at g kid) (kids-splits name place at g kids)
-        (weight-append g (handles_of_kid kid) (flat_map handles_of_kid kids))
-        (weight-append g (handles_of_kid (less kid)) (flat_map handles_of_kid (map less kids)))
+    (weight-append g (handles_of_kid kid) (flat_map handles_of_kid kids))
+    (weight-append g (handles_of_kid (less kid)) (flat_map handles_of_kid (map less kids)))
     ∙ ap (λ n. weight g (flat_map handles_of_kid (map less (kid ∷ kids))) + n)
-        (sym (weight-flat g handles_of_kid (f kid ++ flat_map f kids) ∙ weight-append (λ own. weight g (handles_of_kid own)) (f kid) (flat_map f kids)
-            ∙ ap (λ n. n + weight (λ own. weight g (handles_of_kid own)) (flat_map f kids)) (sym (weight-flat g handles_of_kid (f kid)))
-            ∙ ap (λ n. weight g (flat_map handles_of_kid (f kid)) + n) (sym (weight-flat g handles_of_kid (flat_map f kids)))))
+    (sym (weight-flat g handles_of_kid (f kid ++ flat_map f kids) ∙ weight-append (λ own. weight g (handles_of_kid own)) (f kid) (flat_map f kids)
+    ∙ ap (λ n. n + weight (λ own. weight g (handles_of_kid own)) (flat_map f kids)) (sym (weight-flat g handles_of_kid (f kid)))
+    ∙ ap (λ n. weight g (flat_map handles_of_kid (f kid)) + n) (sym (weight-flat g handles_of_kid (flat_map f kids)))))
 
 two : (a b n m k : ℕ) → n ≡ m + k → a + (b + n) ≡ a + (b + m) + k
 two a b n m k p = omega arith
@@ -132,14 +135,14 @@ module _ (handles : List Handle) where
   ways-known : (around : Around) → AllKnown around → (links : List Numbered) (side : Side) (port : ℕ) → AllByRecursion WayKnown (net_ways around links side port)
   ways-known around all links side port =
       each-flat WayKnown (ways_by side around port) links
-          (each-of _ (λ link. each-if WayKnown (is_border port (near side link.1)) (map (extended side link) (at_end side around (far side link.1))) (each-map WayKnown (extended side link) (at_end side around (far side link.1)) (each-weaker WayKnown _ (λ way is. extended-known side link way is) (at_end side around (far side link.1)) (all side (far side link.1))))) links)
+      (each-of _ (λ link. each-if WayKnown (is_border port (near side link.1)) (map (extended side link) (at_end side around (far side link.1))) (each-map WayKnown (extended side link) (at_end side around (far side link.1)) (each-weaker WayKnown _ (λ way is. extended-known side link way is) (at_end side around (far side link.1)) (all side (far side link.1))))) links)
 
   crossing-known : (around : Around) → AllKnown around → (links : List Numbered) → AllByRecursion RouteKnown (crossing around links)
   crossing-known around all links =
       each-flat RouteKnown (crossed_by around) links
-          (each-of _ (λ link. each-flat RouteKnown (λ before. map (λ after. met (extended Out link before) after) (at_end Into around link.1.to)) (at_end Out around link.1.from)
-              (each-weaker WayKnown _ (λ before is. each-map RouteKnown (λ after. met (extended Out link before) after) (at_end Into around link.1.to)
-                  (each-weaker WayKnown _ (λ after also. (is, also)) (at_end Into around link.1.to) (all Into link.1.to))) (at_end Out around link.1.from) (all Out link.1.from))) links)
+      (each-of _ (λ link. each-flat RouteKnown (λ before. map (λ after. met (extended Out link before) after) (at_end Into around link.1.to)) (at_end Out around link.1.from)
+      (each-weaker WayKnown _ (λ before is. each-map RouteKnown (λ after. met (extended Out link before) after) (at_end Into around link.1.to)
+      (each-weaker WayKnown _ (λ after also. (is, also)) (at_end Into around link.1.to) (all Into link.1.to))) (at_end Out around link.1.from) (all Out link.1.from))) links)
 
   abbrev KidKnown : Name × Inner → Type 0
   KidKnown kid = IsKnown handles kid.1
@@ -169,8 +172,8 @@ kid-known : (kid : WiredKid) → Beneath Known (out-WiredKid kid).below → IsKn
 kid-known kid known =
     let y : WiredKid-F WiredKid Wiring = out-WiredKid kid in
     subst (λ handles. IsKnown handles (inner_of_kid kid).1) (sym (kid-handles kid))
-        (subst (λ (own : Name × Inner). IsKnown (below_known y.handle y.below) own.1) (sym (kid-is kid)) (by y.below known))
-   where
+    (subst (λ (own : Name × Inner). IsKnown (below_known y.handle y.below) own.1) (sym (kid-is kid)) (by y.below known))
+  where
     by : (below : Option Wiring) → Beneath Known below → IsKnown (below_known (out-WiredKid kid).handle below) (below_step (out-WiredKid kid).handle (below_inner below))
     by None own = record { ways = λ side port. (any-head (is_same_handle (out-WiredKid kid).handle) (out-WiredKid kid).handle [] (same-self (out-WiredKid kid).handle), tt); routes = tt }
     by (Some wiring) own = own
@@ -188,19 +191,20 @@ inner-known = each_wiring Known (λ wiring known.
     let y : Wiring-F WiredKid Wiring = out-Wiring wiring in
     let handles : List Handle = y.me ∷ y.boss ∷ flat_map handles_of_kid y.kids in
     subst (λ own. IsKnown own (inner_of wiring)) (sym (handles-is wiring)) (subst (IsKnown handles) (sym (inner-is wiring))
-        (net-known handles y.boss (map inner_of_kid y.kids) (links_of wiring)
-            (any-tail (is_same_handle y.boss) y.me (y.boss ∷ flat_map handles_of_kid y.kids) (any-head (is_same_handle y.boss) y.boss (flat_map handles_of_kid y.kids) (same-self y.boss)))
-            (kids-known handles y.kids (λ handle is. any-tail (is_same_handle handle) y.me (y.boss ∷ flat_map handles_of_kid y.kids) (any-tail (is_same_handle handle) y.boss (flat_map handles_of_kid y.kids) is)) known))))
+    (net-known handles y.boss (map inner_of_kid y.kids) (links_of wiring)
+    (any-tail (is_same_handle y.boss) y.me (y.boss ∷ flat_map handles_of_kid y.kids) (any-head (is_same_handle y.boss) y.boss (flat_map handles_of_kid y.kids) (same-self y.boss)))
+    (kids-known handles y.kids (λ handle is. any-tail (is_same_handle handle) y.me (y.boss ∷ flat_map handles_of_kid y.kids) (any-tail (is_same_handle handle) y.boss (flat_map handles_of_kid y.kids) is)) known))))
 
 -- of components
 pub inside-known : (kids : List WiredKid) → AllByRecursion (λ route. knows (flat_map handles_of_kid kids) route.source ≡ true) (inside kids)
 inside-known kids =
     let handles : List Handle = flat_map handles_of_kid kids in
     each-flat (λ (route : Route). knows handles route.source ≡ true) (λ kid. (inner_of_kid kid).1.routes) kids (by kids (λ handle is. is))
-   where
+  where
     below : (below : Option Wiring) → Beneath Known below
     below None = tt
     below (Some wiring) = inner-known wiring
+
     by : (own : List WiredKid) → Wider (flat_map handles_of_kid own) (flat_map handles_of_kid kids) → AllByRecursion (λ kid. AllByRecursion (λ (route : Route). knows (flat_map handles_of_kid kids) route.source ≡ true) (inner_of_kid kid).1.routes) own
     by [] wider = tt
     by (kid ∷ others) wider = (

@@ -12,3 +12,5 @@ pub mod Touching
 pub mod Uses
 pub mod Touches
 pub mod Bridging
+pub mod Counting
+pub mod Sets

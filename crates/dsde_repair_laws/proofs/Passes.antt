@@ -14,10 +14,10 @@ use Rattle.dsde_routes_wiring.specs.declared.wiring.Wiring.{Wiring}
 use Rattle.dsde_routes_wiring.specs.declared.wiring.WiredKid.TheOpen.{Wiring-F, WiredKid-F}
 use Rattle.dsde_routes_wiring.specs.declared.wiring.WiredKid.TheViews.{out-Wiring, out-WiredKid, roll-Wiring, roll-WiredKid, out-roll-Wiring, out-roll-WiredKid}
 use Rattle.dsde_routes_wiring.specs.Routes.{Way, Route, numbered, links_of, Ways, Around, Inner, within, around_of, no_ways, own, of_kid, at_part, at_end, crossing, routes_by, routes_in, inner_net, inner_of, inner_of_kid, below_step}
-use Rattle.dsde_routes_wiring.specs.Places.{changed, with_kids, kid_changed, below_changed, bared, kids_at, kid_at, below_at, nothing, only, passing, passing_kid, passing_below, crossed_passing, routes_passing, through}
+use Rattle.dsde_routes_wiring.specs.Places.{changed, with_kids, kid_changed, below_changed, bared, kids_at, kid_at, below_at, nothing, only, passing, passing_kid, passing_below, routes_passing, through}
 use Rattle.dsde_repair_laws.specs.Weights.{weight, weight-append, weight-flat, weight-map, weight-same, weight-adds}
 use Rattle.dsde_repair_laws.proofs.Opens.{below_inner, inner-roll, inner-is, kid-roll, kid-is}
-use Rattle.dsde_repair_laws.proofs.Adding.{Adds, AddsAround, ways-add, rows-add, tested-add}
+use Rattle.dsde_repair_laws.proofs.Adding.{passing-splits, Adds, AddsAround, ways-add, rows-add, tested-add}
 
 abbrev pub rows_of : WiredKid → List Route
 rows_of kid = (inner_of_kid kid).1.routes
@@ -37,7 +37,7 @@ alone n = omega arith
 -- of a component: whether it has the name, and what is below it
 below-splits : (place : List Name) → SplitsAt place → (same : Bool) (handle : Handle) (below : Option Wiring) →
     Splits (below_step handle (below_inner below)) (if same then passing_below (passing place) below else nothing)
-        (below_step handle (below_inner (if same then below_changed (changed place bared) below else below))) (if same then below_at (kids_at place) below else [])
+    (below_step handle (below_inner (if same then below_changed (changed place bared) below else below))) (if same then below_at (kids_at place) below else [])
 below-splits place at false handle below = (
   λ g side port. sym (zero-add (weight g ((below_step handle (below_inner below)).ways side port))),
   λ g. alone (weight g (below_step handle (below_inner below)).routes),
@@ -137,9 +137,9 @@ module _ (name : Name) (place : List Name) (at : SplitsAt place) where
       let f = weight-flat g rows_of (inside kid) in
       let h = weight-flat g rows_of (flat_map inside kids) in
       eight _ _ _ _ _ _ _ _ _ _ _ _ _ _ a b d e f h here others
-   where
-    eight : (x xs y ys z zs w ws xx yy zz ww f h : ℕ) → xx ≡ x + xs → yy ≡ y + ys → zz ≡ z + zs → ww ≡ w + ws → f ≡ w → h ≡ ws → x ≡ y + z + f → xs ≡ ys + zs + h → xx ≡ yy + zz + ww
-    eight x xs y ys z zs w ws xx yy zz ww f h p q r s t u v o = omega arith
+    where
+      eight : (x xs y ys z zs w ws xx yy zz ww f h : ℕ) → xx ≡ x + xs → yy ≡ y + ys → zz ≡ z + zs → ww ≡ w + ws → f ≡ w → h ≡ ws → x ≡ y + z + f → xs ≡ ys + zs + h → xx ≡ yy + zz + ww
+      eight x xs y ys z zs w ws xx yy zz ww f h p q r s t u v o = omega arith
 
   -- a network's rows, with these ways beyond its own ports
   step-rows : (net : Ways) (wiring : Wiring) (g : Route → ℕ) →
@@ -151,16 +151,16 @@ module _ (name : Name) (place : List Name) (at : SplitsAt place) where
       let W : Around = within net y.boss (map inner_of_kid y.kids) in
       let R : Around = within net y.boss (map inner_of_kid (map less y.kids)) in
       let F : Wiring-F WiredKid Wiring → Type 0 = λ z. weight g (routes_in net wiring)
-          ≡ weight g (routes_passing passes (around_of net wiring) (within net z.boss (map inner_of_kid z.kids)) (links_of wiring)) + weight g (routes_by (within net z.boss (map inner_of_kid z.kids)) (numbered z.me z.links)) + weight g (flat_map rows_of (kids_at (name ∷ place) wiring)) in
+      ≡ weight g (routes_passing passes (around_of net wiring) (within net z.boss (map inner_of_kid z.kids)) (links_of wiring)) + weight g (routes_by (within net z.boss (map inner_of_kid z.kids)) (numbered z.me z.links)) + weight g (flat_map rows_of (kids_at (name ∷ place) wiring)) in
       subst F (sym (out-roll-Wiring after)) (seven _ _ _ _ _ _ _ _ _ _
-          (weight-append g (crossing W (links_of wiring)) (flat_map (λ (own : Name × Inner). own.1.routes) (map inner_of_kid y.kids)))
-          (weight-append g (flat_map (crossed_passing (only passes) W R) (links_of wiring)) (flat_map (λ (own : Name × Inner). own.1.routes) passes))
-          (weight-append g (crossing R (links_of wiring)) (flat_map (λ (own : Name × Inner). own.1.routes) (map inner_of_kid (map less y.kids))))
-          (rows-add W (only passes) R (around-adds net y.boss y.kids) g (links_of wiring))
-          (kid-rows g y.kids))
-   where
-    seven : (x xs y ys z zs xx yy zz w : ℕ) → xx ≡ x + xs → yy ≡ y + ys → zz ≡ z + zs → x ≡ y + z → xs ≡ ys + zs + w → xx ≡ yy + zz + w
-    seven x xs y ys z zs xx yy zz w p q r s t = omega arith
+      (weight-append g (crossing W (links_of wiring)) (flat_map (λ (own : Name × Inner). own.1.routes) (map inner_of_kid y.kids)))
+      (passing-splits g (only passes) W R (links_of wiring) (flat_map (λ (own : Name × Inner). own.1.routes) passes))
+      (weight-append g (crossing R (links_of wiring)) (flat_map (λ (own : Name × Inner). own.1.routes) (map inner_of_kid (map less y.kids))))
+      (rows-add W (only passes) R (around-adds net y.boss y.kids) g (links_of wiring))
+      (kid-rows g y.kids))
+    where
+      seven : (x xs y ys z zs xx yy zz w : ℕ) → xx ≡ x + xs → yy ≡ y + ys → zz ≡ z + zs → x ≡ y + z → xs ≡ ys + zs + w → xx ≡ yy + zz + w
+      seven x xs y ys z zs xx yy zz w p q r s t = omega arith
 
   step-ways : (wiring : Wiring) → Adds (inner_of wiring).ways (passing (name ∷ place) wiring).ways (inner_of (changed (name ∷ place) bared wiring)).ways
   step-ways wiring =
@@ -169,7 +169,7 @@ module _ (name : Name) (place : List Name) (at : SplitsAt place) where
       let F : Inner → Type 0 = λ whole. Adds whole.ways (passing (name ∷ place) wiring).ways (inner_of (changed (name ∷ place) bared wiring)).ways in
       let G : Inner → Type 0 = λ rest. Adds (inner_net y.boss (map inner_of_kid y.kids) (links_of wiring)).ways (passing (name ∷ place) wiring).ways rest.ways in
       subst F (sym (inner-is wiring)) (subst G (sym (inner-roll after))
-          (ways-add (within no_ways y.boss (map inner_of_kid y.kids)) (only (map pass y.kids)) (within no_ways y.boss (map inner_of_kid (map less y.kids))) (around-adds no_ways y.boss y.kids) (links_of wiring)))
+      (ways-add (within no_ways y.boss (map inner_of_kid y.kids)) (only (map pass y.kids)) (within no_ways y.boss (map inner_of_kid (map less y.kids))) (around-adds no_ways y.boss y.kids) (links_of wiring)))
 
 flat-kids : (g : Route → ℕ) (kids : List WiredKid) → weight g (flat_map (λ (own : Name × Inner). own.1.routes) (map inner_of_kid kids)) ≡ weight g (flat_map rows_of kids)
 flat-kids g [] = refl
@@ -187,10 +187,10 @@ here-rows : (net : Ways) (wiring : Wiring) (g : Route → ℕ) →
 here-rows net wiring g =
     let y : Wiring-F WiredKid Wiring = out-Wiring wiring in
     let F : Wiring-F WiredKid Wiring → Type 0 = λ z. weight g (routes_in net wiring)
-        ≡ weight g (through net [] wiring) + weight g (routes_by (within net z.boss (map inner_of_kid z.kids)) (numbered z.me z.links)) + weight g (flat_map rows_of y.kids) in
+    ≡ weight g (through net [] wiring) + weight g (routes_by (within net z.boss (map inner_of_kid z.kids)) (numbered z.me z.links)) + weight g (flat_map rows_of y.kids) in
     subst F (sym (out-roll-Wiring (record y { links = []; kids = [] }))) (bare _ _ _ _
-        (weight-append g (crossing (around_of net wiring) (links_of wiring)) (flat_map (λ (own : Name × Inner). own.1.routes) (map inner_of_kid y.kids)))
-        (flat-kids g y.kids))
+    (weight-append g (crossing (around_of net wiring) (links_of wiring)) (flat_map (λ (own : Name × Inner). own.1.routes) (map inner_of_kid y.kids)))
+    (flat-kids g y.kids))
 
 inner-rows : (wiring : Wiring) → (inner_of wiring).routes ≡ routes_in no_ways wiring
 inner-rows wiring = ap (λ (inner : Inner). inner.routes) (inner-is wiring)

@@ -22,7 +22,7 @@ use Rattle.dsde_repair_laws.specs.Bounds.{counted, count, AreDistinct, AreNamed}
 use Rattle.dsde_repair_laws.proofs.Touches.{touched-before, touched-after}
 use Rattle.dsde_repair_laws.proofs.Distinct.{routes-once, weight-le}
 
-any-some : {X : Type 0} (test : X → Bool) (xs : List X) → list_any test xs ≡ ltb 0 (count test xs)
+pub any-some : {X : Type 0} (test : X → Bool) (xs : List X) → list_any test xs ≡ ltb 0 (count test xs)
 any-some test [] = refl
 any-some test (x ∷ xs) = by (test x) (any-some test xs) where
   by : (b : Bool) → list_any test xs ≡ ltb 0 (count test xs) → b || list_any test xs ≡ ltb 0 ((if b then 1 else 0) + count test xs)
@@ -59,7 +59,7 @@ under row route = by (is_same_row row (row_of route)) refl where
   by true same =
       let one : row ≡ row_of route = row_cmp-same row (row_of route) (tied (row_cmp row (row_of route)) same) in
       subst (λ (own : Row). 1 ≤ (if has_key own.target own.target_port own.rank route then 1 else 0)) (sym one)
-          (subst (λ (b : Bool). 1 ≤ (if b then 1 else 0)) (sym (same-key route)) (omega arith))
+      (subst (λ (b : Bool). 1 ≤ (if b then 1 else 0)) (sym (same-key route)) (omega arith))
   by false same = omega arith
 
 pub at-most-once : (wiring : Wiring) → AreNamed wiring → AreDistinct (handles_of wiring) → (row : Row) → times row (routes wiring) ≤ 1
@@ -103,8 +103,8 @@ pub rows-after : (place : List Name) (gone : List Name) (links : List Link) (kid
     ((h : WiredKid → ℕ) → weight h kids ≡ weight h fresh + weight h (staying gone (out-Wiring here).kids)) → AreNamed wiring → AreDistinct (handles_of wiring ++ flat_map handles_of_kid fresh) → (row : Row) →
     among (routed (changed place (renewed links kids) wiring)) row
     ≡ among (map row_of (through (own (out-Wiring wiring).me) place (changed place (renewed links kids) wiring))) row
-      || (among (map row_of (inside fresh)) row
-      || (among (routed wiring) row && not (among (map row_of (through (own (out-Wiring wiring).me) place wiring)) row) && not (among (map row_of (inside (going gone (out-Wiring here).kids))) row)))
+    || (among (map row_of (inside fresh)) row
+    || (among (routed wiring) row && not (among (map row_of (through (own (out-Wiring wiring).me) place wiring)) row) && not (among (map row_of (inside (going gone (out-Wiring here).kids))) row)))
 rows-after place gone links kids fresh wiring here is both named distinct row =
     let me : Handle = (out-Wiring wiring).me in
     let after : Wiring = changed place (renewed links kids) wiring in
@@ -116,10 +116,10 @@ rows-after place gone links kids fresh wiring here is both named distinct row =
     let D : List Route = through (own me) place after in
     let L : List Route = left (own me) place (staying gone olds) wiring in
     let old_times : times row (routes wiring) ≡ times row A + times row B + times row L =
-        touched-before g (own me) place gone wiring here is ∙ ap (λ n. n + times row L) (weight-append g A B) in
+    touched-before g (own me) place gone wiring here is ∙ ap (λ n. n + times row L) (weight-append g A B) in
     let new_times : times row (routes after) ≡ times row D + times row C + times row L =
-        ap (λ (own_me : Handle). times row (routes_in (own own_me) after)) (me-after place links kids wiring)
-        ∙ touched-after g (own me) place links kids (staying gone olds) fresh wiring here is both ∙ ap (λ n. n + times row L) (weight-append g D C) in
+    ap (λ (own_me : Handle). times row (routes_in (own own_me) after)) (me-after place links kids wiring)
+    ∙ touched-after g (own me) place links kids (staying gone olds) fresh wiring here is both ∙ ap (λ n. n + times row L) (weight-append g D C) in
     let once : times row (routes wiring) ≤ 1 = at-most-once wiring named (distinct-front (handles_of wiring) (flat_map handles_of_kid fresh) distinct) row in
     among-times row (routes after) ∙ ap (ltb 0) new_times
     ∙ bools (times row A) (times row B) (times row C) (times row D) (times row L) (subst (λ n. n ≤ 1) old_times once)

@@ -72,9 +72,10 @@ module _ (P : Shape → Type 0) where
 
   pub net-of : (y : Wiring-F WiredKid Wiring) → P (shape_of y) → AllByRecursion KidEach y.kids → Each (roll-Wiring y)
   net-of y here below =
-      subst (λ (own : List Shape). AllByRecursion P own) (sym (shapes-is (roll-Wiring y)))
-          (subst (λ (own : Wiring-F WiredKid Wiring). P (shape_of own)) (sym (out-roll-Wiring y)) here,
-           subst (λ (own : Wiring-F WiredKid Wiring). AllByRecursion P (flat_map (λ (kid : KidShapes). kid.below) (map shapes_of_kid own.kids))) (sym (out-roll-Wiring y)) (each-kids y.kids below))
+      subst (λ (own : List Shape). AllByRecursion P own) (sym (shapes-is (roll-Wiring y))) (
+        subst (λ (own : Wiring-F WiredKid Wiring). P (shape_of own)) (sym (out-roll-Wiring y)) here,
+        subst (λ (own : Wiring-F WiredKid Wiring). AllByRecursion P (flat_map (λ (kid : KidShapes). kid.below) (map shapes_of_kid own.kids))) (sym (out-roll-Wiring y)) (each-kids y.kids below),
+      )
 
 -- a component that is changed keeps its name and its handle
 pub same-wired : (name : Name) (f : Wiring → Wiring) (kid : WiredKid) → wired_of (kid_changed name f kid) ≡ wired_of kid
@@ -96,6 +97,7 @@ module _ (P : Shape → Type 0) where
     belows : (below : Option Wiring) → Beneath (Each P) below → Beneath (Each P) (below_changed f below)
     belows None own = tt
     belows (Some wiring) own = keeps wiring own
+
     by : (same : Bool) → KidEach P (if same then roll-WiredKid (record (out-WiredKid kid) { below = below_changed f (out-WiredKid kid).below }) else kid)
     by true = subst (λ (z : WiredKid-F WiredKid Wiring). Beneath (Each P) z.below) (sym (out-roll-WiredKid (record (out-WiredKid kid) { below = below_changed f (out-WiredKid kid).below }))) (belows (out-WiredKid kid).below each)
     by false = each
@@ -110,8 +112,8 @@ module _ (P : Shape → Type 0) where
   changed-each f keeps (name ∷ place) wiring each =
       let y : Wiring-F WiredKid Wiring = out-Wiring wiring in
       net-of P (record y { kids = map (kid_changed name (changed place f)) y.kids })
-          (subst (λ (kids : List Wired). P (record { me = y.me; boss = y.boss; links = y.links; kids = kids })) (sym (all-wired name (changed place f) y.kids)) (net-here P wiring each))
-          (changed-kids name (changed place f) (changed-each f keeps place) y.kids (net-below P wiring each))
+      (subst (λ (kids : List Wired). P (record { me = y.me; boss = y.boss; links = y.links; kids = kids })) (sym (all-wired name (changed place f) y.kids)) (net-here P wiring each))
+      (changed-kids name (changed place f) (changed-each f keeps place) y.kids (net-below P wiring each))
 
   -- the networks at a place have it
   kid-at : (name : Name) (place : List Name) → ((x : Wiring) → Each P x → AllByRecursion (Each P) (nets_at place x)) → (kid : WiredKid) → KidEach P kid → AllByRecursion (Each P) (kid_at name (nets_at place) kid)

@@ -35,10 +35,10 @@ pub touched-before : (g : Route → ℕ) (net : Ways) (place : List Name) (gone 
 touched-before g net place gone wiring here is =
     let kids : List WiredKid = (out-Wiring here).kids in
     sums _ _ _ _ _ _ _ _
-        (rows-split g net place wiring ∙ ap (λ own. weight g (through net place wiring) + weight g (routes_in net (changed place bared wiring)) + weight g (inside own)) (kids-there place wiring here is))
-        (inside-split g gone kids)
-        (weight-append g (through net place wiring) (inside (going gone kids)))
-        (weight-append g (routes_in net (changed place bared wiring)) (inside (staying gone kids)))
+    (rows-split g net place wiring ∙ ap (λ own. weight g (through net place wiring) + weight g (routes_in net (changed place bared wiring)) + weight g (inside own)) (kids-there place wiring here is))
+    (inside-split g gone kids)
+    (weight-append g (through net place wiring) (inside (going gone kids)))
+    (weight-append g (routes_in net (changed place bared wiring)) (inside (staying gone kids)))
 
 -- and after it: what is left is the same
 pub touched-after : (g : Route → ℕ) (net : Ways) (place : List Name) (links : List Link) (kids stay fresh : List WiredKid) (wiring here : Wiring) → nets_at place wiring ≡ here ∷ [] →
@@ -47,8 +47,8 @@ pub touched-after : (g : Route → ℕ) (net : Ways) (place : List Name) (links 
 touched-after g net place links kids stay fresh wiring here is both =
     let after : Wiring = changed place (renewed links kids) wiring in
     sums _ _ _ _ _ _ _ _
-        (rows-split g net place after ∙ ap (λ own. weight g (through net place after) + weight g (routes_in net (changed place bared after)) + weight g (inside own)) (kids-given links kids place wiring here is)
-            ∙ ap (λ own. weight g (through net place after) + weight g (routes_in net own) + weight g (inside kids)) (changed-chain bared (renewed links kids) bared (bared-renewed links kids) place wiring))
-        (weight-flat g rows_of kids ∙ both (λ kid. weight g (rows_of kid)) ∙ ap (λ n. n + weight (λ kid. weight g (rows_of kid)) stay) (sym (weight-flat g rows_of fresh)) ∙ ap (λ n. weight g (inside fresh) + n) (sym (weight-flat g rows_of stay)))
-        (weight-append g (through net place after) (inside fresh))
-        (weight-append g (routes_in net (changed place bared wiring)) (inside stay))
+    (rows-split g net place after ∙ ap (λ own. weight g (through net place after) + weight g (routes_in net (changed place bared after)) + weight g (inside own)) (kids-given links kids place wiring here is)
+    ∙ ap (λ own. weight g (through net place after) + weight g (routes_in net own) + weight g (inside kids)) (changed-chain bared (renewed links kids) bared (bared-renewed links kids) place wiring))
+    (weight-flat g rows_of kids ∙ both (λ kid. weight g (rows_of kid)) ∙ ap (λ n. n + weight (λ kid. weight g (rows_of kid)) stay) (sym (weight-flat g rows_of fresh)) ∙ ap (λ n. weight g (inside fresh) + n) (sym (weight-flat g rows_of stay)))
+    (weight-append g (through net place after) (inside fresh))
+    (weight-append g (routes_in net (changed place bared wiring)) (inside stay))

@@ -69,11 +69,11 @@ module _ (place : List Name) (gone : List Name) (links : List Link) (kids fresh 
   handle-counts g =
       let own : WiredKid → ℕ = λ kid. weight g (handles_of_kid kid) in
       sums _ _ _ _ _ _ _ _
-          (handles-split place g wiring ∙ ap (λ kids. weight g (handles_of (changed place bared wiring)) + weight g (H kids)) (kids-there place wiring here is))
-          (handles-split place g after ∙ ap (λ kids. weight g (handles_of (changed place bared after)) + weight g (H kids)) (kids-given links kids place wiring here is)
-              ∙ ap (λ bare. weight g (handles_of bare) + weight g (H kids)) (changed-chain bared (renewed links kids) bared (bared-renewed links kids) place wiring))
-          (weight-flat g handles_of_kid olds ∙ weight-filter own (has_name gone) olds ∙ ap (λ n. n + weight own (staying gone olds)) (sym (weight-flat g handles_of_kid (going gone olds))) ∙ ap (λ n. weight g (H (going gone olds)) + n) (sym (weight-flat g handles_of_kid (staying gone olds))))
-          (weight-flat g handles_of_kid kids ∙ both own ∙ ap (λ n. n + weight own (staying gone olds)) (sym (weight-flat g handles_of_kid fresh)) ∙ ap (λ n. weight g (H fresh) + n) (sym (weight-flat g handles_of_kid (staying gone olds))))
+      (handles-split place g wiring ∙ ap (λ kids. weight g (handles_of (changed place bared wiring)) + weight g (H kids)) (kids-there place wiring here is))
+      (handles-split place g after ∙ ap (λ kids. weight g (handles_of (changed place bared after)) + weight g (H kids)) (kids-given links kids place wiring here is)
+      ∙ ap (λ bare. weight g (handles_of bare) + weight g (H kids)) (changed-chain bared (renewed links kids) bared (bared-renewed links kids) place wiring))
+      (weight-flat g handles_of_kid olds ∙ weight-filter own (has_name gone) olds ∙ ap (λ n. n + weight own (staying gone olds)) (sym (weight-flat g handles_of_kid (going gone olds))) ∙ ap (λ n. weight g (H (going gone olds)) + n) (sym (weight-flat g handles_of_kid (staying gone olds))))
+      (weight-flat g handles_of_kid kids ∙ both own ∙ ap (λ n. n + weight own (staying gone olds)) (sym (weight-flat g handles_of_kid fresh)) ∙ ap (λ n. weight g (H fresh) + n) (sym (weight-flat g handles_of_kid (staying gone olds))))
 
   at-most-one : (handle : Handle) → count (is_same_handle handle) (handles_of wiring) + count (is_same_handle handle) (H fresh) ≤ 1
   at-most-one handle = subst (λ n. n ≤ 1) (weight-append (counted (is_same_handle handle)) (handles_of wiring) (H fresh)) (distinct handle)
@@ -100,22 +100,22 @@ module _ (place : List Name) (gone : List Name) (links : List Link) (kids fresh 
   net-after : AllByRecursion (λ (own : Wiring). is_same_handle (out-Wiring own).me me ≡ true) (nets_at place after)
   net-after =
       subst (AllByRecursion (λ (own : Wiring). is_same_handle (out-Wiring own).me me ≡ true))
-          (sym (place-after (λ own. own ∷ []) (λ own. renewed links kids own ∷ []) (renewed links kids) (λ own. refl) place wiring
-              ∙ place-nets (λ own. renewed links kids own ∷ []) place wiring ∙ ap (flat_map (λ own. renewed links kids own ∷ [])) is))
-          (ap (λ (z : Wiring-F WiredKid Wiring). is_same_handle z.me me) (out-roll-Wiring (record (out-Wiring here) { links = links; kids = kids })) ∙ same-self me, tt)
+      (sym (place-after (λ own. own ∷ []) (λ own. renewed links kids own ∷ []) (renewed links kids) (λ own. refl) place wiring
+      ∙ place-nets (λ own. renewed links kids own ∷ []) place wiring ∙ ap (flat_map (λ own. renewed links kids own ∷ [])) is))
+      (ap (λ (z : Wiring-F WiredKid Wiring). is_same_handle z.me me) (out-roll-Wiring (record (out-Wiring here) { links = links; kids = kids })) ∙ same-self me, tt)
 
   pub bound-before : (net : Ways) → length (touched net place (going gone olds) wiring) ≤ count (is_touched me (handles_of after)) (routes_in net wiring)
   bound-before net =
       part-of _ _ _ _ (touched-before (counted (is_touched me (handles_of after))) net place gone wiring here is)
-          (all-counted (is_touched me (handles_of after)) (touched net place (going gone olds) wiring)
-              (each-append _ (through net place wiring) (inside (going gone olds))
-                  (each-weaker (RoutePasses me) _ (λ route uses. touched-uses me (handles_of after) route uses) (through net place wiring) (through-passes me net place wiring net-before))
-                  (each-weaker _ _ (λ route known. touched-source me (handles_of after) route (gone-unknown route.source known)) (inside (going gone olds)) (inside-known (going gone olds)))))
+      (all-counted (is_touched me (handles_of after)) (touched net place (going gone olds) wiring)
+      (each-append _ (through net place wiring) (inside (going gone olds))
+      (each-weaker (RoutePasses me) _ (λ route uses. touched-uses me (handles_of after) route uses) (through net place wiring) (through-passes me net place wiring net-before))
+      (each-weaker _ _ (λ route known. touched-source me (handles_of after) route (gone-unknown route.source known)) (inside (going gone olds)) (inside-known (going gone olds)))))
 
   pub bound-after : (net : Ways) → length (touched net place fresh after) ≤ count (is_touched me (handles_of wiring)) (routes_in net after)
   bound-after net =
       part-of _ _ _ _ (touched-after (counted (is_touched me (handles_of wiring))) net place links kids (staying gone olds) fresh wiring here is both)
-          (all-counted (is_touched me (handles_of wiring)) (touched net place fresh after)
-              (each-append _ (through net place after) (inside fresh)
-                  (each-weaker (RoutePasses me) _ (λ route uses. touched-uses me (handles_of wiring) route uses) (through net place after) (through-passes me net place after net-after))
-                  (each-weaker _ _ (λ route known. touched-source me (handles_of wiring) route (fresh-unknown route.source known)) (inside fresh) (inside-known fresh))))
+      (all-counted (is_touched me (handles_of wiring)) (touched net place fresh after)
+      (each-append _ (through net place after) (inside fresh)
+      (each-weaker (RoutePasses me) _ (λ route uses. touched-uses me (handles_of wiring) route uses) (through net place after) (through-passes me net place after net-after))
+      (each-weaker _ _ (λ route known. touched-source me (handles_of wiring) route (fresh-unknown route.source known)) (inside fresh) (inside-known fresh))))

@@ -15,7 +15,7 @@ use Rattle.dsde_routes_wiring.specs.declared.wiring.Wiring.{Wiring}
 use Rattle.dsde_routes_wiring.specs.declared.wiring.WiredKid.TheViews.{out-Wiring, out-WiredKid}
 use Rattle.dsde_routes_wiring.specs.Side.{near, far}
 use Rattle.dsde_routes_wiring.specs.Routes.{Step, Way, Route, Ways, Around, Inner, Numbered, step_from, numbered, links_of, around_of, within, no_ways, is_border, extended, met, crossed, crossed_by, crossing, ways_by, net_ways, at_part, at_end, of_kid, inner_of, inner_of_kid}
-use Rattle.dsde_routes_wiring.specs.Places.{changed, bared, nets_at, kid_at, below_at, passing, passing_kid, passing_below, nothing, only, crossed_passing, routes_passing, through}
+use Rattle.dsde_routes_wiring.specs.Places.{changed, bared, nets_at, kid_at, below_at, passing, passing_kid, passing_below, nothing, only, crossed_between, routes_passing, through}
 use Rattle.dsde_routes_wiring.specs.Wired.{is_same_handle}
 use Rattle.dsde_routes_wiring.specs.Touched.{passes, uses}
 use Rattle.dsde_repair_laws.proofs.Opens.{inner-is}
@@ -50,26 +50,26 @@ module _ (m : Handle) where
   crossed-own : (link : Numbered) (befores afters : List Way) → Own link → AllByRecursion RoutePasses (crossed link befores afters)
   crossed-own link befores afters is =
       each-flat RoutePasses (λ before. map (λ after. met (extended Out link before) after) afters) befores
-          (each-of _ (λ before. each-map RoutePasses (λ after. met (extended Out link before) after) afters
-              (each-of _ (λ after. any-right test after.steps (extended Out link before).steps (first-step Out link before is)) afters)) befores)
+      (each-of _ (λ before. each-map RoutePasses (λ after. met (extended Out link before) after) afters
+      (each-of _ (λ after. any-right test after.steps (extended Out link before).steps (first-step Out link before is)) afters)) befores)
 
   crossed-before : (link : Numbered) (befores afters : List Way) → AllByRecursion WayPasses befores → AllByRecursion RoutePasses (crossed link befores afters)
   crossed-before link befores afters each =
       each-flat RoutePasses (λ before. map (λ after. met (extended Out link before) after) afters) befores
-          (each-weaker WayPasses _ (λ before is. each-map RoutePasses (λ after. met (extended Out link before) after) afters
-              (each-of _ (λ after. any-right test after.steps (extended Out link before).steps (more-steps Out link before is)) afters)) befores each)
+      (each-weaker WayPasses _ (λ before is. each-map RoutePasses (λ after. met (extended Out link before) after) afters
+      (each-of _ (λ after. any-right test after.steps (extended Out link before).steps (more-steps Out link before is)) afters)) befores each)
 
   crossed-after : (link : Numbered) (befores afters : List Way) → AllByRecursion WayPasses afters → AllByRecursion RoutePasses (crossed link befores afters)
   crossed-after link befores afters each =
       each-flat RoutePasses (λ before. map (λ after. met (extended Out link before) after) afters) befores
-          (each-of _ (λ before. each-map RoutePasses (λ after. met (extended Out link before) after) afters
-              (each-weaker WayPasses _ (λ after is. any-left test after.steps (extended Out link before).steps is) afters each)) befores)
+      (each-of _ (λ before. each-map RoutePasses (λ after. met (extended Out link before) after) afters
+      (each-weaker WayPasses _ (λ after is. any-left test after.steps (extended Out link before).steps is) afters each)) befores)
 
   -- over the links of the network itself
   here-ways : (around : Around) (links : List Numbered) → AllByRecursion Own links → (side : Side) (port : ℕ) → AllByRecursion WayPasses (net_ways around links side port)
   here-ways around links own side port =
       each-flat WayPasses (ways_by side around port) links
-          (each-weaker Own _ (λ link is. each-if WayPasses (is_border port (near side link.1)) _ (each-map WayPasses (extended side link) _ (each-of _ (λ way. first-step side link way is) _))) links own)
+      (each-weaker Own _ (λ link is. each-if WayPasses (is_border port (near side link.1)) _ (each-map WayPasses (extended side link) _ (each-of _ (λ way. first-step side link way is) _))) links own)
 
   pub here-crossing : (around : Around) (links : List Numbered) → AllByRecursion Own links → AllByRecursion RoutePasses (crossing around links)
   here-crossing around links own =
@@ -82,13 +82,19 @@ module _ (m : Handle) where
   above-ways : (around : Around) → AllPass around → (links : List Numbered) (side : Side) (port : ℕ) → AllByRecursion WayPasses (net_ways around links side port)
   above-ways around all links side port =
       each-flat WayPasses (ways_by side around port) links
-          (each-of _ (λ link. each-if WayPasses (is_border port (near side link.1)) _ (each-map WayPasses (extended side link) _ (each-weaker WayPasses _ (λ way is. more-steps side link way is) _ (all side (far side link.1))))) links)
+      (each-of _ (λ link. each-if WayPasses (is_border port (near side link.1)) _ (each-map WayPasses (extended side link) _ (each-weaker WayPasses _ (λ way is. more-steps side link way is) _ (all side (far side link.1))))) links)
 
-  above-crossing : (passing whole past : Around) → AllPass passing → (links : List Numbered) → AllByRecursion RoutePasses (flat_map (crossed_passing passing whole past) links)
-  above-crossing passing whole past all links =
-      each-flat RoutePasses (crossed_passing passing whole past) links
-          (each-of _ (λ link. each-append RoutePasses (crossed link (at_end Out passing link.1.from) (at_end Into whole link.1.to)) (crossed link (at_end Out past link.1.from) (at_end Into passing link.1.to))
-              (crossed-before link (at_end Out passing link.1.from) (at_end Into whole link.1.to) (all Out link.1.from)) (crossed-after link (at_end Out past link.1.from) (at_end Into passing link.1.to) (all Into link.1.to))) links)
+  above-crossing : (passing whole past : Around) → AllPass passing → (links : List Numbered) (rest : List Route) → AllByRecursion RoutePasses rest →
+      AllByRecursion RoutePasses (flat_map (crossed_between passing whole) links ++ (flat_map (crossed_between past passing) links ++ rest))
+  above-crossing passing whole past all links rest others =
+      let outs : AllByRecursion RoutePasses (flat_map (crossed_between passing whole) links) =
+      each-flat RoutePasses (crossed_between passing whole) links
+      (each-of _ (λ link. crossed-before link (at_end Out passing link.1.from) (at_end Into whole link.1.to) (all Out link.1.from)) links) in
+      let ins : AllByRecursion RoutePasses (flat_map (crossed_between past passing) links) =
+      each-flat RoutePasses (crossed_between past passing) links
+      (each-of _ (λ link. crossed-after link (at_end Out past link.1.from) (at_end Into passing link.1.to) (all Into link.1.to)) links) in
+      each-append RoutePasses (flat_map (crossed_between passing whole) links) (flat_map (crossed_between past passing) links ++ rest) outs
+      (each-append RoutePasses (flat_map (crossed_between past passing) links) rest ins others)
 
   record IsPassed (inner : Inner) : Type 0 where
     ways : (side : Side) (port : ℕ) → AllByRecursion WayPasses (inner.ways side port)
@@ -127,7 +133,7 @@ module _ (m : Handle) where
   kid-routes : (kids : List (Name × Inner)) → AllByRecursion (λ (kid : Name × Inner). IsPassed kid.1) kids → AllByRecursion RoutePasses (flat_map (λ (kid : Name × Inner). kid.1.routes) kids)
   kid-routes kids are =
       each-flat RoutePasses (λ (kid : Name × Inner). kid.1.routes) kids
-          (each-weaker (λ (kid : Name × Inner). IsPassed kid.1) (λ (kid : Name × Inner). AllByRecursion RoutePasses kid.1.routes) (λ kid is. is.routes) kids are)
+      (each-weaker (λ (kid : Name × Inner). IsPassed kid.1) (λ (kid : Name × Inner). AllByRecursion RoutePasses kid.1.routes) (λ kid is. is.routes) kids are)
 
   passes-at : (place : List Name) → PassesAt place
   passes-at [] wiring are =
@@ -142,8 +148,8 @@ module _ (m : Handle) where
       let each : AllByRecursion (λ (kid : Name × Inner). IsPassed kid.1) kids = kids-pass name place (passes-at place) (out-Wiring wiring).kids are in
       record {
         ways = above-ways (only kids) (all-pass kids each) (links_of wiring);
-        routes = each-append RoutePasses (flat_map (crossed_passing (only kids) (around_of no_ways wiring) (around_of no_ways (changed (name ∷ place) bared wiring))) (links_of wiring)) (flat_map (λ (kid : Name × Inner). kid.1.routes) kids)
-            (above-crossing (only kids) (around_of no_ways wiring) (around_of no_ways (changed (name ∷ place) bared wiring)) (all-pass kids each) (links_of wiring)) (kid-routes kids each);
+        routes = above-crossing (only kids) (around_of no_ways wiring) (around_of no_ways (changed (name ∷ place) bared wiring)) (all-pass kids each) (links_of wiring)
+            (flat_map (λ (kid : Name × Inner). kid.1.routes) kids) (kid-routes kids each);
       }
 
   pub through-passes : (net : Ways) (place : List Name) (wiring : Wiring) → AllByRecursion IsOf (nets_at place wiring) → AllByRecursion RoutePasses (through net place wiring)
@@ -151,5 +157,5 @@ module _ (m : Handle) where
   through-passes net (name ∷ place) wiring are =
       let kids : List (Name × Inner) = map (passing_kid name (passing place)) (out-Wiring wiring).kids in
       let each : AllByRecursion (λ (kid : Name × Inner). IsPassed kid.1) kids = kids-pass name place (passes-at place) (out-Wiring wiring).kids are in
-      each-append RoutePasses (flat_map (crossed_passing (only kids) (around_of net wiring) (around_of net (changed (name ∷ place) bared wiring))) (links_of wiring)) (flat_map (λ (kid : Name × Inner). kid.1.routes) kids)
-          (above-crossing (only kids) (around_of net wiring) (around_of net (changed (name ∷ place) bared wiring)) (all-pass kids each) (links_of wiring)) (kid-routes kids each)
+      above-crossing (only kids) (around_of net wiring) (around_of net (changed (name ∷ place) bared wiring)) (all-pass kids each) (links_of wiring)
+      (flat_map (λ (kid : Name × Inner). kid.1.routes) kids) (kid-routes kids each)

@@ -1,6 +1,7 @@
 //! The laws of routes.
 
 ghost use Rattle.std.specs.Prelude.{◌≡◌, ℕ, ◌+◌, ◌≤◌, List, [], ◌∷◌, ◌++◌, ◌&&◌, ◌||◌, not, map, length};
+ghost use Rattle.std.specs.FinSet as set;
 ghost use Rattle.std.specs.List.{flat_map, AllByRecursion};
 ghost use Rattle.dsde_values.specs.declared.name.Name.{Name};
 ghost use Rattle.dsde_structure.specs.declared.plan.Link.{Link};
@@ -15,8 +16,8 @@ ghost use Rattle.dsde_routes_wiring.specs.Rows.{among, is_same_row};
 ghost use Rattle.dsde_routes_wiring.specs.Gathered.{gathered};
 ghost use Rattle.dsde_repair_laws.specs.Bounds.{AreDistinct, AreNamed, count, counted};
 ghost use Rattle.dsde_repair_laws.specs.Weights.{weight};
-ghost use Rattle.dsde_routes_wiring.specs.Flatten.{rows};
-ghost use Rattle.dsde_routes_wiring.specs.Wired.{LeadsInside};
+ghost use Rattle.dsde_routes_wiring.specs.Flatten.{flatten, rows};
+ghost use Rattle.dsde_routes_wiring.specs.Wired.{AreWired, LeadsInside};
 
 use dsde_values::orders_are_total;
 
@@ -55,14 +56,15 @@ pub fn rows_follow_a_change()
         ((h : WiredKid → ℕ) → weight h kids ≡ weight h fresh + weight h (staying gone (out-Wiring here).kids)) → AreNamed wiring → AreDistinct (handles_of wiring ++ flat_map handles_of_kid fresh) → (row : Row) →
         among (routed (changed place (renewed links kids) wiring)) row
         ≡ among (map row_of (through (own (out-Wiring wiring).me) place (changed place (renewed links kids) wiring))) row
-          || (among (map row_of (inside fresh)) row
-          || (among (routed wiring) row && not (among (map row_of (through (own (out-Wiring wiring).me) place wiring)) row) && not (among (map row_of (inside (going gone (out-Wiring here).kids))) row))) }
+        || (among (map row_of (inside fresh)) row
+        || (among (routed wiring) row && not (among (map row_of (through (own (out-Wiring wiring).me) place wiring)) row) && not (among (map row_of (inside (going gone (out-Wiring here).kids))) row))) }
 {}
 
 /// Where names are distinct in each network, and no link leads from the root's own ports to them, the rows
-/// of a wiring are those of its routes, each as often.
+/// of a wiring are those of its routes, each as often; and so the set of its rows has those of its routes.
 pub fn rows_are_routes()
-    ensures { (g : Row → ℕ) (wiring : Wiring) → AreNamed wiring → AllByRecursion LeadsInside (out-Wiring wiring).links → weight g (rows wiring) ≡ weight g (routed wiring) }
+    ensures sets { (wiring : Wiring) → AreWired wiring → (row : Row) → set.contains (flatten wiring) row ≡ among (routed wiring) row }
+    ensures rows { (g : Row → ℕ) (wiring : Wiring) → AreNamed wiring → AllByRecursion LeadsInside (out-Wiring wiring).links → weight g (rows wiring) ≡ weight g (routed wiring) }
 {
     orders_are_total();
 }

@@ -3,4 +3,7 @@
 
 mod laws;
 
-pub use laws::{a_change_leaves_the_others, a_change_touches_few, routes_are_gathered, rows_are_routes, rows_follow_a_change};
+pub use laws::{
+    a_change_leaves_the_others, a_change_touches_few, routes_are_gathered, rows_are_routes,
+    rows_follow_a_change,
+};

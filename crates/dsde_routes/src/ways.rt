@@ -7,49 +7,16 @@ ghost use Rattle.dsde_routes.specs.Passing.{at_port, ways_in};
 use dsde_bank::Handle;
 use dsde_lists::Memory;
 use dsde_routes_wiring::{Chain, Passing, Rank, Way};
-use dsde_structure::{Link, Via};
-use dsde_values::{Seq, Value, copy_value};
+use dsde_structure::Link;
+use dsde_values::Seq;
 use std::alloc::Global;
-
-/// A key of a translation equal to this one.
-fn copy_key(alloc: Global, key: &Option<Value>) -> Result<Option<Value>, Memory>
-    ensures { IfOk result (λ copy. copy ≡ key.now) }
-{
-    match key {
-        Some(value) => Ok(Some(copy_value(alloc, value)?)),
-        None => Ok(None),
-    }
-}
-
-/// A translation equal to this one.
-fn copy_via(alloc: Global, via: &Via) -> Result<Via, Memory>
-    ensures { IfOk result (λ copy. copy ≡ via.now) }
-{
-    Ok(Via {
-        id: via.id,
-        key: copy_key(alloc, &via.key)?,
-    })
-}
-
-/// A chain equal to this one.
-fn copy_chain(alloc: Global, chain: &Chain) -> Result<Chain, Memory>
-    ensures { IfOk result (λ copy. copy ≡ chain.now) }
-{
-    let mut copy = Chain::new(alloc);
-    for via in chain.as_slice() {
-        copy.push(copy_via(alloc, via)?)?;
-    }
-    Ok(copy)
-}
 
 /// A way that goes on over the link of this number.
 pub fn go_on(alloc: Global, number: usize, link: &Link, way: &Way) -> Result<Way, Memory>
     ensures { IfOk result (λ on. on ≡ onward number link.now way.now) }
 {
-    let mut chain = copy_chain(alloc, &way.chain)?;
-    if let Some(via) = &link.via {
-        chain.push(copy_via(alloc, via)?)?;
-    }
+    let mut chain = way.chain.copy(alloc)?;
+    chain.append_link(alloc, link)?;
     Ok(Way {
         source: way.source,
         port: way.port,
@@ -109,6 +76,6 @@ pub fn copy_way(alloc: Global, way: &Way) -> Result<Way, Memory>
         source: way.source,
         port: way.port,
         rank: way.rank.copy(alloc)?,
-        chain: copy_chain(alloc, &way.chain)?,
+        chain: way.chain.copy(alloc)?,
     })
 }

@@ -78,10 +78,8 @@ abbrev pub passing_kid : Name → (Wiring → Inner) → WiredKid → Name × In
 passing_kid name passing kid =
     ((out-WiredKid kid).name, if is_same_name (out-WiredKid kid).name name then passing_below passing (out-WiredKid kid).below else nothing)
 
-abbrev pub crossed_passing : Around → Around → Around → Numbered → List Route
-crossed_passing passing all past link =
-    crossed link (at_end Out passing link.1.from) (at_end Into all link.1.to)
-    ++ crossed link (at_end Out past link.1.from) (at_end Into passing link.1.to)
+abbrev pub crossed_between : Around → Around → Numbered → List Route
+crossed_between befores afters link = crossed link (at_end Out befores link.1.from) (at_end Into afters link.1.to)
 
 abbrev pub only : List (Name × Inner) → Around
 only kids = record { net = no_ways; boss = no_ways; kids = kids }
@@ -89,7 +87,7 @@ only kids = record { net = no_ways; boss = no_ways; kids = kids }
 -- the routes that pass, by what passes in the components, all, and what is left where the place is bare
 abbrev pub routes_passing : List (Name × Inner) → Around → Around → List Numbered → List Route
 routes_passing kids all past links =
-    flat_map (crossed_passing (only kids) all past) links ++ flat_map (λ kid. kid.1.routes) kids
+    flat_map (crossed_between (only kids) all) links ++ (flat_map (crossed_between past (only kids)) links ++ flat_map (λ kid. kid.1.routes) kids)
 
 abbrev pub passing : List Name → Wiring → Inner
 passing [] wiring = record { ways = (inner_of wiring).ways; routes = crossing (around_of no_ways wiring) (links_of wiring) }

@@ -1,9 +1,10 @@
 //! Short lists, which mostly take no memory of their own.
 
-ghost use Rattle.std.specs.Prelude.{◌≡◌, [], ◌∷◌, ◌++◌, OnOk, OnErr, IfOk};
+ghost use Rattle.std.specs.Prelude.{◌≡◌, [], ◌∷◌, ◌++◌, OnOk, OnErr, IfOk, option_to_list};
 
 use dsde_lists::Memory;
-use dsde_structure::Via;
+use dsde_structure::{Link, Via};
+use dsde_values::{Value, copy_value};
 use smallvec::SmallVec;
 use std::alloc::Global;
 use std::marker::Model;
@@ -58,6 +59,25 @@ impl Rank {
         numbers.insert(0, number)?;
         Ok(Rank { numbers })
     }
+
+    /// Adds a number at the end. Without memory the rank stays as it was.
+    pub fn push(&mut self, number: usize) -> Result<(), Memory>
+        ensures ok { OnOk result (self.new ≡ self.old ++ number ∷ []) }
+        ensures err { OnErr result (self.new ≡ self.old) }
+    {
+        self.numbers.push(number)?;
+        Ok(())
+    }
+
+    /// Adds numbers at the end.
+    pub fn append(&mut self, more: &[usize]) -> Result<(), Memory>
+        ensures { OnOk result (self.new ≡ self.old ++ more.now) }
+    {
+        for number in more {
+            self.push(*number)?;
+        }
+        Ok(())
+    }
 }
 
 /// The translations of a route, from its source on.
@@ -103,4 +123,53 @@ impl Chain {
         self.vias.push(via)?;
         Ok(())
     }
+
+    /// A chain equal to this one.
+    pub fn copy(&self, alloc: Global) -> Result<Chain, Memory>
+        ensures { IfOk result (λ chain. chain ≡ self.now) }
+    {
+        let mut chain = Chain::new(alloc);
+        chain.append(alloc, self.as_slice())?;
+        Ok(chain)
+    }
+
+    /// Adds translations at the end.
+    pub fn append(&mut self, alloc: Global, more: &[Via]) -> Result<(), Memory>
+        ensures { OnOk result (self.new ≡ self.old ++ more.now) }
+    {
+        for via in more {
+            self.push(copy_via(alloc, via)?)?;
+        }
+        Ok(())
+    }
+
+    /// Adds the translation of a link at the end, if it has one.
+    pub fn append_link(&mut self, alloc: Global, link: &Link) -> Result<(), Memory>
+        ensures { OnOk result (self.new ≡ self.old ++ option_to_list link.now.via) }
+    {
+        match &link.via {
+            Some(via) => self.push(copy_via(alloc, via)?),
+            None => Ok(()),
+        }
+    }
+}
+
+/// A key of a translation equal to this one.
+fn copy_key(alloc: Global, key: &Option<Value>) -> Result<Option<Value>, Memory>
+    ensures { IfOk result (λ copy. copy ≡ key.now) }
+{
+    match key {
+        Some(value) => Ok(Some(copy_value(alloc, value)?)),
+        None => Ok(None),
+    }
+}
+
+/// A translation equal to this one.
+fn copy_via(alloc: Global, via: &Via) -> Result<Via, Memory>
+    ensures { IfOk result (λ copy. copy ≡ via.now) }
+{
+    Ok(Via {
+        id: via.id,
+        key: copy_key(alloc, &via.key)?,
+    })
 }

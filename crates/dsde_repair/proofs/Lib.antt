@@ -1,0 +1,5 @@
+pub mod Changing
+pub mod Crossings
+pub mod Ordered
+pub mod Passages
+pub mod Thoroughfares

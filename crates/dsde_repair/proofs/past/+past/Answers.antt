@@ -1,0 +1,69 @@
+use Rattle.std.proofs.Common.{rules, ◌≡◌, ◌<◌, ◌≤◌, [], false, ◌++◌, length, get_or, append-nil, map, sym, ap, ◌∙◌, subst, arith, IfOk, OnOk}
+use Rattle.std.specs.List.{flat_map, AllByRecursion}
+use Rattle.dsde_routes_wiring.specs.declared.wiring.WiredKid.TheViews.{out-Wiring}
+use Rattle.dsde_routes_wiring.specs.Routes.{is_border, no_ways}
+use Rattle.dsde_repair_walks.specs.Found.{InOrder, is_named}
+use Rattle.dsde_repair_walks.proofs.Finding.{kids-in-order}
+use Rattle.dsde_repair_walks.proofs.Serving.{link-none, link-some, numbers-done}
+use Rattle.dsde_repair_walks.specs.Walks.{link_at}
+use Rattle.dsde_repair_walks.proofs.Walking.{ok-if}
+use Rattle.dsde_repair_walks.specs.Found.{IsOne}
+use Rattle.dsde_repair.specs.Walks.{over_link, past_around, at_ways}
+use Rattle.dsde_repair.proofs.Changing.{ok-map}
+use Rattle.dsde_repair.proofs.Passages.{link-border, few-over, past-none, past-one, past-other, past-named, past-here, past-above, one-wired}
+use Rattle.dsde_repair.proofs.past.+past.Goals as goal
+
+pub past_numbered-returns-in-None : goal.past_numbered-returns-in-None
+past_numbered-returns-in-None t c =
+    sym (ap (λ more. c.args.ways.now ++ more) (link-none (over_link c.args.side (past_around no_ways c.args.name.now c.args.rest.now c.args.net.now) (out-Wiring c.args.net.now).me c.args.port) (out-Wiring c.args.net.now).links c.args.number
+    (subst (λ links. length links ≤ c.args.number) c.as_slice.ensures c.in-None.ensures.lookup.3)) ∙ append-nil c.args.ways.now)
+
+pub past_numbered-returns-in-Some : goal.past_numbered-returns-in-Some
+past_numbered-returns-in-Some t c =
+    ok-map c.past_over.result _ _
+    (λ is. is ∙ ap (λ more. c.args.ways.now ++ more) (sym (link-some (over_link c.args.side (past_around no_ways c.args.name.now c.args.rest.now c.args.net.now) (out-Wiring c.args.net.now).me c.args.port) (out-Wiring c.args.net.now).links c.args.number c.in-Some.link.now
+    (subst (λ links. c.args.number < length links) c.as_slice.ensures c.in-Some.ensures.lookup.3.0)
+    (c.in-Some.ensures.lookup.1 ∙ ap (λ links. get_or links c.args.number c.in-Some.link.now) c.as_slice.ensures))))
+    c.past_over.ensures
+
+pub past_above-returns : goal.past_above-returns
+past_above-returns t c =
+    let around = past_around no_ways c.args.name.now c.args.rest.now c.args.net.now in
+    numbers-done (link_at (over_link c.args.side around (out-Wiring c.args.net.now).me c.args.port) (out-Wiring c.args.net.now).links) c.at-numbers.result.now c.loop-number.number-index c.loop-number.ways [] c.loop-number-test.false c.loop-number.invariant
+    ∙ ap (flat_map (link_at (over_link c.args.side around (out-Wiring c.args.net.now).me c.args.port) (out-Wiring c.args.net.now).links)) c.at-numbers.ensures
+    ∙ few-over c.args.side around c.args.net.now c.args.port
+
+pub past_over-returns : goal.past_over-returns
+past_over-returns t c =
+    let A = past_around no_ways c.args.name.now c.args.rest.now c.args.net.now in
+    ok-map c.extend_all.result _ _
+    (λ is. is ∙ ap (λ more. c.args.ways.now ++ more)
+    (link-border c.args.side A (out-Wiring c.args.net.now).me c.args.port c.args.number c.args.link.now c.in_ok-more.more
+    (ap (is_border c.args.port) (sym c.near.ensures) ∙ sym c.if-not-is_border_end.ensures)
+    (c.in_ok-more.ensures ∙ ap (at_ways c.args.side A) c.far.ensures)))
+    c.extend_all.ensures
+
+pub past_end-find_kid-requires : goal.past_end-find_kid-requires
+past_end-find_kid-requires t c = subst InOrder (sym c.as_slice.ensures) (kids-in-order c.args.net.now c.requires)
+
+pub past_end-past_kid-requires : goal.past_end-past_kid-requires
+past_end-past_kid-requires t c =
+    (search rules, one-wired c.args.net.now c.requires c.in-Kid.wanted c.as_slice.result.now c.as_slice.ensures c.in-Some.kid.now c.in-Some.ensures)
+
+pub past_end-returns-in-None : goal.past_end-returns-in-None
+past_end-returns-in-None t c =
+    c.new-in-None.ensures ∙ sym (past-none no_ways c.args.side c.args.name.now c.args.rest.now c.args.net.now c.args.end.now c.in-Kid.wanted c.in-Kid.is
+    (subst (AllByRecursion (λ kid. is_named c.in-Kid.wanted kid ≡ false)) c.as_slice.ensures c.in-None.ensures))
+
+pub past_end-returns-in-Some : goal.past_end-returns-in-Some
+past_end-returns-in-Some t c =
+    ok-if c.past_kid.result _ _
+    (λ ways is. is ∙ sym (past-one no_ways c.args.side c.args.name.now c.args.rest.now c.args.net.now c.args.end.now c.in-Kid.wanted c.in-Kid.is c.in-Some.kid.now
+    (subst (λ kids. IsOne c.in-Kid.wanted kids c.in-Some.kid.now) c.as_slice.ensures c.in-Some.ensures)))
+    c.past_kid.ensures
+
+pub past_ways-returns-in-Some : goal.past_ways-returns-in-Some
+past_ways-returns-in-Some t c =
+    ok-if c.past_above.result _ _
+    (λ ways is. is ∙ sym (past-above c.args.side c.args.net.now c.args.place.now c.in-Some.rest.now c.in-Some.name.now c.args.port c.in-Some.ensures.cases.0))
+    c.past_above.ensures

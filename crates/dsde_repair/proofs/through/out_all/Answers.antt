@@ -1,0 +1,21 @@
+use Rattle.std.proofs.Common.{◌≡◌, ◌<◌, ◌≤◌, ◌++◌, length, get_or, append-nil, ap, sym, subst, ◌∙◌}
+use Rattle.std.specs.List.{flat_map}
+use Rattle.dsde_routes_wiring.specs.declared.wiring.WiredKid.TheViews.{out-Wiring}
+use Rattle.dsde_routes_wiring.specs.Places.{only}
+use Rattle.dsde_repair_walks.specs.Walks.{beyond, link_at}
+use Rattle.dsde_repair_walks.proofs.Serving.{link-none, link-some, numbers-done}
+use Rattle.dsde_repair.specs.Walks.{between_link, open_around, passing_kids, past_around}
+use Rattle.dsde_repair.proofs.Changing.{ok-map}
+use Rattle.dsde_repair.proofs.Thoroughfares.{few-out, few-into}
+use Rattle.dsde_values.specs.declared.name.Name.{Name}
+use Rattle.dsde_structure.specs.declared.plan.Part.TheVariants as part
+use Rattle.dsde_routes_wiring.specs.Numbers.{numbers_at}
+use Rattle.dsde_routes_wiring.specs.declared.side.Side.TheVariants.{Out, Into}
+use Rattle.dsde_repair.proofs.through.out_all.Goals as goal
+
+pub returns : goal.returns
+returns c =
+    numbers-done (link_at (between_link (only (passing_kids c.args.name.now c.args.rest.now (out-Wiring c.args.net.now).kids)) (open_around c.args.whole c.args.net.now) (out-Wiring c.args.net.now).me) (out-Wiring c.args.net.now).links) c.at-numbers.result.now c.loop-number.number-index c.loop-number.rows c.args.rows.now c.loop-number-test.false c.loop-number.invariant
+    ∙ ap (λ more. c.args.rows.now ++ more)
+    (ap (flat_map (link_at (between_link (only (passing_kids c.args.name.now c.args.rest.now (out-Wiring c.args.net.now).kids)) (open_around c.args.whole c.args.net.now) (out-Wiring c.args.net.now).me) (out-Wiring c.args.net.now).links)) (c.at-numbers.ensures ∙ ap (λ (own : Name). numbers_at Into (part.Kid own) (out-Wiring c.args.net.now).links) c.in_ok-copy.ensures)
+    ∙ few-out c.args.name.now c.args.rest.now (open_around c.args.whole c.args.net.now) c.args.net.now)

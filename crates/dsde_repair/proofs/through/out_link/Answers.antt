@@ -1,0 +1,20 @@
+use Rattle.std.proofs.Common.{◌≡◌, ◌<◌, ◌≤◌, ◌++◌, length, get_or, append-nil, ap, sym, subst, ◌∙◌}
+use Rattle.std.specs.List.{flat_map}
+use Rattle.dsde_routes_wiring.specs.declared.wiring.WiredKid.TheViews.{out-Wiring}
+use Rattle.dsde_routes_wiring.specs.Places.{only}
+use Rattle.dsde_repair_walks.specs.Walks.{beyond, link_at}
+use Rattle.dsde_repair_walks.proofs.Serving.{link-none, link-some, numbers-done}
+use Rattle.dsde_repair.specs.Walks.{between_link, open_around, passing_kids, past_around}
+use Rattle.dsde_repair.proofs.Changing.{ok-map}
+use Rattle.dsde_repair.proofs.Thoroughfares.{link-between, none-before, none-after}
+use Rattle.dsde_repair.proofs.through.out_link.Goals as goal
+
+pub returns-then-is_empty : goal.returns-then-is_empty
+returns-then-is_empty c =
+    sym (ap (λ more. c.args.rows.now ++ more)
+    (none-before (only (passing_kids c.args.name.now c.args.rest.now (out-Wiring c.args.net.now).kids)) (open_around c.args.whole c.args.net.now) (out-Wiring c.args.net.now).me c.args.number c.args.link.now c.in_ok-passing.passing c.in_ok-passing.ensures (c.is_empty.ensures.0 c.if-is_empty.true))
+    ∙ append-nil c.args.rows.now)
+
+pub returns : goal.returns
+returns c =
+    ok-map c.cross.result _ _ (λ is. is ∙ ap (λ more. c.args.rows.now ++ more) (link-between (only (passing_kids c.args.name.now c.args.rest.now (out-Wiring c.args.net.now).kids)) (open_around c.args.whole c.args.net.now) (out-Wiring c.args.net.now).me c.args.number c.args.link.now c.in_ok-passing.passing c.as_slice.result.now c.in_ok-passing.ensures (c.as_slice.ensures ∙ c.in_ok-afters.ensures))) c.cross.ensures

@@ -1,0 +1,22 @@
+use Rattle.std.proofs.Common.{◌≡◌, ◌<◌, ◌≤◌, ◌++◌, length, get_or, append-nil, ap, sym, subst, ◌∙◌}
+use Rattle.std.specs.List.{flat_map}
+use Rattle.dsde_routes_wiring.specs.declared.wiring.WiredKid.TheViews.{out-Wiring}
+use Rattle.dsde_routes_wiring.specs.Places.{only}
+use Rattle.dsde_repair_walks.specs.Walks.{beyond, link_at}
+use Rattle.dsde_repair_walks.proofs.Serving.{link-none, link-some, numbers-done}
+use Rattle.dsde_repair.specs.Walks.{between_link, open_around, passing_kids, past_around}
+use Rattle.dsde_repair.proofs.Changing.{ok-map}
+use Rattle.dsde_repair.proofs.through.out_numbered.Goals as goal
+
+pub returns-in-None : goal.returns-in-None
+returns-in-None c =
+    sym (ap (λ more. c.args.rows.now ++ more) (link-none (between_link (only (passing_kids c.args.name.now c.args.rest.now (out-Wiring c.args.net.now).kids)) (open_around c.args.whole c.args.net.now) (out-Wiring c.args.net.now).me) (out-Wiring c.args.net.now).links c.args.number
+    (subst (λ links. length links ≤ c.args.number) c.as_slice.ensures c.in-None.ensures.lookup.3)) ∙ append-nil c.args.rows.now)
+
+pub returns-in-Some : goal.returns-in-Some
+returns-in-Some c =
+    ok-map c.out_link.result _ _
+    (λ is. is ∙ ap (λ more. c.args.rows.now ++ more) (sym (link-some (between_link (only (passing_kids c.args.name.now c.args.rest.now (out-Wiring c.args.net.now).kids)) (open_around c.args.whole c.args.net.now) (out-Wiring c.args.net.now).me) (out-Wiring c.args.net.now).links c.args.number c.in-Some.link.now
+    (subst (λ links. c.args.number < length links) c.as_slice.ensures c.in-Some.ensures.lookup.3.0)
+    (c.in-Some.ensures.lookup.1 ∙ ap (λ links. get_or links c.args.number c.in-Some.link.now) c.as_slice.ensures))))
+    c.out_link.ensures

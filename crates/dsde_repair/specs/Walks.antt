@@ -1,0 +1,55 @@
+-- What the walks of a change give.
+use Rattle.std.specs.Prelude.{◌≡◌, ℕ, Bool, true, false, if◌then◌else◌, List, [], ◌∷◌, ◌++◌, map, drop, slice_get, Option, Some, None}
+use Rattle.std.specs.List.{flat_map, enumerate_from}
+use Rattle.dsde_bank.specs.declared.handle.Handle.{Handle}
+use Rattle.dsde_values.specs.declared.name.Name.{Name}
+use Rattle.dsde_structure.specs.declared.plan.End.{End}
+use Rattle.dsde_structure.specs.declared.plan.Link.{Link}
+use Rattle.dsde_routes_wiring.specs.declared.row.Row.{Row}
+use Rattle.dsde_routes_wiring.specs.declared.side.Side.{Side}
+use Rattle.dsde_routes_wiring.specs.declared.wiring.WiredKid.{WiredKid}
+use Rattle.dsde_routes_wiring.specs.declared.wiring.Wiring.{Wiring}
+use Rattle.dsde_routes_wiring.specs.declared.wiring.WiredKid.TheViews.{out-Wiring, out-WiredKid}
+use Rattle.dsde_routes_wiring.specs.Routes.{Ways, Route, Around, Inner, row_of, no_ways, own, within, around_of, step_from, ways_by, at_end, crossed_by, inner_of_kid}
+use Rattle.dsde_routes_wiring.specs.Places.{bared, changed, kid_changed, only, passing, passing_kid, nothing, crossed_between}
+use Rattle.dsde_repair_walks.specs.declared.way.Way.{Way}
+use Rattle.dsde_repair_walks.specs.Walks.{ranked, beyond}
+
+-- link by link, from a number on
+abbrev pub from_number : {X : Type 0} → (ℕ × Link → List X) → List Link → ℕ → List X
+from_number each links number = flat_map each (enumerate_from number (drop number links))
+
+-- around the links of a network
+abbrev pub open_around : Bool → Wiring → Around
+open_around whole net = around_of (beyond whole (out-Wiring net).me) net
+
+-- by what passes in the components, and by what is left where the place is bare
+abbrev pub passing_kids : Name → List Name → List WiredKid → List (Name × Inner)
+passing_kids name rest kids = map (passing_kid name (passing rest)) kids
+
+abbrev pub past_kid : Name → List Name → WiredKid → Name × Inner
+past_kid name rest kid = inner_of_kid (kid_changed name (changed rest bared) kid)
+
+abbrev pub past_around : Ways → Name → List Name → Wiring → Around
+past_around beyond_net name rest net = within beyond_net (out-Wiring net).boss (map (past_kid name rest) (out-Wiring net).kids)
+
+abbrev pub over_link : Side → Around → Handle → ℕ → ℕ × Link → List Way
+over_link side around me port link = map ranked (ways_by side around port (step_from me link))
+
+abbrev pub crossed_link : Around → Handle → ℕ × Link → List Row
+crossed_link around me link = map row_of (crossed_by around (step_from me link))
+
+abbrev pub between_link : Around → Around → Handle → ℕ × Link → List Row
+between_link befores afters me link = map row_of (crossed_between befores afters (step_from me link))
+
+abbrev pub at_ways : Side → Around → End → List Way
+at_ways side around end = map ranked (at_end side around end)
+
+abbrev pub passing_kid_ways : Side → Name → List Name → WiredKid → ℕ → List Way
+passing_kid_ways side name rest kid port = map ranked ((passing_kid name (passing rest) kid).1.ways side port)
+
+abbrev pub past_kid_ways : Side → Name → List Name → WiredKid → ℕ → List Way
+past_kid_ways side name rest kid port = map ranked ((past_kid name rest kid).1.ways side port)
+
+abbrev pub kid_routes : List (Name × Inner) → List Route
+kid_routes kids = flat_map (λ kid. kid.1.routes) kids

@@ -1,0 +1,72 @@
+//! Components that go and stay, and rows that do.
+
+ghost use Rattle.std.specs.Prelude.{◌≡◌, ◌+◌, ◌≤◌, ◌&&◌, ◌||◌, not, ◌++◌, length, IfOk, OnOk};
+ghost use Rattle.dsde_routes_wiring.specs.declared.row.Row.{Row};
+ghost use Rattle.std.specs.FinSet as set;
+ghost use Rattle.dsde_structure.specs.Survival.{AreInOrder};
+ghost use Rattle.dsde_routes_wiring.specs.Places.{going, staying};
+ghost use Rattle.dsde_routes_wiring.specs.Rows.{among};
+
+use dsde_base::Steps;
+use dsde_lists::Memory;
+use dsde_repair_walks::{insert_all, is_among, remove_all};
+use dsde_routes_table::RouteTable;
+use dsde_routes_wiring::{Row, WiredKid};
+use dsde_values::{Name, Seq};
+use std::alloc::Global;
+use std::sync::ledger::Ledger;
+
+/// Components that go, and those that stay.
+#[derive(Drop)]
+pub struct Parted {
+    pub going: Seq<WiredKid>,
+    pub staying: Seq<WiredKid>,
+}
+
+/// Parts components by whether their names are among these.
+pub fn part(alloc: Global, kids: Seq<WiredKid>, gone: &[Name]) -> Result<Parted, Memory>
+    requires { AreInOrder gone.now }
+    ensures going { IfOk result (λ parted. parted.going ≡ going gone.now kids) }
+    ensures staying { IfOk result (λ parted. parted.staying ≡ staying gone.now kids) }
+{
+    let mut parted = Parted {
+        going: Seq::new(alloc),
+        staying: Seq::new(alloc),
+    };
+    for kid in kids.into_vec() {
+        if is_among(&kid, gone) {
+            parted.going.push(kid)?;
+        } else {
+            parted.staying.push(kid)?;
+        }
+    }
+    Ok(parted)
+}
+
+/// Components behind others.
+pub fn together(mut kids: Seq<WiredKid>, more: Seq<WiredKid>) -> Result<Seq<WiredKid>, Memory>
+    ensures { IfOk result (λ all. all ≡ kids ++ more) }
+{
+    for kid in more.into_vec() {
+        kids.push(kid)?;
+    }
+    Ok(kids)
+}
+
+/// Takes rows out of a table, and puts others in.
+pub fn exchange<L: Ledger>(
+    table: &mut RouteTable,
+    passing: &[Row],
+    going: &[Row],
+    coming: Seq<Row>,
+    passing_then: Seq<Row>,
+    changes: &mut Steps<L>,
+) -> Result<(), Memory>
+    ensures has { OnOk result ((row : Row) → set.contains table.new row ≡ among passing_then row || (among coming row || (set.contains table.old row && not (among passing.now row) && not (among going.now row)))) }
+    ensures tick { changes.new ≤ changes.old + (length passing.now + length going.now) + (length passing_then + length coming) }
+{
+    remove_all(table, passing, changes);
+    remove_all(table, going, changes);
+    insert_all(table, coming, changes)?;
+    insert_all(table, passing_then, changes)
+}

@@ -1,0 +1,79 @@
+//! Rows, kept while a network changes.
+
+ghost use Rattle.std.specs.Prelude.{◌≡◌, ◌+◌, ◌≤◌, List, [], ◌∷◌, ◌++◌, map, IsPermutation, OnOk};
+ghost use Rattle.std.specs.List.{flat_map, AllByRecursion, IsDistinct};
+ghost use Rattle.dsde_repair_laws.specs.Bounds.{count};
+ghost use Rattle.dsde_routes_wiring.specs.Wired.{AreWired, LeadsInside, is_same_handle};
+ghost use Rattle.dsde_structure.specs.Gather.{is_same_name};
+ghost use Rattle.dsde_structure.specs.Survival.{AreInOrder};
+ghost use Rattle.dsde_routes_wiring.specs.declared.wiring.WiredKid.{WiredKid};
+ghost use Rattle.dsde_routes_wiring.specs.declared.wiring.Wiring.{Wiring};
+ghost use Rattle.dsde_routes_wiring.specs.declared.wiring.WiredKid.TheViews.{out-Wiring};
+ghost use Rattle.dsde_routes_wiring.specs.Routes.{routes};
+ghost use Rattle.dsde_routes_wiring.specs.Places.{nets_at};
+ghost use Rattle.dsde_routes_wiring.specs.Touched.{handles_of, handles_of_kid, is_touched};
+ghost use Rattle.dsde_routes_wiring.specs.Flatten.{flatten};
+ghost use Rattle.dsde_repair_walks.specs.Found.{InOrder, name_of};
+ghost use Rattle.dsde_repair_walks.specs.Places.{IsBelowWired};
+ghost use Rattle.dsde_repair.specs.Change.{LeadsThere, kids_after, wiring_after};
+
+use crate::order::in_order;
+use crate::parts::{exchange, part};
+use crate::rows::inside_rows;
+use crate::through::passing_rows;
+use dsde_base::Steps;
+use dsde_lists::Memory;
+use dsde_repair_laws::{a_change_touches_few, rows_follow_a_change};
+use dsde_repair_walks::{renew, take_out};
+use dsde_routes_table::RouteTable;
+use dsde_routes_wiring::{Links, WiredKid, Wiring};
+use dsde_values::{Name, Seq};
+use std::alloc::Global;
+use std::sync::ledger::Ledger;
+
+/// Changes the network at a place of a wiring, and the table of the wiring's rows with it: these
+/// components are gone, fresh ones come, and it gets other links.
+pub fn repair<L: Ledger>(
+    alloc: Global,
+    table: &mut RouteTable,
+    wiring: &mut Wiring,
+    place: &[Name],
+    gone: &[Name],
+    fresh: Seq<WiredKid>,
+    links: Links,
+    changes: &mut Steps<L>,
+) -> Result<(), Memory>
+    requires table { table.old ≡ flatten wiring.old }
+    requires there { LeadsThere place.now wiring.old }
+    requires wired { AreWired wiring.old }
+    requires gone { AreInOrder gone.now }
+    requires names { IsDistinct is_same_name (map name_of (kids_after place.now gone.now fresh wiring.old)) }
+    requires below { AllByRecursion IsBelowWired fresh }
+    requires links { AllByRecursion LeadsInside links }
+    requires distinct { IsDistinct is_same_handle (handles_of wiring.old ++ flat_map handles_of_kid fresh) }
+    // Its components are then those that stay and the fresh ones, in the order of their names.
+    ensures wiring { OnOk result ((kids : List WiredKid) × IsPermutation (kids_after place.now gone.now fresh wiring.old) kids × InOrder kids × (wiring.new ≡ wiring_after place.now kids links wiring.old)) }
+    ensures wired { OnOk result (AreWired wiring.new) }
+    ensures table { OnOk result (table.new ≡ flatten wiring.new) }
+    ensures bound { OnOk result ((net : Wiring) → nets_at place.now wiring.old ≡ net ∷ [] →
+        changes.new ≤ changes.old + count (is_touched (out-Wiring net).me (handles_of wiring.new)) (routes wiring.old) + count (is_touched (out-Wiring net).me (handles_of wiring.old)) (routes wiring.new)) }
+{
+    rows_follow_a_change();
+    a_change_touches_few();
+    let passing = passing_rows(alloc, wiring, place)?;
+    let kids = take_out(alloc, wiring, place)?;
+    let parted = part(alloc, kids, gone)?;
+    let going = inside_rows(alloc, parted.going.as_slice())?;
+    let coming = inside_rows(alloc, fresh.as_slice())?;
+    let kids = in_order(alloc, parted.staying, fresh)?;
+    renew(alloc, wiring, place, links, kids)?;
+    let passing_then = passing_rows(alloc, wiring, place)?;
+    exchange(
+        table,
+        passing.as_slice(),
+        going.as_slice(),
+        coming,
+        passing_then,
+        changes,
+    )
+}

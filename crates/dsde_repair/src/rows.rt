@@ -1,0 +1,119 @@
+//! The rows of a network and of all beneath it.
+
+ghost use Rattle.std.specs.Prelude.{◌≡◌, [], ◌++◌, map, IfOk, OnOk};
+ghost use Rattle.std.specs.List.{AllByRecursion};
+ghost use Rattle.dsde_routes_wiring.specs.Wired.{AreWired};
+ghost use Rattle.dsde_routes_wiring.specs.declared.wiring.WiredKid.TheViews.{out-Wiring};
+ghost use Rattle.dsde_routes_wiring.specs.Routes.{crossing, inner_of_kid, links_of, row_of, routes_in};
+ghost use Rattle.dsde_routes_wiring.specs.Places.{inside};
+ghost use Rattle.dsde_repair_walks.specs.Places.{IsBelowWired};
+ghost use Rattle.dsde_repair_walks.specs.Walks.{beyond};
+ghost use Rattle.dsde_repair.specs.Walks.{at_ways, crossed_link, open_around};
+
+use dsde_lists::Memory;
+use dsde_repair_walks::{Way, cross, one_way, ways_of_end};
+use dsde_routes_wiring::{Row, Side, WiredKid, Wiring};
+use dsde_structure::{End, Link, Part};
+use dsde_values::Seq;
+use std::alloc::Global;
+
+/// What stands at an end, where the network's own ports may be sources and targets.
+pub(crate) fn open_ways(
+    alloc: Global,
+    side: Side,
+    net: &Wiring,
+    whole: bool,
+    end: &End,
+) -> Result<Seq<Way>, Memory>
+    requires { AreWired net.now }
+    ensures { IfOk result (λ ways. ways ≡ at_ways side (open_around whole net.now) end.now) }
+{
+    match end.part {
+        Part::Net => {
+            if whole {
+                one_way(alloc, net.me, end.port)
+            } else {
+                Ok(Seq::new(alloc))
+            }
+        }
+        Part::Boss | Part::Kid(_) => ways_of_end(alloc, side, net, end),
+    }
+}
+
+/// Adds the rows that cross over one link.
+fn cross_link(
+    alloc: Global,
+    net: &Wiring,
+    whole: bool,
+    number: usize,
+    link: &Link,
+    rows: &mut Seq<Row>,
+) -> Result<(), Memory>
+    requires { AreWired net.now }
+    ensures { OnOk result (rows.new ≡ rows.old ++ crossed_link (open_around whole net.now) (out-Wiring net.now).me (number, link.now)) }
+{
+    let befores = open_ways(alloc, Side::Out, net, whole, &link.from)?;
+    let afters = open_ways(alloc, Side::Into, net, whole, &link.to)?;
+    cross(alloc, number, link, befores, afters.as_slice(), rows)
+}
+
+/// Adds the rows that cross over a link of a network.
+pub(crate) fn crossing_rows(
+    alloc: Global,
+    net: &Wiring,
+    whole: bool,
+    rows: &mut Seq<Row>,
+) -> Result<(), Memory>
+    requires { AreWired net.now }
+    ensures { OnOk result (rows.new ≡ rows.old ++ map row_of (crossing (open_around whole net.now) (links_of net.now))) }
+{
+    let links = net.links.as_slice();
+    for (number, link) in links.iter().enumerate() {
+        cross_link(alloc, net, whole, number, link, rows)?;
+    }
+    Ok(())
+}
+
+/// Adds all rows of a network and what is beneath it.
+#[cycle(adding)]
+pub fn net_rows(alloc: Global, net: &Wiring, whole: bool, rows: &mut Seq<Row>) -> Result<(), Memory>
+    requires { AreWired net.now }
+    ensures { OnOk result (rows.new ≡ rows.old ++ map row_of (routes_in (beyond whole (out-Wiring net.now).me) net.now)) }
+{
+    crossing_rows(alloc, net, whole, rows)?;
+    add_inside(alloc, net.kids.as_slice(), rows)
+}
+
+/// Adds the rows inside components.
+#[cycle(adding)]
+fn add_inside(alloc: Global, kids: &[WiredKid], rows: &mut Seq<Row>) -> Result<(), Memory>
+    requires { AllByRecursion IsBelowWired kids.now }
+    ensures { OnOk result (rows.new ≡ rows.old ++ map row_of (inside kids.now)) }
+{
+    for kid in kids {
+        add_kid(alloc, kid, rows)?;
+    }
+    Ok(())
+}
+
+/// Adds the rows inside one.
+#[cycle(adding)]
+fn add_kid(alloc: Global, kid: &WiredKid, rows: &mut Seq<Row>) -> Result<(), Memory>
+    requires { IsBelowWired kid.now }
+    ensures { OnOk result (rows.new ≡ rows.old ++ map row_of (inner_of_kid kid.now).1.routes) }
+{
+    match &kid.below {
+        None => Ok(()),
+        Some(below) => net_rows(alloc, below.get(), false, rows),
+    }
+}
+
+/// The rows inside components.
+pub fn inside_rows(alloc: Global, kids: &[WiredKid]) -> Result<Seq<Row>, Memory>
+    requires { AllByRecursion IsBelowWired kids.now }
+    ensures { IfOk result (λ rows. rows ≡ map row_of (inside kids.now)) }
+{
+    let mut rows = Seq::new(alloc);
+    add_inside(alloc, kids, &mut rows)?;
+    Ok(rows)
+}

@@ -1,0 +1,197 @@
+//! The rows of the routes that pass a place.
+
+ghost use Rattle.std.specs.Prelude.{◌≡◌, ◌++◌, map, IfOk, OnOk};
+ghost use Rattle.std.specs.List.{flat_map};
+ghost use Rattle.dsde_routes_wiring.specs.Wired.{AreWired};
+ghost use Rattle.dsde_routes_wiring.specs.declared.wiring.WiredKid.TheViews.{out-Wiring};
+ghost use Rattle.dsde_routes_wiring.specs.Routes.{links_of, own, row_of};
+ghost use Rattle.dsde_routes_wiring.specs.Places.{crossed_between, only, through};
+ghost use Rattle.dsde_repair_walks.specs.Walks.{beyond, link_at};
+ghost use Rattle.dsde_repair.specs.Walks.{kid_routes, between_link, open_around, passing_kids, past_around};
+
+use crate::passing::passing_end;
+use crate::past::open_past;
+use crate::rows::{crossing_rows, open_ways};
+use dsde_lists::Memory;
+use dsde_repair_walks::{cross, find_kid};
+use dsde_routes_wiring::{Row, Side, Wiring};
+use dsde_structure::{Link, Part};
+use dsde_values::{Name, Seq};
+use std::alloc::Global;
+
+/// Adds the rows over one link whose way before it passes a place beneath a component.
+fn out_link(
+    alloc: Global,
+    net: &Wiring,
+    whole: bool,
+    name: &Name,
+    rest: &[Name],
+    number: usize,
+    link: &Link,
+    rows: &mut Seq<Row>,
+) -> Result<(), Memory>
+    requires { AreWired net.now }
+    ensures { OnOk result (rows.new ≡ rows.old ++ between_link (only (passing_kids name.now rest.now (out-Wiring net.now).kids)) (open_around whole net.now) (out-Wiring net.now).me (number, link.now)) }
+{
+    let passing = passing_end(alloc, Side::Out, net, name, rest, &link.from)?;
+    if passing.is_empty() {
+        return Ok(());
+    }
+    let afters = open_ways(alloc, Side::Into, net, whole, &link.to)?;
+    cross(alloc, number, link, passing, afters.as_slice(), rows)
+}
+
+/// The same of the link of a number.
+fn out_numbered(
+    alloc: Global,
+    net: &Wiring,
+    whole: bool,
+    name: &Name,
+    rest: &[Name],
+    number: usize,
+    rows: &mut Seq<Row>,
+) -> Result<(), Memory>
+    requires { AreWired net.now }
+    ensures { OnOk result (rows.new ≡ rows.old ++ link_at (between_link (only (passing_kids name.now rest.now (out-Wiring net.now).kids)) (open_around whole net.now) (out-Wiring net.now).me) (out-Wiring net.now).links number) }
+{
+    match net.links.as_slice().get(number) {
+        None => Ok(()),
+        Some(link) => out_link(alloc, net, whole, name, rest, number, link, rows),
+    }
+}
+
+/// The same of all links: those that lead from that component serve.
+fn out_all(
+    alloc: Global,
+    net: &Wiring,
+    whole: bool,
+    name: &Name,
+    rest: &[Name],
+    rows: &mut Seq<Row>,
+) -> Result<(), Memory>
+    requires { AreWired net.now }
+    ensures { OnOk result (rows.new ≡ rows.old ++ map row_of (flat_map (crossed_between (only (passing_kids name.now rest.now (out-Wiring net.now).kids)) (open_around whole net.now)) (links_of net.now))) }
+{
+    let copy = name.copy(alloc)?;
+    let own = Part::Kid(copy);
+    let numbers = net.links.at(Side::Into, &own);
+    for number in numbers {
+        out_numbered(alloc, net, whole, name, rest, *number, rows)?;
+    }
+    Ok(())
+}
+
+/// Adds the rows over one link whose way before it does not pass that place, and whose way after it does.
+fn into_link(
+    alloc: Global,
+    net: &Wiring,
+    whole: bool,
+    name: &Name,
+    rest: &[Name],
+    number: usize,
+    link: &Link,
+    rows: &mut Seq<Row>,
+) -> Result<(), Memory>
+    requires { AreWired net.now }
+    ensures { OnOk result (rows.new ≡ rows.old ++ between_link (past_around (beyond whole (out-Wiring net.now).me) name.now rest.now net.now) (only (passing_kids name.now rest.now (out-Wiring net.now).kids)) (out-Wiring net.now).me (number, link.now)) }
+{
+    let passing = passing_end(alloc, Side::Into, net, name, rest, &link.to)?;
+    if passing.is_empty() {
+        return Ok(());
+    }
+    let past = open_past(alloc, Side::Out, net, whole, name, rest, &link.from)?;
+    cross(alloc, number, link, past, passing.as_slice(), rows)
+}
+
+/// The same of the link of a number.
+fn into_numbered(
+    alloc: Global,
+    net: &Wiring,
+    whole: bool,
+    name: &Name,
+    rest: &[Name],
+    number: usize,
+    rows: &mut Seq<Row>,
+) -> Result<(), Memory>
+    requires { AreWired net.now }
+    ensures { OnOk result (rows.new ≡ rows.old ++ link_at (between_link (past_around (beyond whole (out-Wiring net.now).me) name.now rest.now net.now) (only (passing_kids name.now rest.now (out-Wiring net.now).kids)) (out-Wiring net.now).me) (out-Wiring net.now).links number) }
+{
+    match net.links.as_slice().get(number) {
+        None => Ok(()),
+        Some(link) => into_link(alloc, net, whole, name, rest, number, link, rows),
+    }
+}
+
+/// The same of all links: those that lead to that component serve.
+fn into_all(
+    alloc: Global,
+    net: &Wiring,
+    whole: bool,
+    name: &Name,
+    rest: &[Name],
+    rows: &mut Seq<Row>,
+) -> Result<(), Memory>
+    requires { AreWired net.now }
+    ensures { OnOk result (rows.new ≡ rows.old ++ map row_of (flat_map (crossed_between (past_around (beyond whole (out-Wiring net.now).me) name.now rest.now net.now) (only (passing_kids name.now rest.now (out-Wiring net.now).kids))) (links_of net.now))) }
+{
+    let copy = name.copy(alloc)?;
+    let own = Part::Kid(copy);
+    let numbers = net.links.at(Side::Out, &own);
+    for number in numbers {
+        into_numbered(alloc, net, whole, name, rest, *number, rows)?;
+    }
+    Ok(())
+}
+
+/// Adds the rows that pass a place.
+#[cycle(through)]
+fn add_through(
+    alloc: Global,
+    net: &Wiring,
+    whole: bool,
+    place: &[Name],
+    rows: &mut Seq<Row>,
+) -> Result<(), Memory>
+    requires { AreWired net.now }
+    ensures { OnOk result (rows.new ≡ rows.old ++ map row_of (through (beyond whole (out-Wiring net.now).me) place.now net.now)) }
+{
+    match place.split_first() {
+        None => crossing_rows(alloc, net, whole, rows),
+        Some((name, rest)) => {
+            out_all(alloc, net, whole, name, rest, rows)?;
+            into_all(alloc, net, whole, name, rest, rows)?;
+            add_beneath(alloc, net, name, rest, rows)
+        }
+    }
+}
+
+/// Adds those inside the component that leads there.
+#[cycle(through)]
+fn add_beneath(
+    alloc: Global,
+    net: &Wiring,
+    name: &Name,
+    rest: &[Name],
+    rows: &mut Seq<Row>,
+) -> Result<(), Memory>
+    requires { AreWired net.now }
+    ensures { OnOk result (rows.new ≡ rows.old ++ map row_of (kid_routes (passing_kids name.now rest.now (out-Wiring net.now).kids))) }
+{
+    match find_kid(net.kids.as_slice(), name) {
+        None => Ok(()),
+        Some(kid) => match &kid.below {
+            None => Ok(()),
+            Some(below) => add_through(alloc, below.get(), false, rest, rows),
+        },
+    }
+}
+
+/// The rows of the routes that use a link of the network at a place.
+pub fn passing_rows(alloc: Global, wiring: &Wiring, place: &[Name]) -> Result<Seq<Row>, Memory>
+    requires { AreWired wiring.now }
+    ensures { IfOk result (λ rows. rows ≡ map row_of (through (own (out-Wiring wiring.now).me) place.now wiring.now)) }
+{
+    let mut rows = Seq::new(alloc);
+    add_through(alloc, wiring, true, place, &mut rows)?;
+    Ok(rows)
+}

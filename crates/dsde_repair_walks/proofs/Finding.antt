@@ -1,0 +1,173 @@
+-- What follows where a component stands at an index.
+use Rattle.std.proofs.Common.{◌≡◌, ℕ, zero, suc, ◌+◌, ◌≤◌, Bool, true, false, if◌then◌else◌, List, [], ◌∷◌, ◌++◌, map, length, get_or, take, drop, slice_get, slice_set, ◌<◌, take-append-drop, drop-cons, refl, append-nil, ap₂, sym, ap, ◌∙◌, subst, arith, zero-add, Option, Some, None, Result, Ok, Err, OnOk}
+use Rattle.std.specs.List.{flat_map, AllByRecursion}
+use Rattle.dsde_values.specs.declared.name.Name.{Name}
+use Rattle.dsde_structure.specs.Gather.{is_same_name}
+use Rattle.dsde_routes_wiring.specs.declared.wiring.WiredKid.{WiredKid}
+use Rattle.dsde_routes_wiring.specs.declared.wiring.Wiring.{Wiring}
+use Rattle.dsde_structure.specs.declared.plan.Link.{Link}
+use Rattle.dsde_routes_wiring.specs.declared.wiring.WiredKid.TheOpen.{Wiring-F, WiredKid-F}
+use Rattle.dsde_routes_wiring.specs.declared.wiring.WiredKid.TheViews.{out-Wiring, out-WiredKid, roll-Wiring, roll-WiredKid, roll-out-Wiring, out-roll-Wiring}
+use Rattle.dsde_routes_wiring.specs.Places.{changed, bared, renewed, kid_changed, below_changed, kid_at, below_at, kids_at}
+use Rattle.dsde_routes_wiring.specs.Wired.{Wired, IsWired, AreWired}
+use Rattle.dsde_routes_wiring.specs.Opened.{Beneath}
+use Rattle.dsde_repair_laws.proofs.Shapes.{wired_of, net-here, net-below}
+use Rattle.dsde_structure.specs.Survival.{AreInOrder}
+use Rattle.dsde_repair_walks.specs.Found.{name_of, is_named, InOrder, IsAt, IsOne}
+use Rattle.dsde_repair_walks.proofs.Searching.{Found}
+use Rattle.dsde_repair_walks.specs.Places.{BelowWired, IsBelowWired, kid_with, kids_below}
+
+abbrev Other : Name → WiredKid → Type 0
+Other name kid = is_named name kid ≡ false
+
+pub at-found : (name : Name) (kids : List WiredKid) (index : ℕ) → Found name_of name kids index → IsAt name kids index
+at-found name kids index found = record {
+  before = found.before;
+  kid = found.item;
+  after = found.after;
+  is = found.is;
+  place = found.place;
+  named = found.named;
+  none_before = found.none_before;
+  none_after = found.none_after;
+}
+
+pub changed-other : (name : Name) (f : Wiring → Wiring) (kid : WiredKid) → Other name kid → kid_changed name f kid ≡ kid
+changed-other name f kid other = ap (λ (b : Bool). if b then kid_with f kid else kid) other
+
+pub changed-named : (name : Name) (f : Wiring → Wiring) (kid : WiredKid) → is_named name kid ≡ true → kid_changed name f kid ≡ kid_with f kid
+changed-named name f kid named = ap (λ (b : Bool). if b then kid_with f kid else kid) named
+
+pub none-changed : (name : Name) (f : Wiring → Wiring) (kids : List WiredKid) → AllByRecursion (Other name) kids → map (kid_changed name f) kids ≡ kids
+none-changed name f [] none = refl
+none-changed name f (kid ∷ kids) none = ap (λ own. own ∷ map (kid_changed name f) kids) (changed-other name f kid none.0) ∙ ap (λ others. kid ∷ others) (none-changed name f kids none.1)
+
+get-middle : (before : List WiredKid) (kid : WiredKid) (after : List WiredKid) → slice_get (before ++ kid ∷ after) (length before) ≡ Some kid
+get-middle [] kid after = refl
+get-middle (own ∷ before) kid after = get-middle before kid after
+
+set-middle : (before : List WiredKid) (kid other : WiredKid) (after : List WiredKid) → slice_set (before ++ kid ∷ after) (length before) other ≡ before ++ other ∷ after
+set-middle [] kid other after = refl
+set-middle (own ∷ before) kid other after = ap (λ others. own ∷ others) (set-middle before kid other after)
+
+map-middle : (name : Name) (f : Wiring → Wiring) (before : List WiredKid) (kid : WiredKid) (after : List WiredKid) → AllByRecursion (Other name) before → is_named name kid ≡ true → AllByRecursion (Other name) after →
+    map (kid_changed name f) (before ++ kid ∷ after) ≡ before ++ kid_with f kid ∷ after
+map-middle name f [] kid after none named later = ap (λ own. own ∷ map (kid_changed name f) after) (changed-named name f kid named) ∙ ap (λ others. kid_with f kid ∷ others) (none-changed name f after later)
+map-middle name f (own ∷ before) kid after none named later =
+    ap (λ one. one ∷ map (kid_changed name f) (before ++ kid ∷ after)) (changed-other name f own none.0) ∙ ap (λ others. own ∷ others) (map-middle name f before kid after none.1 named later)
+
+pub some-one : {X : Type 0} (x y : X) → Some x ≡ Some y → x ≡ y
+some-one x y is = cc
+
+pub kid-at : (name : Name) (kids : List WiredKid) (index : ℕ) (at : IsAt name kids index) → slice_get kids index ≡ Some at.kid
+kid-at name kids index at = ap (λ own. slice_get own index) at.is ∙ ap (slice_get (at.before ++ at.kid ∷ at.after)) (sym at.place) ∙ get-middle at.before at.kid at.after
+
+-- a change of the component that was found is a change of all of its name
+pub set-found : (name : Name) (kids : List WiredKid) (index : ℕ) → IsAt name kids index → (f : Wiring → Wiring) (kid : WiredKid) → slice_get kids index ≡ Some kid → slice_set kids index (kid_with f kid) ≡ map (kid_changed name f) kids
+set-found name kids index at f kid got =
+    let same : at.kid ≡ kid = some-one at.kid kid (sym (kid-at name kids index at) ∙ got) in
+    ap (λ own. slice_set kids index (kid_with f own)) (sym same)
+    ∙ ap (λ own. slice_set own index (kid_with f at.kid)) at.is ∙ ap (λ i. slice_set (at.before ++ at.kid ∷ at.after) i (kid_with f at.kid)) (sym at.place)
+    ∙ set-middle at.before at.kid (kid_with f at.kid) at.after
+    ∙ sym (map-middle name f at.before at.kid at.after at.none_before at.named at.none_after) ∙ ap (map (kid_changed name f)) (sym at.is)
+
+pub ok-map : {X E : Type 0} (result : Result X E) (P Q : Type 0) → (P → Q) → OnOk result P → OnOk result Q
+ok-map (Ok value) P Q gives holds = gives holds
+ok-map (Err end) P Q gives holds = tt
+
+pub no-items : {X : Type 0} (xs : List X) → length xs ≡ 0 → xs ≡ []
+no-items [] is = refl
+no-items (x ∷ xs) is = absurd (omega arith)
+
+each-later : {X : Type 0} (P : X → Type 0) (before : List X) (x : X) (after : List X) → AllByRecursion P (before ++ x ∷ after) → P x
+each-later P [] x after each = each.0
+each-later P (own ∷ before) x after each = each-later P before x after each.1
+
+below-wired : (below : Option Wiring) → Beneath AreWired below → BelowWired below
+below-wired None wired = tt
+below-wired (Some wiring) wired = wired
+
+-- a component that was found in a named network
+pub found-wired : (wiring : Wiring) → AreWired wiring → (name : Name) (index : ℕ) → IsAt name (out-Wiring wiring).kids index → (kid : WiredKid) → slice_get (out-Wiring wiring).kids index ≡ Some kid → IsBelowWired kid
+found-wired wiring named name index at kid got =
+    let P : WiredKid → Type 0 = λ own. Beneath AreWired (out-WiredKid own).below in
+    let same : at.kid ≡ kid = some-one at.kid kid (sym (kid-at name (out-Wiring wiring).kids index at) ∙ got) in
+    let here : P at.kid = each-later P at.before at.kid at.after (subst (AllByRecursion P) at.is (net-below IsWired wiring named)) in
+    below-wired (out-WiredKid kid).below (subst P same here)
+
+pub names-of : (kids : List WiredKid) → map (λ (kid : Wired). kid.name) (map wired_of kids) ≡ map name_of kids
+names-of [] = refl
+names-of (kid ∷ kids) = ap (λ names. name_of kid ∷ names) (names-of kids)
+
+pub kids-in-order : (wiring : Wiring) → AreWired wiring → InOrder (out-Wiring wiring).kids
+kids-in-order wiring wired = subst AreInOrder (names-of (out-Wiring wiring).kids) (net-here IsWired wiring wired).0
+
+or-middle : (before : List WiredKid) (kid : WiredKid) (after : List WiredKid) (d : WiredKid) → get_or (before ++ kid ∷ after) (length before) d ≡ kid
+or-middle [] kid after d = refl
+or-middle (own ∷ before) kid after d = or-middle before kid after d
+
+pub found-one : (name : Name) (kids : List WiredKid) (index : ℕ) → IsAt name kids index → (kid : WiredKid) → kid ≡ get_or kids index kid → IsOne name kids kid
+found-one name kids index at kid is =
+    let same : get_or kids index kid ≡ at.kid = ap (λ own. get_or own index kid) at.is ∙ ap (λ i. get_or (at.before ++ at.kid ∷ at.after) i kid) (sym at.place) ∙ or-middle at.before at.kid at.after kid in
+    (index, at, kid-at name kids index at ∙ ap Some (sym same ∙ sym is))
+
+-- a network with its fields written one after the other
+pub written : (wiring : Wiring) (links : List Link) (kids : List WiredKid) (place : List Name) → length place ≡ 0 →
+    (let opened : Wiring-F WiredKid Wiring = record (out-Wiring wiring) { links = links } in
+    roll-Wiring (record (out-Wiring (roll-Wiring opened)) { kids = kids }) ≡ changed place (renewed links kids) wiring)
+written wiring links kids place none =
+    ap (λ (z : Wiring-F WiredKid Wiring). roll-Wiring (record z { kids = kids })) (out-roll-Wiring (record (out-Wiring wiring) { links = links }))
+    ∙ ap (λ own. changed own (renewed links kids) wiring) (sym (no-items place none))
+
+-- a network with a component that changed
+pub set-there : (f : Wiring → Wiring) (place rest : List Name) (name : Name) → place ≡ name ∷ rest → (wiring : Wiring) (index : ℕ) → IsAt name (out-Wiring wiring).kids index → (kid after : WiredKid) → slice_get (out-Wiring wiring).kids index ≡ Some kid →
+    after ≡ kid_with (changed rest f) kid → roll-Wiring (record (out-Wiring wiring) { kids = slice_set (out-Wiring wiring).kids index after }) ≡ changed place f wiring
+set-there f place rest name is wiring index at kid after got done =
+    ap (λ own. roll-Wiring (record (out-Wiring wiring) { kids = slice_set (out-Wiring wiring).kids index own })) done
+    ∙ ap (λ kids. roll-Wiring (record (out-Wiring wiring) { kids = kids })) (set-found name (out-Wiring wiring).kids index at (changed rest f) kid got)
+    ∙ ap (λ own. changed own f wiring) (sym is)
+
+-- where no component has the name nothing changes
+pub none-there : (f : Wiring → Wiring) (place rest : List Name) (name : Name) → place ≡ name ∷ rest → (wiring : Wiring) → AllByRecursion (λ kid. is_named name kid ≡ false) (out-Wiring wiring).kids → wiring ≡ changed place f wiring
+none-there f place rest name is wiring none =
+    sym (roll-out-Wiring wiring) ∙ ap (λ kids. roll-Wiring (record (out-Wiring wiring) { kids = kids })) (sym (none-changed name (changed rest f) (out-Wiring wiring).kids none))
+    ∙ ap (λ own. changed own f wiring) (sym is)
+
+-- a list at one of its items
+pub split-here : {X : Type 0} (xs : List X) (i : ℕ) (x : X) → i < length xs → x ≡ get_or xs i x → xs ≡ take i xs ++ x ∷ drop (suc i) xs
+split-here xs i x lt is = sym (take-append-drop i xs) ∙ ap (λ later. take i xs ++ later) (drop-cons xs i x lt ∙ ap (λ own. own ∷ drop (suc i) xs) (sym is))
+
+-- what is at a place, by the component that leads there
+kids-other : (name : Name) (place : List Name) (kid : WiredKid) → Other name kid → kid_at name (kids_at place) kid ≡ []
+kids-other name place kid other = ap (λ (b : Bool). if b then kids_below place kid else []) other
+
+kids-named : (name : Name) (place : List Name) (kid : WiredKid) → is_named name kid ≡ true → kid_at name (kids_at place) kid ≡ kids_below place kid
+kids-named name place kid named = ap (λ (b : Bool). if b then kids_below place kid else []) named
+
+kids-none : (name : Name) (place : List Name) (kids : List WiredKid) → AllByRecursion (Other name) kids → flat_map (kid_at name (kids_at place)) kids ≡ []
+kids-none name place [] none = refl
+kids-none name place (kid ∷ kids) none = ap₂ (λ (xs ys : List WiredKid). xs ++ ys) (kids-other name place kid none.0) (kids-none name place kids none.1)
+
+kids-middle : (name : Name) (place : List Name) (before : List WiredKid) (kid : WiredKid) (after : List WiredKid) → AllByRecursion (Other name) before → is_named name kid ≡ true → AllByRecursion (Other name) after →
+    flat_map (kid_at name (kids_at place)) (before ++ kid ∷ after) ≡ kids_below place kid
+kids-middle name place [] kid after none named later = ap₂ (λ (xs ys : List WiredKid). xs ++ ys) (kids-named name place kid named) (kids-none name place after later) ∙ append-nil (kids_below place kid)
+kids-middle name place (own ∷ before) kid after none named later = ap₂ (λ (xs ys : List WiredKid). xs ++ ys) (kids-other name place own none.0) (kids-middle name place before kid after none.1 named later)
+
+pub kids-found : (place rest : List Name) (name : Name) → place ≡ name ∷ rest → (wiring : Wiring) (index : ℕ) → IsAt name (out-Wiring wiring).kids index → (kid : WiredKid) → slice_get (out-Wiring wiring).kids index ≡ Some kid → kids_at place wiring ≡ kids_below rest kid
+kids-found place rest name is wiring index at kid got =
+    let same : at.kid ≡ kid = some-one at.kid kid (sym (kid-at name (out-Wiring wiring).kids index at) ∙ got) in
+    ap (λ own. kids_at own wiring) is ∙ ap (flat_map (kid_at name (kids_at rest))) at.is ∙ kids-middle name rest at.before at.kid at.after at.none_before at.named at.none_after ∙ ap (kids_below rest) same
+
+pub kids-missing : (place rest : List Name) (name : Name) → place ≡ name ∷ rest → (wiring : Wiring) → AllByRecursion (λ kid. is_named name kid ≡ false) (out-Wiring wiring).kids → kids_at place wiring ≡ []
+kids-missing place rest name is wiring none = ap (λ own. kids_at own wiring) is ∙ kids-none name rest (out-Wiring wiring).kids none
+
+-- a network with its fields written one after the other
+pub bare-written : (wiring : Wiring) → (let opened : Wiring-F WiredKid Wiring = record (out-Wiring wiring) { links = [] } in
+    roll-Wiring (record (out-Wiring (roll-Wiring opened)) { kids = [] }) ≡ bared wiring)
+bare-written wiring = ap (λ (z : Wiring-F WiredKid Wiring). roll-Wiring (record z { kids = [] })) (out-roll-Wiring (record (out-Wiring wiring) { links = [] }))
+
+pub here-changed : (f : Wiring → Wiring) (place : List Name) (wiring after : Wiring) → length place ≡ 0 → after ≡ f wiring → after ≡ changed place f wiring
+here-changed f place wiring after none is = is ∙ ap (λ own. changed own f wiring) (sym (no-items place none))
+
+pub here-kids : (place : List Name) (wiring : Wiring) (kids : List WiredKid) → length place ≡ 0 → kids ≡ kids_at [] wiring → kids ≡ kids_at place wiring
+here-kids place wiring kids none is = is ∙ ap (λ own. kids_at own wiring) (sym (no-items place none))

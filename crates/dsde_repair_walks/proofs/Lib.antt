@@ -1,0 +1,4 @@
+pub mod Serving
+pub mod Searching
+pub mod Finding
+pub mod Walking

@@ -1,0 +1,128 @@
+//! Ways that go on over links, and rows where two ways meet.
+
+ghost use Rattle.std.specs.Prelude.{◌≡◌, [], ◌∷◌, ◌++◌, map, IfOk, OnOk};
+ghost use Rattle.dsde_repair_walks.specs.Walks.{extended_way, met_row, met_rows, crossed_rows};
+
+use crate::way::Way;
+use dsde_lists::Memory;
+use dsde_routes_wiring::{Chain, Row, Side};
+use dsde_structure::Link;
+use dsde_values::Seq;
+use std::alloc::Global;
+
+/// A way that goes on over a link, or that begins with it.
+pub fn extended(
+    alloc: Global,
+    side: Side,
+    number: usize,
+    link: &Link,
+    way: Way,
+) -> Result<Way, Memory>
+    ensures { IfOk result (λ own. own ≡ extended_way side number link.now way) }
+{
+    match side {
+        Side::Out => onward(alloc, number, link, way),
+        Side::Into => backward(alloc, number, link, way),
+    }
+}
+
+fn onward(alloc: Global, number: usize, link: &Link, way: Way) -> Result<Way, Memory>
+    ensures { IfOk result (λ own. own ≡ extended_way Side.Out number link.now way) }
+{
+    let Way {
+        handle,
+        port,
+        rank,
+        mut chain,
+    } = way;
+    chain.append_link(alloc, link)?;
+    Ok(Way {
+        handle,
+        port,
+        rank: rank.behind(alloc, number)?,
+        chain,
+    })
+}
+
+fn backward(alloc: Global, number: usize, link: &Link, way: Way) -> Result<Way, Memory>
+    ensures { IfOk result (λ own. own ≡ extended_way Side.Into number link.now way) }
+{
+    let Way {
+        handle,
+        port,
+        mut rank,
+        chain,
+    } = way;
+    rank.push(number)?;
+    let mut vias = Chain::new(alloc);
+    vias.append_link(alloc, link)?;
+    vias.append(alloc, chain.as_slice())?;
+    Ok(Way {
+        handle,
+        port,
+        rank,
+        chain: vias,
+    })
+}
+
+/// The row of a way to a place and a way on from there.
+fn row(alloc: Global, before: &Way, after: &Way) -> Result<Row, Memory>
+    ensures { IfOk result (λ own. own ≡ met_row before.now after.now) }
+{
+    let mut rank = after.rank.copy(alloc)?;
+    rank.append(before.rank.as_slice())?;
+    let mut chain = before.chain.copy(alloc)?;
+    chain.append(alloc, after.chain.as_slice())?;
+    Ok(Row {
+        source: before.handle,
+        source_port: before.port,
+        target: after.handle,
+        target_port: after.port,
+        rank,
+        chain,
+    })
+}
+
+fn meet(alloc: Global, before: &Way, afters: &[Way], rows: &mut Seq<Row>) -> Result<(), Memory>
+    ensures { OnOk result (rows.new ≡ rows.old ++ met_rows before.now afters.now) }
+{
+    for after in afters {
+        rows.push(row(alloc, before, after)?)?;
+    }
+    Ok(())
+}
+
+/// The rows of each way to a link's source with each way on from its target.
+pub fn cross(
+    alloc: Global,
+    number: usize,
+    link: &Link,
+    befores: Seq<Way>,
+    afters: &[Way],
+    rows: &mut Seq<Row>,
+) -> Result<(), Memory>
+    ensures { OnOk result (rows.new ≡ rows.old ++ crossed_rows number link.now befores afters.now) }
+{
+    for before in befores.into_vec() {
+        let before = extended(alloc, Side::Out, number, link, before)?;
+        meet(alloc, &before, afters, rows)?;
+    }
+    Ok(())
+}
+
+/// Adds ways that go on over a link.
+pub fn extend_all(
+    alloc: Global,
+    side: Side,
+    number: usize,
+    link: &Link,
+    more: Seq<Way>,
+    ways: &mut Seq<Way>,
+) -> Result<(), Memory>
+    ensures { OnOk result (ways.new ≡ ways.old ++ map (extended_way side number link.now) more) }
+{
+    for way in more.into_vec() {
+        ways.push(extended(alloc, side, number, link, way)?)?;
+    }
+    Ok(())
+}
