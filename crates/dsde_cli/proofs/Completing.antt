@@ -26,7 +26,7 @@ some-right : (found : Option (List ℕ)) (own : Running) → IsSomeAnd found (λ
 some-right None own runs = absurd runs
 some-right (Some bytes) own runs = accepts-right bytes own runs
 
-holds-right : (name : List ℕ) (held : Option Bytes) (own : Running) → Holds name held own → IsRight own.model
+pub holds-right : (name : List ℕ) (held : Option Bytes) (own : Running) → Holds name held own → IsRight own.model
 holds-right name None own holds = absurd holds
 holds-right name (Some map) own holds = some-right (map name) own holds
 

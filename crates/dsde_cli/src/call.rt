@@ -2,6 +2,7 @@
 
 ghost use Rattle.std.specs.Prelude.{◌≡◌, ◌≢◌, ◌≤◌, ◌⊎◌, ℕ, map, string_bytes, None, IfSome};
 ghost use Rattle.dsde_io.specs.Fault.{Rose};
+ghost use Rattle.dsde_input_records.specs.Records.{Records};
 ghost use Rattle.dsde_run.specs.Reading.{Told, TakesWanted};
 ghost use Rattle.dsde_run.specs.Run.{records_in};
 ghost use Rattle.dsde_cli_command.specs.Commands.{Asked, AsksCheck, command_of};
@@ -10,6 +11,7 @@ ghost use Rattle.dsde_cli.specs.Answer.{Checked, Answers, answer_of};
 ghost use Rattle.dsde_cli.specs.Causes.{Cause, CauseCheck, Has, HoldsNone, HoldsNoModel, IsBeforeRun, Tells};
 ghost use Rattle.dsde_cli_verdict.specs.declared.refusal.Refusal.{Refusal};
 ghost use Rattle.dsde_cli_verdict.specs.Verdict.{Refuses};
+ghost use Rattle.dsde_cli.specs.Delivered.{IsDelivered};
 ghost use Rattle.dsde_cli.specs.Loaded.{Loaded, tells_of};
 ghost use Rattle.dsde_cli.specs.Outcome.{Comes, Completes, CompletesCheck, SaysEnd};
 
@@ -18,6 +20,7 @@ use crate::run::load_and_run;
 use dsde_cli_command::{Command, read_command};
 use dsde_cli_status::{Status, report};
 use dsde_io::{Shelf, Sink, Source};
+use dsde_run_delivery::runs_are_delivered;
 use std::alloc::Global;
 
 /// Does what the words ask for, and says in one line on `notes` how it ended where not all went well.
@@ -43,6 +46,10 @@ pub fn dsde<F: Shelf, R: Source, W: Sink, E: Sink>(
     // The status says how that run ends, whatever the sink tells.
     ensures ends { (loaded : Loaded (map string_bytes words.now) (F.held shelf.old))
         → IfSome (R.left input.old) (λ bytes. SaysEnd (tells_of loaded (records_in loaded.own bytes)).end (R.left input.new) result) }
+
+    // Nothing is delivered in that run outside the structure of its moment.
+    ensures delivered { (loaded : Loaded (map string_bytes words.now) (F.held shelf.old)) → (records : Records)
+        → IsDelivered loaded.own records loaded.asked.run.turns }
 
     // An accepted model is run to the end: where no device fails, the status is that of the run's end,
     // which there always is, unless memory runs out. And its check is done.
@@ -97,6 +104,8 @@ pub fn dsde<F: Shelf, R: Source, W: Sink, E: Sink>(
     ensures out_counted { W.faults out.old ≤ W.faults out.new }
     ensures notes_counted { E.faults notes.old ≤ E.faults notes.new }
 {
+    // A law: each turn of a run is delivered by the tree before it.
+    runs_are_delivered();
     let status = match read_command(words) {
         Some(Command::Check { model, print }) => load_and_check(alloc, model, print, shelf, out),
         Some(Command::Run { model, turns }) => {

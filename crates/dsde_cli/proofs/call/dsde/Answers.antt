@@ -6,7 +6,7 @@ use Rattle.dsde_cli_command.specs.Commands.{CheckCommand, RunCommand, checks, ru
 use Rattle.dsde_cli.specs.Answer.{Answers, answer_of}
 use Rattle.dsde_cli.specs.Causes.{Holds, HoldsModel}
 use Rattle.dsde_cli.specs.Outcome.{Comes, Completes, SaysEnd}
-use Rattle.dsde_cli.proofs.Completing.{check-reported, completes-reported}
+use Rattle.dsde_cli.proofs.Completing.{check-reported, completes-reported, holds-right}
 use Rattle.dsde_cli.proofs.Outcomes.{same_run, same_check, no_run, no_task, comes-reported, ends-reported, answers-reported}
 use Rattle.dsde_cli.proofs.call.dsde.Goals as goal
 use Rattle.dsde_cli.proofs.call.dsde.Goals.{in-Some-Check, in-Some-Run, in-None}
@@ -101,3 +101,8 @@ returns-clause-complete_check g c = λ checked. elim c.match-read_command.branch
   | in-Some-Run w ↦ absurd (no_run checked.asked.check (record { model = w.in-Some-Run.model.now; turns = w.in-Some-Run.turns }) (sym ((rw w.in-Some-Run.field-0-is at w.in-Some-Run.ensures.spelled) ∙ checked.asked.spelled)))
   | in-None w ↦ absurd (no_task (checks checked.asked.check) (w.in-None.ensures.spelled ∙ checked.asked.spelled))
 ]
+
+pub returns-clause-delivered : goal.returns-clause-delivered
+returns-clause-delivered g c = λ loaded records.
+    c.runs_are_delivered.ensures loaded.own.model records loaded.asked.run.turns
+    (holds-right loaded.asked.run.model (g.F.Shelf.held c.args.shelf.now) loaded.own loaded.holds).shaped
