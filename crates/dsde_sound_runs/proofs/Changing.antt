@@ -24,7 +24,7 @@ use Rattle.dsde_sim_tree.specs.Start.{Starter, started_kid, start}
 use Rattle.dsde_sim_tree.specs.Tree.{entry_of, parts_of_kids}
 use Rattle.dsde_sound_runs.proofs.Relied.{Laws}
 use Rattle.dsde_sound_runs.proofs.Safe.{Safe, safe-then}
-use Rattle.dsde_sound_runs.proofs.Fitting.{FitsKid}
+use Rattle.dsde_sim_starting.specs.Fitting.{FitsKid}
 use Rattle.dsde_sound_runs.proofs.Starting.{IsKid, AreKids, Starts, kid-starts, kids-behind, part-starts}
 
 abbrev Among : {X : Type 0} → X → List X → Type 0

@@ -26,10 +26,11 @@ use Rattle.dsde_sound_runs.proofs.Safe.{Safe, safe-at, safe-then}
 some-is : {A : Type 0} (o : Option A) (a b : A) → o ≡ Some a → o ≡ Some b → a ≡ b
 some-is o a b e h = cc
 
--- a component of this model with these arguments, which fits
-pub record IsLeaf (model : Model) (number : ModelId) (args : List Value) (leaf : Leaf) : Type 0 where
+-- a component of this model with these arguments, or the executive of such a network, which fits
+pub record IsLeaf (model : Model) (number : ModelId) (boss : Bool) (args : List Value) (leaf : Leaf) : Type 0 where
   pub fits : FitsLeaf model leaf
   pub model_is : leaf.model ≡ number
+  pub boss_is : leaf.boss ≡ boss
   pub args_is : leaf.args ≡ args
 
 pub leaf-args : (model : Model) (leaf : Leaf) → FitsLeaf model leaf → FitsArgs model leaf.model.0 leaf.args
@@ -50,7 +51,7 @@ module _ (model : Model) (laws : Laws model) (time : ℕ) (moment : IsMoment tim
     sure = laws.component number args fits
 
     leaf-of : (boss : Bool) (state : State) (next : When) → FitsState model number.0 state → IsInTime next
-        → IsLeaf model number args (record { model = number; boss = boss; args = args; state = state; last = time; next = next })
+        → IsLeaf model number boss args (record { model = number; boss = boss; args = args; state = state; last = time; next = next })
     leaf-of boss state next stood in_time = record {
       fits = record {
         below = fits.below;
@@ -62,29 +63,30 @@ module _ (model : Model) (laws : Laws model) (time : ℕ) (moment : IsMoment tim
         next = in_time;
       };
       model_is = refl;
+      boss_is = refl;
       args_is = refl;
     }
 
-    settled-sure : (boss : Bool) (state : State) → FitsState model number.0 state → Sure (IsLeaf model number args) (settled (system model) number boss args state time)
+    settled-sure : (boss : Bool) (state : State) → FitsState model number.0 state → Sure (IsLeaf model number boss args) (settled (system model) number boss args state time)
     settled-sure boss state stood =
-        sure-then IsInTime (IsLeaf model number args) (((system model).component number args).advance state time)
+        sure-then IsInTime (IsLeaf model number boss args) (((system model).component number args).advance state time)
         (λ next. let own : Leaf = record { model = number; boss = boss; args = args; state = state; last = time; next = next } in Ok own)
         (sure.advance state time stood) (λ next in_time. leaf-of boss state next stood in_time)
 
-    start-sure : (boss : Bool) → Sure (IsLeaf model number args) (start_leaf (system model) number boss args time)
+    start-sure : (boss : Bool) → Sure (IsLeaf model number boss args) (start_leaf (system model) number boss args time)
     start-sure boss =
-        sure-then (FitsState model number.0) (IsLeaf model number args) ((system model).component number args).init (λ state. settled (system model) number boss args state time)
+        sure-then (FitsState model number.0) (IsLeaf model number boss args) ((system model).component number args).init (λ state. settled (system model) number boss args state time)
         sure.init (λ state stood. settled-sure boss state stood)
 
-    pub leaf-starts : (left : ℕ) (boss : Bool) (path : Path) (room : ℕ) → Safe (λ one. IsLeaf model number args one.0) (start_leaf_at (system model) left number boss args path time room).end
+    pub leaf-starts : (left : ℕ) (boss : Bool) (path : Path) (room : ℕ) → Safe (λ one. IsLeaf model number boss args one.0) (start_leaf_at (system model) left number boss args path time room).end
     leaf-starts left boss path room =
-        safe-then (λ (rest : ℕ). Unit {0}) (λ one. IsLeaf model number args one.0) (quietly (entered left path ((system model).component number args).at room))
+        safe-then (λ (rest : ℕ). Unit {0}) (λ one. IsLeaf model number boss args one.0) (quietly (entered left path ((system model).component number args).at room))
         (λ rest. quietly (at path (start_leaf (system model) number boss args time)) then (λ leaf. told (AddLeaf path number leaf.state leaf.next ∷ []) (leaf, rest)))
         (entered-safe left path ((system model).component number args).at room)
         (λ rest none.
-        safe-then (IsLeaf model number args) (λ one. IsLeaf model number args one.0) (quietly (at path (start_leaf (system model) number boss args time)))
+        safe-then (IsLeaf model number boss args) (λ one. IsLeaf model number boss args one.0) (quietly (at path (start_leaf (system model) number boss args time)))
         (λ leaf. told (AddLeaf path number leaf.state leaf.next ∷ []) (leaf, rest))
-        (safe-at (IsLeaf model number args) path (start_leaf (system model) number boss args time) (start-sure boss)) (λ leaf own. own))
+        (safe-at (IsLeaf model number boss args) path (start_leaf (system model) number boss args time) (start-sure boss)) (λ leaf own. own))
 
   module _ (leaf : Leaf) (fits : FitsLeaf model leaf) (got : Ports) (came : FitsInputs model leaf.model.0 got) where
     elapsed : IsMoment (time - leaf.last)
@@ -98,18 +100,18 @@ module _ (model : Model) (laws : Laws model) (time : ℕ) (moment : IsMoment tim
     transition-sure External = own-sure.external leaf.state (time - leaf.last) got (leaf-state model leaf fits) elapsed came
     transition-sure Confluent = own-sure.confluent leaf.state (time - leaf.last) got (leaf-state model leaf fits) elapsed came
 
-    move-sure : (kind : MoveKind) → Sure (IsLeaf model leaf.model leaf.args) (move_leaf (system model) leaf kind time got)
+    move-sure : (kind : MoveKind) → Sure (IsLeaf model leaf.model leaf.boss leaf.args) (move_leaf (system model) leaf kind time got)
     move-sure kind =
-        sure-then (FitsState model leaf.model.0) (IsLeaf model leaf.model leaf.args) (transition (component_of (system model) leaf) leaf.state kind (time - leaf.last) got)
+        sure-then (FitsState model leaf.model.0) (IsLeaf model leaf.model leaf.boss leaf.args) (transition (component_of (system model) leaf) leaf.state kind (time - leaf.last) got)
         (λ state. settled (system model) leaf.model leaf.boss leaf.args state time) (transition-sure kind)
         (λ state stood. settled-sure leaf.model leaf.args (leaf-args model leaf fits) leaf.boss state stood)
 
-    pub take-safe : (kind : MoveKind) (path : Path) → Safe (IsLeaf model leaf.model leaf.args) (take_move (system model) leaf kind path time got).end
+    pub take-safe : (kind : MoveKind) (path : Path) → Safe (IsLeaf model leaf.model leaf.boss leaf.args) (take_move (system model) leaf kind path time got).end
     take-safe kind path =
-        safe-then (IsLeaf model leaf.model leaf.args) (IsLeaf model leaf.model leaf.args) (quietly (at path (move_leaf (system model) leaf kind time got)))
+        safe-then (IsLeaf model leaf.model leaf.boss leaf.args) (IsLeaf model leaf.model leaf.boss leaf.args) (quietly (at path (move_leaf (system model) leaf kind time got)))
         (λ moved. told (Move path leaf.model kind moved.state moved.next ∷ []) moved)
-        (safe-at (IsLeaf model leaf.model leaf.args) path (move_leaf (system model) leaf kind time got) (move-sure kind)) (λ moved own. own)
+        (safe-at (IsLeaf model leaf.model leaf.boss leaf.args) path (move_leaf (system model) leaf kind time got) (move-sure kind)) (λ moved own. own)
 
-    pub leaf-moves : (kind : Option MoveKind) (path : Path) → (let step : Told Leaf = elim kind [ Some kind ↦ take_move (system model) leaf kind path time got | None ↦ told [] leaf ] in Safe (IsLeaf model leaf.model leaf.args) step.end)
+    pub leaf-moves : (kind : Option MoveKind) (path : Path) → (let step : Told Leaf = elim kind [ Some kind ↦ take_move (system model) leaf kind path time got | None ↦ told [] leaf ] in Safe (IsLeaf model leaf.model leaf.boss leaf.args) step.end)
     leaf-moves (Some kind) path = take-safe kind path
-    leaf-moves None path = record { fits = fits; model_is = refl; args_is = refl }
+    leaf-moves None path = record { fits = fits; model_is = refl; boss_is = refl; args_is = refl }

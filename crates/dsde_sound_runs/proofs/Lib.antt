@@ -1,8 +1,6 @@
 mod Relied
 mod Safe
-mod Fitting
-mod Fits
-mod Stood
+mod Ports
 mod Opens
 mod Leaves
 mod Starting

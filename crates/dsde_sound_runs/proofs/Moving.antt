@@ -37,9 +37,10 @@ use Rattle.dsde_sim_tree.specs.Trees.{each_tree}
 use Rattle.dsde_sound_components.specs.Sure.{FitsNetwork}
 use Rattle.dsde_sound_runs.proofs.Relied.{Laws}
 use Rattle.dsde_sound_runs.proofs.Safe.{Safe, safe-then}
-use Rattle.dsde_sound_runs.proofs.Fitting.{FitsAtomic, FitsGot, FitsKid, FitsLinks, FitsShape, FitsTree}
-use Rattle.dsde_sound_runs.proofs.Fits.{kid-tree, leaf-tree, net-kids, net-shape, net-tree}
-use Rattle.dsde_sound_runs.proofs.Stood.{Stood, component-ins, inputs-of, model-leaf, model-net, same-own, stood}
+use Rattle.dsde_sim_starting.specs.Fitting.{FitsAtomic, FitsKid, FitsLinks, FitsShape, FitsTree}
+use Rattle.dsde_sound_runs.proofs.Ports.{Receives, inputs-of}
+use Rattle.dsde_sim_starting.specs.Fits.{kid-tree, leaf-tree, net-kids, net-shape, net-tree}
+use Rattle.dsde_sim_starting.specs.Stood.{Stood, component-ins, model-leaf, model-net, same-own, stood}
 use Rattle.dsde_sound_runs.proofs.Opens.{args-Leaf, args-Net}
 use Rattle.dsde_sound_runs.proofs.Leaves.{IsLeaf, leaf-moves, take-safe}
 use Rattle.dsde_sound_runs.proofs.Starting.{AreKids, IsHead, IsKid, IsPart, kid-is, kids-behind, leaf-part, net-part, plan-links, structure-safe}
@@ -49,18 +50,18 @@ use Rattle.dsde_sound_runs.proofs.Sending.{contains-here, contains-later, source
 module _ (model : Model) (laws : Laws model) (time : ℕ) (moment : IsMoment time) where
   abbrev pub Moved : Sim → Type 0
   Moved own =
-      (path : Path) (got : Ports) (room : ℕ) → FitsTree model own → FitsGot model (model_of own).0 got
+      (path : Path) (got : Ports) (room : ℕ) → FitsTree model own → Receives model (model_of own).0 got
       → Safe (λ after. IsPart model (model_of own) (args_of own) after.0) (move (system model) own path time got room).end
 
   leaf-case : (leaf : Leaf) → Moved (sim.Leaf leaf)
   leaf-case leaf path got room fits has =
       let atomic : FitsAtomic model leaf = leaf-tree model leaf fits in
-      let came : FitsInputs model leaf.model.0 got = inputs-of model leaf got atomic (subst (λ (number : ModelId). FitsGot model number.0 got) (model-leaf leaf) has) in
+      let came : FitsInputs model leaf.model.0 got = inputs-of model leaf got atomic (subst (λ (number : ModelId). Receives model number.0 got) (model-leaf leaf) has) in
       subst (λ (step : Told (Sim × ℕ)). Safe (λ after. IsPart model (model_of (sim.Leaf leaf)) (args_of (sim.Leaf leaf)) after.0) step.end) (sym (move-Leaf (system model) leaf path time got room))
-      (safe-then (IsLeaf model leaf.model leaf.args) (λ after. IsPart model (model_of (sim.Leaf leaf)) (args_of (sim.Leaf leaf)) after.0) (move_leaf_at (system model) leaf path time got) (as_leaf room)
+      (safe-then (IsLeaf model leaf.model leaf.boss leaf.args) (λ after. IsPart model (model_of (sim.Leaf leaf)) (args_of (sim.Leaf leaf)) after.0) (move_leaf_at (system model) leaf path time got) (as_leaf room)
       (leaf-moves model laws time moment leaf atomic.fits got came (kind_of leaf time got) path)
       (λ after own.
-      let same : IsPart model leaf.model leaf.args (sim.Leaf after) = leaf-part model leaf.model leaf.args after atomic.atomic own in
+      let same : IsPart model leaf.model leaf.args (sim.Leaf after) = leaf-part model leaf.model leaf.args after atomic.atomic (record { fits = own.fits; model_is = own.model_is; boss_is = own.boss_is ∙ atomic.component; args_is = own.args_is }) in
       record { fits = same.fits; model_is = same.model_is ∙ sym (model-leaf leaf); args_is = same.args_is ∙ sym (args-Leaf leaf) }))
 
   -- what links carry to the parts of a network
@@ -69,7 +70,7 @@ module _ (model : Model) (laws : Laws model) (time : ℕ) (moment : IsMoment tim
     reaches to ports are = laws.gathered model own entries links sources to ports laws.right order joined given are
 
     box-fits : (kid : Kid) → Contains entries (entry_of kid) → FitsTree model (out-Kid kid).sim →
-        FitsGot model (model_of (out-Kid kid).sim).0 (gathered (system model).translate links sources (part.Kid (out-Kid kid).name) (ins_of (system model) (out-Kid kid).sim))
+        Receives model (model_of (out-Kid kid).sim).0 (gathered (system model).translate links sources (part.Kid (out-Kid kid).name) (ins_of (system model) (out-Kid kid).sim))
     box-fits kid among fits =
         let one : Stood model (out-Kid kid).sim = stood model (out-Kid kid).sim fits in
         let has : HasKid model entries (out-Kid kid).name false (ways model one.stands false) =
@@ -137,17 +138,17 @@ module _ (model : Model) (laws : Laws model) (time : ℕ) (moment : IsMoment tim
           | None ↦ told [] (net_of number args boss kids links, room)
         ] in Safe Behind step.end)
     boss-moves boss links kids entries (Some kind) got room head all fit came =
-        safe-then (IsLeaf model boss.model boss.args) Behind (take_move (system model) boss kind (to_boss path) time got) (after_boss (system model) number args kids path time room)
+        safe-then (IsLeaf model boss.model boss.boss boss.args) Behind (take_move (system model) boss kind (to_boss path) time got) (after_boss (system model) number args kids path time room)
         (take-safe model laws time moment boss head.fits got came kind (to_boss path))
-        (λ after own. boss-behind after kids room (record { network = head.network; args_fit = head.args_fit; fits = own.fits; is = own.model_is ∙ head.is }) all.fit)
+        (λ after own. boss-behind after kids room (record { network = head.network; args_fit = head.args_fit; fits = own.fits; is = record { model = own.model_is ∙ head.is.model; args = own.args_is ∙ head.is.args; executive = own.boss_is ∙ head.is.executive } }) all.fit)
     boss-moves boss links kids entries None got room head all fit came = net-part model number args boss kids entries links head all fit
 
     net-moves : (boss : Leaf) (links : List Link) (kids : List Kid) (got : Ports) (room : ℕ) → IsHead model number args boss → FitsLinks model number (map entry_of kids) links →
-        AllByRecursion (λ (kid : Kid). Moved (out-Kid kid).sim) kids → AllByRecursion (FitsKid model) kids → FitsGot model number.0 got →
+        AllByRecursion (λ (kid : Kid). Moved (out-Kid kid).sim) kids → AllByRecursion (FitsKid model) kids → Receives model number.0 got →
         Safe Behind (net_moves (system model) number args boss (map (kid_output (system model)) kids) (map (kid_move (system model)) kids) links path time got room).end
     net-moves boss links kids got room head fit each fits has =
         let entries : List Entry = map entry_of kids in
-        let found : slice_get (owns_of model.decls) boss.model.0 ≡ Some fit.own = ap (λ (m : ModelId). slice_get (owns_of model.decls) m.0) head.is ∙ fit.found in
+        let found : slice_get (owns_of model.decls) boss.model.0 ≡ Some fit.own = ap (λ (m : ModelId). slice_get (owns_of model.decls) m.0) head.is.model ∙ fit.found in
         let cover : Cover (types_of model) (ways model fit.own false) got =
         subst (λ (o : Own). Cover (types_of model) (ways model o false) got) (same-own (slice_get (owns_of model.decls) number.0) has.own fit.own has.found fit.found)
         (laws.covers (types_of model) (ways model has.own false) got has.reach) in
@@ -166,7 +167,7 @@ module _ (model : Model) (laws : Laws model) (time : ℕ) (moment : IsMoment tim
       let shape : FitsShape model (shape_in net) = net-shape model net (net-tree model net fits) in
       let whole = out-Net net in
       let head : IsHead model whole.model whole.args whole.boss = record { network = shape.links.network; args_fit = shape.args; fits = shape.boss; is = shape.boss_is } in
-      let came : FitsGot model whole.model.0 got = subst (λ (number : ModelId). FitsGot model number.0 got) (model-net net) has in
+      let came : Receives model whole.model.0 got = subst (λ (number : ModelId). Receives model number.0 got) (model-net net) has in
       subst (λ (step : Told (Sim × ℕ)). Safe (λ after. IsPart model (model_of (sim.Net net)) (args_of (sim.Net net)) after.0) step.end) (sym (move-Net (system model) net path time got room))
       (safe-then (λ after. IsPart model whole.model whole.args (sim.Net after.0)) (λ after. IsPart model (model_of (sim.Net net)) (args_of (sim.Net net)) after.0) (net_move (system model) net path time got room) as_net
       (subst (λ (step : Told (Net × ℕ)). Safe (λ after. IsPart model whole.model whole.args (sim.Net after.0)) step.end) (sym (net_move-opens (system model) net path time got room))

@@ -34,9 +34,10 @@ use Rattle.dsde_sound_components.specs.Sure.{Sure}
 use Rattle.dsde_sound_components.specs.lemmas.Steps.{sure-then, sure-more}
 use Rattle.dsde_sound_runs.proofs.Relied.{Laws}
 use Rattle.dsde_sound_runs.proofs.Safe.{Safe, safe-at, safe-bind}
-use Rattle.dsde_sound_runs.proofs.Fitting.{FitsAtomic, FitsBodySent, FitsKid, FitsSent, FitsShape, FitsTree}
-use Rattle.dsde_sound_runs.proofs.Fits.{kid-tree, leaf-tree, net-kids, net-shape, net-tree}
-use Rattle.dsde_sound_runs.proofs.Stood.{component-outs, model-leaf, model-net, network-outs, plain, same-own}
+use Rattle.dsde_sim_starting.specs.Fitting.{FitsAtomic, FitsBodySent, FitsKid, FitsSent, FitsShape, FitsTree}
+use Rattle.dsde_sim_starting.specs.Fits.{kid-tree, leaf-tree, net-kids, net-shape, net-tree}
+use Rattle.dsde_sim_starting.specs.Stood.{model-leaf, model-net, same-own}
+use Rattle.dsde_sound_runs.proofs.Ports.{component-outs, network-outs, plain}
 use Rattle.dsde_sound_runs.proofs.Opens.{output-Leaf, output-Net, output-kid}
 use Rattle.dsde_sound_runs.proofs.Leaves.{leaf-args, leaf-state}
 use Rattle.dsde_sound_runs.proofs.Starting.{each-behind}
@@ -138,7 +139,7 @@ module _ (model : Model) (laws : Laws model) (time : ℕ) where
       subst (Safe (FitsSent model (model_of (sim.Net net)).0)) (sym (output-Net (system model) net path time))
       (safe-bind (FitsSources model own entries) (FitsSent model (model_of (sim.Net net)).0) (sources_of (system model) (map (kid_output (system model)) whole.kids) whole.boss path time [])
       (λ sources. Ok (gathered (system model).translate whole.links sources part.Net ports))
-      (sources-by own whole.boss whole.kids path [] shape.boss (ap (λ (number : ModelId). slice_get (owns_of model.decls) number.0) shape.boss_is ∙ shape.links.found)
+      (sources-by own whole.boss whole.kids path [] shape.boss (ap (λ (number : ModelId). slice_get (owns_of model.decls) number.0) shape.boss_is.model ∙ shape.links.found)
       each (net-kids model net (net-tree model net fits)) tt)
       (λ sources given. record {
         own = own;

@@ -28,9 +28,9 @@ use Rattle.dsde_sim_tree.specs.Tree.{args_of, entry_of, model_of}
 use Rattle.dsde_sound_components.specs.Sure.{FitsNetwork}
 use Rattle.dsde_sound_runs.proofs.Relied.{Laws}
 use Rattle.dsde_sound_runs.proofs.Safe.{Safe, safe-at, safe-then}
-use Rattle.dsde_sound_runs.proofs.Fitting.{FitsKid, FitsLinks, FitsShape, FitsTree}
-use Rattle.dsde_sound_runs.proofs.Fits.{net-parts, tree-kid, tree-leaf, tree-net}
-use Rattle.dsde_sound_runs.proofs.Stood.{model-leaf, model-net}
+use Rattle.dsde_sim_starting.specs.Fitting.{FitsKid, FitsLinks, FitsShape, FitsTree, IsExecutive}
+use Rattle.dsde_sim_starting.specs.Fits.{net-parts, tree-kid, tree-leaf, tree-net}
+use Rattle.dsde_sim_starting.specs.Stood.{model-leaf, model-net}
 use Rattle.dsde_sound_runs.proofs.Opens.{args-Leaf, args-Net}
 use Rattle.dsde_sound_runs.proofs.Leaves.{IsLeaf, entered-safe, leaf-starts}
 
@@ -49,9 +49,9 @@ module _ (model : Model) where
     pub model_is : model_of own ≡ number
     pub args_is : args_of own ≡ args
 
-  pub leaf-part : (number : ModelId) (args : List Value) (leaf : Leaf) → (system model).is_network number ≡ false → IsLeaf model number args leaf → IsPart number args (sim.Leaf leaf)
+  pub leaf-part : (number : ModelId) (args : List Value) (leaf : Leaf) → (system model).is_network number ≡ false → IsLeaf model number false args leaf → IsPart number args (sim.Leaf leaf)
   leaf-part number args leaf atomic own = record {
-    fits = tree-leaf model leaf (record { fits = own.fits; atomic = ap (λ (m : ModelId). (system model).is_network m) own.model_is ∙ atomic });
+    fits = tree-leaf model leaf (record { fits = own.fits; atomic = ap (λ (m : ModelId). (system model).is_network m) own.model_is ∙ atomic; component = own.boss_is });
     model_is = model-leaf leaf ∙ own.model_is;
     args_is = args-Leaf leaf ∙ own.args_is;
   }
@@ -88,7 +88,7 @@ module _ (model : Model) where
     pub network : (system model).is_network number ≡ true
     pub args_fit : FitsArgs model number.0 args
     pub fits : FitsLeaf model boss
-    pub is : boss.model ≡ number
+    pub is : IsExecutive number args boss
 
   pub net-part : (number : ModelId) (args : List Value) (boss : Leaf) (kids : List Kid) (entries : List Entry) (links : List Link) → IsHead number args boss → AreKids entries kids → FitsLinks model number entries links
       → IsPart number args (sim.Net (net_of number args boss kids links))
@@ -105,7 +105,7 @@ module _ (model : Model) where
       }
 
   pub plan-links : (number : ModelId) (plan : Plan) → (system model).is_network number ≡ true → FitsNetwork model number.0 plan → FitsLinks model number plan.entries plan.links
-  plan-links number plan network is = record { own = is.own; found = is.found; network = network; order = is.fits.order; each = is.fits.links }
+  plan-links number plan network is = record { own = is.own; found = is.found; network = network; order = is.fits.order; ordinary = is.fits.ordinary; each = is.fits.links }
 
   module _ (laws : Laws model) (time : ℕ) (moment : IsMoment time) where
     abbrev pub Starts : Starter → Type 0
@@ -131,7 +131,7 @@ module _ (model : Model) where
     -- the structure of an executive's state
     pub structure-safe : (number : ModelId) (args : List Value) (boss : Leaf) (path : Path) → IsHead number args boss → Safe (FitsNetwork model number.0) (structure_of (system model) number args boss path)
     structure-safe number args boss path head =
-        let stood : FitsState model number.0 boss.state = subst (λ (m : ModelId). FitsState model m.0 boss.state) head.is (record { own = head.fits.own; found = head.fits.found; fill = head.fits.state }) in
+        let stood : FitsState model number.0 boss.state = subst (λ (m : ModelId). FitsState model m.0 boss.state) head.is.model (record { own = head.fits.own; found = head.fits.found; fill = head.fits.state }) in
         safe-at (FitsNetwork model number.0) (to_boss path) (((system model).network number args).structure boss.state) (laws.structure number args boss.state head.network head.args_fit stood)
 
     abbrev pub NetIs : ModelId → List Value → Net × ℕ → Type 0
@@ -148,11 +148,11 @@ module _ (model : Model) where
     net-starts : (left : ℕ) (starter : Starter) → Starts starter → (number : ModelId) (args : List Value) (path : Path) (room : ℕ) → (system model).is_network number ≡ true → FitsArgs model number.0 args
         → Safe (NetIs number args) (start_net (system model) left starter number args path time room).end
     net-starts left starter each number args path room network fits =
-        safe-then (λ one. IsLeaf model number args one.0) (NetIs number args) (start_leaf_at (system model) left number true args (to_boss path) time room)
+        safe-then (λ one. IsLeaf model number true args one.0) (NetIs number args) (start_leaf_at (system model) left number true args (to_boss path) time room)
         (with_boss (system model) starter number args path time)
         (leaf-starts model laws time moment number args fits left true (to_boss path) room)
         (λ boss own.
-        let head : IsHead number args boss.0 = record { network = network; args_fit = fits; fits = own.fits; is = own.model_is } in
+        let head : IsHead number args boss.0 = record { network = network; args_fit = fits; fits = own.fits; is = record { model = own.model_is; args = own.args_is; executive = own.boss_is } } in
         safe-then (FitsNetwork model number.0) (NetIs number args) (quietly (structure_of (system model) number args boss.0 path)) (with_plan starter number args boss.0 path time boss.1)
         (structure-safe number args boss.0 path head) (λ plan is. plan-starts starter each number args boss.0 path boss.1 plan head is))
 
@@ -166,7 +166,7 @@ module _ (model : Model) where
         safe-then (NetIs number args) (λ one. IsPart number args one.0) (start_net (system model) left (start (system model) left) number args path time rest) (λ net. told [] (sim.Net net.0, net.1))
         (net-starts left (start (system model) left) each number args path rest network fits) (λ net own. own))
     by-kind left each false number args path room atomic fits =
-        safe-then (λ one. IsLeaf model number args one.0) (λ one. IsPart number args one.0) (start_leaf_at (system model) (suc left) number false args path time room)
+        safe-then (λ one. IsLeaf model number false args one.0) (λ one. IsPart number args one.0) (start_leaf_at (system model) (suc left) number false args path time room)
         (λ leaf. told [] (sim.Leaf leaf.0, leaf.1))
         (leaf-starts model laws time moment number args fits (suc left) false path room) (λ leaf own. leaf-part number args leaf.0 atomic own)
 

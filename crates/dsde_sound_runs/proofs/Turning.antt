@@ -32,8 +32,9 @@ use Rattle.dsde_sound_components.specs.Sure.{FitsChosen}
 use Rattle.dsde_sound_runs.specs.Ends.{Arrives, ComeBy}
 use Rattle.dsde_sound_runs.proofs.Relied.{Laws}
 use Rattle.dsde_sound_runs.proofs.Safe.{Safe, safe-at, safe-then}
-use Rattle.dsde_sound_runs.proofs.Fitting.{FitsGot, FitsSent, FitsTree}
-use Rattle.dsde_sound_runs.proofs.Stood.{Stood, same-own, stood}
+use Rattle.dsde_sim_starting.specs.Fitting.{FitsSent, FitsTree}
+use Rattle.dsde_sound_runs.proofs.Ports.{Receives}
+use Rattle.dsde_sim_starting.specs.Stood.{Stood, same-own, stood}
 use Rattle.dsde_sound_runs.proofs.Starting.{IsPart, part-starts}
 use Rattle.dsde_sound_runs.proofs.Sending.{tree-answers}
 use Rattle.dsde_sound_runs.proofs.Moving.{tree-moves}
@@ -67,7 +68,7 @@ module _ (model : Model) (laws : Laws model) where
 
   module _ (own : Sim) (fits : FitsTree model own) (number time : ℕ) (moment : IsMoment time) where
     -- what comes to the root
-    root-got : (items : List Item) → ComeBy model (model_of own).0 items → FitsGot model (model_of own).0 (by_port (ins_of (system model) own) items)
+    root-got : (items : List Item) → ComeBy model (model_of own).0 items → Receives model (model_of own).0 (by_port (ins_of (system model) own) items)
     root-got items come =
         let one : Stood model own = stood model own fits in
         let same = same-own (slice_get (owns_of model.decls) (model_of own).0) one.stands come.own one.found come.found in
