@@ -21,7 +21,7 @@ use Rattle.dsde_system.specs.Body.{vars_of, body_vars, at_site, due}
 use Rattle.dsde_system.specs.Program.{system, component}
 use Rattle.dsde_system.specs.Fitting.{Fill, FitsArgs, FitsState}
 use Rattle.dsde_atomic.specs.Steps.{own_at, sited, due_by, FitsBody}
-use Rattle.dsde_sound_typing.specs.Outcomes.{sound-given}
+use Rattle.dsde_sound_typing.specs.lemmas.Outcomes.{sound-given}
 use Rattle.dsde_atomic.proofs.Ends.{some-is, site-end, site-ok, then-end, component-is}
 use Rattle.dsde_atomic.proofs.Filling.{fits-vars, values-vars, fill-append, fits-append, values-append}
 use Rattle.dsde_atomic.proofs.Advances.{is-advance}

@@ -27,7 +27,7 @@ use Rattle.dsde_system.specs.Program.{system, component}
 use Rattle.dsde_system.specs.Body.{vars_of, inits_from}
 use Rattle.dsde_system.specs.Fitting.{Fill, FitsArgs, FitsState}
 use Rattle.dsde_atomic.specs.Steps.{own_at, sited, Begun, Begins}
-use Rattle.dsde_sound_typing.specs.Outcomes.{sound-given}
+use Rattle.dsde_sound_typing.specs.lemmas.Outcomes.{sound-given}
 use Rattle.dsde_atomic.proofs.Ends.{some-is, site-end, site-ok, then-end, component-is}
 use Rattle.std.proofs.Common.{slice_index_or}
 use Rattle.dsde_atomic.proofs.Filling.{drop-at, drop-over, fits-vars, values-vars, fill-length, fill-drop, fits-fill, fits-append, values-append, drop-past}

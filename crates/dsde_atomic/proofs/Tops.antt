@@ -23,7 +23,7 @@ use Rattle.dsde_sound_places.specs.Conditions.{CanEval, Came}
 use Rattle.dsde_system.specs.Program.{system, args_from, top_of}
 use Rattle.dsde_system.specs.Fitting.{Fill, FitsArgs, Topped}
 use Rattle.dsde_atomic.specs.Steps.{sited}
-use Rattle.dsde_sound_typing.specs.Outcomes.{sound-given}
+use Rattle.dsde_sound_typing.specs.lemmas.Outcomes.{sound-given}
 use Rattle.dsde_atomic.proofs.Ends.{then-end}
 use Rattle.dsde_atomic.proofs.Filling.{fill-append, drop-at, drop-over}
 use Rattle.dsde_atomic.proofs.Infos.{infos-by, info_by}

@@ -20,7 +20,7 @@ use Rattle.dsde_sound_places.specs.Places.{IsExpr}
 use Rattle.dsde_sound_places.specs.Laws.{KnownIsWithin}
 use Rattle.dsde_sound_functions.specs.Coded.{coded_of, FuncsAgree, FunctionsAgree}
 use Rattle.dsde_sound_places.specs.Conditions.{CanEval, Came}
-use Rattle.dsde_sound_typing.specs.Outcomes.{sound-stuck}
+use Rattle.dsde_sound_typing.specs.lemmas.Outcomes.{sound-stuck}
 
 module _ (model : Model) (right : IsRight model) (agree : ExpressionsAgree) (within : KnownIsWithin) (functions : FunctionsAgree) where
   module _ (total : Bool) (slots : List Field) (number : ℕ) (expr : Expr) (t : Ty) (is : IsExpr model total slots number expr t) where

@@ -22,8 +22,8 @@ use Rattle.dsde_eval_meaning.specs.Typed.{Typed, Sound}
 use Rattle.dsde_sound_places.specs.Places.{IsExpr}
 use Rattle.dsde_eval_meaning.specs.Functions.{mean_of}
 use Rattle.dsde_sound_places.specs.Conditions.{CanEval, Came, IsVia, CanTranslate, Translated, via_values, option_value}
-use Rattle.dsde_sound_typing.specs.Outcomes.{sound-given}
-use Rattle.dsde_sound_typing.specs.Values.{Held, option-sound}
+use Rattle.dsde_sound_typing.specs.lemmas.Outcomes.{sound-given}
+use Rattle.dsde_sound_typing.specs.lemmas.Values.{Held, option-sound}
 use Rattle.dsde_eval.specs.Translations.{HasTargetType}
 use Rattle.dsde_eval.proofs.Typing.{is-option, total-ok}
 

@@ -16,7 +16,7 @@ use Rattle.dsde_sim_turns.specs.declared.step.Step.{Step}
 use Rattle.dsde_sim_turns.specs.declared.step.Step.TheVariants.{Turned}
 use Rattle.dsde_sim_turns.specs.Engine.{Engine, turned}
 use Rattle.dsde_sim_turns.specs.Turn.{turn, turn_time, is_taken, items_at, after_turn, advance}
-use Rattle.dsde_sim_telling.specs.GoingOn.{GoesOn, goes-begin, goes-step, goes-stops, goes-end}
+use Rattle.dsde_sim_telling.specs.lemmas.GoingOn.{GoesOn, goes-begin, goes-step, goes-stops, goes-end}
 use Rattle.dsde_sim_moving.specs.Fitting.{FitsTree}
 use Rattle.dsde_sim.specs.Working.{Comes, FitsItems}
 use Rattle.dsde_sim_moving.specs.Stood.{stood}

@@ -16,7 +16,7 @@ use Rattle.dsde_sim_tree.specs.declared.sim.Sim.TheViews.{out-Kid, out-Net, roll
 use Rattle.dsde_sim_tree.specs.Tree.{sooner, soonest, next_step, next_kid, next_net, next_time, next_of_kid}
 use Rattle.dsde_sim_moving.specs.Fitting.{FitsTree, FitsKid}
 use Rattle.dsde_sim_moving.specs.Fits.{leaf-tree, net-tree, net-shape, net-kids, kid-tree}
-use Rattle.dsde_sim_tree.specs.Trees.{each_tree}
+use Rattle.dsde_sim_tree.specs.lemmas.Trees.{each_tree}
 
 abbrev next_of_net : Net → When
 next_of_net = fold-Net When When When next_step next_kid next_net

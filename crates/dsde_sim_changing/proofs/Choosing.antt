@@ -6,6 +6,7 @@ use Rattle.std.specs.declared.cmp.Ordering.TheVariants.{Less, Equal, Greater}
 use Rattle.std.specs.Cmp.{Equal-is}
 use Rattle.std.specs.List.{list_any, AllByRecursion}
 use Rattle.std.proofs.lemmas.Map.Keys.{sorted_head, sorted_tail}
+use Rattle.dsde_sim_tree.specs.Tree.{name_of}
 use Rattle.dsde_values.specs.declared.name.Name.{Name}
 use Rattle.dsde_values.specs.Path.{name_cmp}
 use Rattle.dsde_structure.specs.declared.plan.Entry.{Entry}
@@ -13,7 +14,6 @@ use Rattle.dsde_structure.specs.Gather.{is_same_name}
 use Rattle.dsde_structure.specs.Survival.{AreInOrder, IsInOrder, names}
 use Rattle.dsde_sim_tree.specs.declared.sim.Kid.{Kid}
 use Rattle.dsde_sim_tree.specs.Move.{survives, take_named}
-use Rattle.dsde_sim_changing.specs.Heads.{name_of}
 use Rattle.dsde_sim_changing.specs.Survivors.{is_next}
 use Rattle.dsde_sim_changing.proofs.Orders.{S, total, same-name, ties, fails, IsBefore, before-less, before-tied, tied-back, greater-back, less-back, apart-back}
 use Rattle.dsde_sim_changing.proofs.Walking.{only-first}

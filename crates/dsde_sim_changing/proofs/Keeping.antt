@@ -9,8 +9,7 @@ use Rattle.dsde_values.specs.Path.{name_cmp}
 use Rattle.dsde_structure.specs.declared.plan.Entry.{Entry}
 use Rattle.dsde_structure.specs.Survival.{AreInOrder, IsInOrder}
 use Rattle.dsde_sim_tree.specs.declared.sim.Kid.{Kid}
-use Rattle.dsde_sim_tree.specs.Tree.{entry_of}
-use Rattle.dsde_sim_changing.specs.Heads.{name_of}
+use Rattle.dsde_sim_tree.specs.Tree.{entry_of, name_of}
 use Rattle.dsde_sim_changing.proofs.Orders.{IsBefore}
 
 each-cond : {A : Type 0} (P : A → Type 0) (b : Bool) (x : A) (xs : List A) → P x → AllByRecursion P xs → AllByRecursion P (cond b (x ∷ xs) xs)

@@ -12,9 +12,8 @@ use Rattle.dsde_structure.specs.declared.plan.Entry.{Entry}
 use Rattle.dsde_structure.specs.Gather.{is_same_name}
 use Rattle.dsde_structure.specs.Survival.{names, survives as stays}
 use Rattle.dsde_sim_tree.specs.declared.sim.Kid.{Kid}
-use Rattle.dsde_sim_tree.specs.Tree.{entry_of}
+use Rattle.dsde_sim_tree.specs.Tree.{entry_of, name_of}
 use Rattle.dsde_sim_tree.specs.Move.{gone, kept}
-use Rattle.dsde_sim_changing.specs.Heads.{name_of}
 
 pub total : IsTotalOrder name_cmp
 total = search (comparing, rules)

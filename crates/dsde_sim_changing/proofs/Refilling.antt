@@ -12,12 +12,11 @@ use Rattle.dsde_structure.specs.Survival.{AreInOrder, IsInOrder, names, survives
 use Rattle.dsde_sim_events.specs.declared.event.Event.{Event}
 use Rattle.dsde_sim_events.specs.declared.fault.TurnEnd.{TurnEnd}
 use Rattle.dsde_sim_events.specs.Told.{Told, told, ◌then◌}
-use Rattle.dsde_sim_telling.specs.GoingOn.{GoesOn, goes-step}
+use Rattle.dsde_sim_telling.specs.lemmas.GoingOn.{GoesOn, goes-step}
 use Rattle.dsde_sim_tree.specs.declared.sim.Kid.{Kid}
-use Rattle.dsde_sim_tree.specs.Tree.{entry_of, parts_of_kid, parts_of_kids}
+use Rattle.dsde_sim_tree.specs.Tree.{entry_of, parts_of_kid, parts_of_kids, name_of}
 use Rattle.dsde_sim_tree.specs.Start.{Starter, started_kid}
 use Rattle.dsde_sim_tree.specs.Move.{refilled, take_named}
-use Rattle.dsde_sim_changing.specs.Heads.{name_of}
 use Rattle.dsde_sim_changing.specs.Survivors.{is_next, filled, survivor_parts}
 use Rattle.dsde_sim_changing.proofs.Orders.{S}
 use Rattle.dsde_sim_changing.proofs.Walking.{parts-cons, parts-append}

@@ -14,11 +14,11 @@ use Rattle.dsde_structure.specs.declared.plan.Entry.{Entry}
 use Rattle.dsde_structure.specs.Survival.{AreInOrder, IsInOrder, names}
 use Rattle.dsde_sim_events.specs.declared.event.Event.{Event}
 use Rattle.dsde_sim_events.specs.Told.{IsCut}
-use Rattle.dsde_sim_telling.specs.GoingOn.{cut-within}
+use Rattle.dsde_sim_telling.specs.lemmas.GoingOn.{cut-within}
 use Rattle.dsde_sim_tree.specs.declared.sim.Kid.{Kid}
-use Rattle.dsde_sim_tree.specs.Tree.{parts_of_kid, parts_of_kids}
+use Rattle.dsde_sim_tree.specs.Tree.{parts_of_kid, parts_of_kids, name_of}
 use Rattle.dsde_sim_tree.specs.Move.{gone, kept, drop_of}
-use Rattle.dsde_sim_changing.specs.Heads.{name_of, from_name, is_first}
+use Rattle.dsde_sim_changing.specs.Heads.{from_name, is_first}
 use Rattle.dsde_sim_changing.proofs.Orders.{S, IsBefore, before-less, before-tied, tied-back, greater-back, none-after, kept-later, gone-later}
 
 -- a component before others, and an entry before it

@@ -9,9 +9,6 @@ use Rattle.dsde_sim_tree.specs.declared.sim.Kid.{Kid}
 use Rattle.dsde_sim_tree.specs.declared.sim.Sim.TheViews.{out-Kid}
 use Rattle.dsde_sim_tree.specs.Tree.{entry_of}
 
-abbrev pub name_of : Kid → Name
-name_of kid = (out-Kid kid).name
-
 -- the entries from a name on
 abbrev pub from_name : Name → List Entry → List Entry
 from_name name [] = []

@@ -9,10 +9,9 @@ ghost use Rattle.dsde_structure.specs.Survival.{AreInOrder, IsInOrder};
 ghost use Rattle.dsde_system.specs.Program.{system};
 ghost use Rattle.dsde_system.specs.Plans.{FitsEntry};
 ghost use Rattle.dsde_sim_starting.specs.Fitting.{FitsKid};
-ghost use Rattle.dsde_sim_tree.specs.Tree.{entry_of, parts_of_kid, parts_of_kids};
+ghost use Rattle.dsde_sim_tree.specs.Tree.{entry_of, parts_of_kid, parts_of_kids, name_of};
 ghost use Rattle.dsde_sim_tree.specs.Start.{start};
 ghost use Rattle.dsde_sim_tree.specs.Move.{survives, refilled, left_behind, change};
-ghost use Rattle.dsde_sim_changing.specs.Heads.{name_of};
 ghost use Rattle.dsde_sim_changing.specs.Survivors.{is_next, filled, survivor_parts};
 
 use crate::splitting::split;

@@ -3,9 +3,9 @@
 ghost use Rattle.std.specs.Prelude.{◌≡◌, ◌+◌, ◌<◌, ◌^◌, [], ◌∷◌, ◌++◌, map, IfOk, OnOk};
 ghost use Rattle.dsde_sim_events.specs.Told.{IsCut};
 ghost use Rattle.dsde_structure.specs.Survival.{AreInOrder, IsInOrder, survives as stays};
-ghost use Rattle.dsde_sim_tree.specs.Tree.{model_of, args_of, entry_of, parts_of_kid, parts_of_kids};
+ghost use Rattle.dsde_sim_tree.specs.Tree.{model_of, args_of, entry_of, parts_of_kid, parts_of_kids, name_of};
 ghost use Rattle.dsde_sim_tree.specs.Move.{gone, kept, drop_of};
-ghost use Rattle.dsde_sim_changing.specs.Heads.{name_of, from_name, is_first};
+ghost use Rattle.dsde_sim_changing.specs.Heads.{from_name, is_first};
 
 use crate::counting::parts;
 use dsde_declared::ModelId;

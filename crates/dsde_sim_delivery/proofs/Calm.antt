@@ -35,11 +35,11 @@ use Rattle.dsde_sim_tree.specs.Opened.{shape_in, spots-Net, spots-kid, spots-net
 use Rattle.dsde_sim_tree.specs.Output.{sources_of, kid_output}
 use Rattle.dsde_sim_tree.specs.Spots.{spots_of_kid}
 use Rattle.dsde_sim_tree.specs.Start.{net_of}
-use Rattle.dsde_sim_tree.specs.Tree.{entry_of}
-use Rattle.dsde_sim_tree.specs.Trees.{each_tree}
+use Rattle.dsde_sim_tree.specs.Tree.{entry_of, name_of}
+use Rattle.dsde_sim_tree.specs.lemmas.Trees.{each_tree}
 use Rattle.dsde_sim_delivery.specs.Places.{paths_from, paths_of_kid, added, reached, HasOrder, IsInOrder}
 use Rattle.dsde_sim_delivery.specs.lemmas.Events.{each-append, each-weaker, each-then, Among, among-cases, each-among, each-flat}
-use Rattle.dsde_sim_delivery.specs.lemmas.Opens.{name_of, paths-Leaf, paths-Net, paths-kid}
+use Rattle.dsde_sim_delivery.specs.lemmas.Opens.{paths-Leaf, paths-Net, paths-kid}
 use Rattle.dsde_sim_delivery.proofs.Adds.{IsStart}
 use Rattle.dsde_sim_delivery.proofs.Telling.{take-told, leaf-told, after_boss-told}
 use Rattle.dsde_sim_delivery.proofs.Reaching.{IsBelow, IsOf, kid-of, kids-of, boss-of, moves-of, MovesOf, paths_of_kids, added-below, reached-among}

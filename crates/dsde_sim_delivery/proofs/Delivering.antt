@@ -5,6 +5,7 @@ use Rattle.std.proofs.lemmas.List.Elements.{filter-append}
 use Rattle.std.specs.List.{AllByRecursion, flat_map, filter}
 use Rattle.std.specs.Prelude.{if◌then◌else◌}
 use borrow.Author.Tests.{lt-ltb}
+use Rattle.dsde_sim_tree.specs.Tree.{name_of}
 use Rattle.dsde_values.specs.declared.name.Name.{Name}
 use Rattle.dsde_values.specs.declared.path.Path.{Path}
 use Rattle.dsde_values.specs.declared.value.Value.{Value}
@@ -31,10 +32,10 @@ use Rattle.dsde_sim_tree.specs.Move.{gets_at, gets_from, take_move, move_leaf_at
 use Rattle.dsde_sim_tree.specs.Opened.{as_leaf, as_net, move-Leaf, move-Net, kid_move-opens, net_move-opens}
 use Rattle.dsde_sim_tree.specs.Output.{sources_of, kid_output}
 use Rattle.dsde_sim_tree.specs.Start.{net_of}
-use Rattle.dsde_sim_tree.specs.Trees.{each_tree}
+use Rattle.dsde_sim_tree.specs.lemmas.Trees.{each_tree}
 use Rattle.dsde_sim_delivery.specs.Deliveries.{Delivery, KidReceives, shared, deliveries, deliveries_of_kid, gets_of, is_get}
 use Rattle.dsde_sim_delivery.specs.Delivered.{UpTo}
-use Rattle.dsde_sim_delivery.specs.lemmas.Opens.{name_of, deliveries-Leaf, deliveries-Net, deliveries-kid}
+use Rattle.dsde_sim_delivery.specs.lemmas.Opens.{deliveries-Leaf, deliveries-Net, deliveries-kid}
 use Rattle.dsde_sim_delivery.proofs.Adds.{IsStart}
 use Rattle.dsde_sim_delivery.proofs.Telling.{after_boss-told}
 

@@ -1,6 +1,7 @@
 -- Only what was there is reached, and only what stands below is added.
 use Rattle.std.proofs.Common.{◌≡◌, ℕ, List, [], ◌∷◌, ◌++◌, map, refl, sym, ◌∙◌, ap, subst, append_assoc, inl, inr}
 use Rattle.std.specs.List.{AllByRecursion, flat_map}
+use Rattle.dsde_sim_tree.specs.Tree.{name_of}
 use Rattle.dsde_values.specs.declared.name.Name.{Name}
 use Rattle.dsde_values.specs.declared.path.Path.{Path}
 use Rattle.dsde_values.specs.declared.value.Value.{Value}
@@ -24,10 +25,10 @@ use Rattle.dsde_sim_tree.specs.Move.{move_leaf_at, moved, boss_moves, after_kids
 use Rattle.dsde_sim_tree.specs.Opened.{as_leaf, as_net, move-Leaf, move-Net, kid_move-opens, net_move-opens}
 use Rattle.dsde_sim_tree.specs.Output.{sources_of, kid_output}
 use Rattle.dsde_sim_tree.specs.Start.{start}
-use Rattle.dsde_sim_tree.specs.Trees.{each_tree}
+use Rattle.dsde_sim_tree.specs.lemmas.Trees.{each_tree}
 use Rattle.dsde_sim_delivery.specs.Places.{paths_from, paths_of_kid, added, reached}
 use Rattle.dsde_sim_delivery.specs.lemmas.Events.{each-weaker, each-then, Among, among-left, among-right}
-use Rattle.dsde_sim_delivery.specs.lemmas.Opens.{name_of, paths-Leaf, paths-Net, paths-kid}
+use Rattle.dsde_sim_delivery.specs.lemmas.Opens.{paths-Leaf, paths-Net, paths-kid}
 use Rattle.dsde_sim_delivery.proofs.Adds.{IsStart}
 use Rattle.dsde_sim_delivery.proofs.Telling.{leaf-told, boss-told}
 

@@ -3,6 +3,7 @@ use Rattle.std.proofs.Common.{◌≡◌, ℕ, ◌+◌, ◌<◌, length, get_or, 
 use Rattle.std.specs.declared.cmp.Ordering.TheVariants.{Equal}
 use Rattle.std.specs.List.Sorted.{IsStrictlySortedBy}
 use Rattle.std.proofs.lemmas.List.{take_more}
+use Rattle.dsde_sim_tree.specs.Tree.{name_of}
 use Rattle.dsde_values.specs.declared.name.Name.{Name}
 use Rattle.dsde_values.specs.Path.{name_cmp}
 use Rattle.dsde_structure.specs.declared.plan.End.{End}
@@ -16,7 +17,7 @@ use Rattle.dsde_sim_tree.specs.declared.sim.Kid.{Kid}
 use Rattle.dsde_sim_tree.specs.declared.sim.Sim.TheViews.{out-Kid}
 use Rattle.dsde_sim_tree.specs.Move.{ins_of}
 use Rattle.dsde_sim_gathering.specs.declared.boxes.Inboxes.{Inboxes}
-use Rattle.dsde_sim_gathering.specs.Boxes.{added, box_of, boxes_of, changed_at, delivered, name_of, place_of, sent_on}
+use Rattle.dsde_sim_gathering.specs.Boxes.{added, box_of, boxes_of, changed_at, delivered, place_of, sent_on}
 use Rattle.dsde_sim_gathering.proofs.Adding.{comes, comes-elsewhere, comes-here}
 use Rattle.dsde_sim_gathering.proofs.Placing.{one-changes}
 

@@ -1,6 +1,7 @@
 -- What comes to the parts of a network, link by link.
 use Rattle.std.specs.Prelude.{ℕ, zero, suc, if◌then◌else◌, List, [], ◌∷◌, ◌++◌, map, Option, Some, None, option_map}
 use Rattle.std.specs.List.{range_with_len}
+use Rattle.dsde_sim_tree.specs.Tree.{name_of}
 use Rattle.dsde_values.specs.declared.name.Name.{Name}
 use Rattle.dsde_values.specs.declared.value.Value.{Value}
 use Rattle.dsde_structure.specs.declared.plan.Link.{Link}
@@ -36,9 +37,6 @@ changed_at (Some index) change items = changed index change items
 -- no values yet, at so many ports
 abbrev pub empty_ports : ℕ → Ports
 empty_ports ports = map (λ port. []) (range_with_len 0 ports)
-
-abbrev pub name_of : Kid → Name
-name_of kid = (out-Kid kid).name
 
 -- what comes to a component
 abbrev pub box_of : System → List Link → Sources → Kid → Ports

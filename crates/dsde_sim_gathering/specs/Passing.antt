@@ -20,8 +20,7 @@ use Rattle.dsde_sim_tree.specs.declared.sim.Net.{Net}
 use Rattle.dsde_sim_tree.specs.declared.sim.Sim.{Sim}
 use Rattle.dsde_sim_tree.specs.declared.sim.Sim.TheOpen as layer
 use Rattle.dsde_sim_tree.specs.declared.sim.Sim.TheViews.{out-Sim, out-Net}
-use Rattle.dsde_sim_tree.specs.Tree.{model_of}
-use Rattle.dsde_sim_gathering.specs.Boxes.{name_of}
+use Rattle.dsde_sim_tree.specs.Tree.{model_of, name_of}
 
 -- A value has the type that a translation takes.
 pub record IsTaken (model : Model) (via : Via) (own : Value) : Type 0 where

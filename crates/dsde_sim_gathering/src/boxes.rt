@@ -2,13 +2,14 @@
 
 ghost use Rattle.std.specs.Prelude.{◌≡◌, map, IfOk, OnOk};
 ghost use Rattle.std.specs.List.{AllByRecursion};
+ghost use Rattle.dsde_sim_tree.specs.Tree.{name_of};
 ghost use Rattle.dsde_structure.specs.declared.plan.Part.TheVariants as part;
 ghost use Rattle.dsde_structure.specs.Gather.{carried, gathered};
 ghost use Rattle.dsde_system.specs.Program.{system};
 ghost use Rattle.dsde_sim_tree.specs.declared.sim.Sim.TheViews.{out-Kid};
 ghost use Rattle.dsde_sim_tree.specs.Move.{ins_of};
 ghost use Rattle.dsde_sound_links.specs.Carrying.{FitsWiring};
-ghost use Rattle.dsde_sim_gathering.specs.Boxes.{added, changed, delivered, name_of, sent_on, empty_ports};
+ghost use Rattle.dsde_sim_gathering.specs.Boxes.{added, changed, delivered, sent_on, empty_ports};
 ghost use Rattle.dsde_sim_gathering.specs.Passing.{AllPass, AreSorted, AreSortedKids, IsOfModel};
 
 use crate::carry::carry_to;

@@ -1,9 +1,10 @@
 //! Components by their names.
 
 ghost use Rattle.std.specs.Prelude.{◌≡◌, ◌<◌, map, length, IfSome};
+ghost use Rattle.dsde_sim_tree.specs.Tree.{name_of};
 ghost use Rattle.dsde_structure.specs.Gather.{sent_by};
 ghost use Rattle.dsde_structure.specs.Survival.{AreInOrder};
-ghost use Rattle.dsde_sim_gathering.specs.Boxes.{name_of, place_of};
+ghost use Rattle.dsde_sim_gathering.specs.Boxes.{place_of};
 ghost use Rattle.dsde_sim_gathering.specs.Passing.{AreSortedKids};
 
 use dsde_sim_tree::Kid;

@@ -1,6 +1,7 @@
 -- The output message asks each that is due, in path order.
 use Rattle.std.proofs.Common.{◌≡◌, ℕ, Bool, true, false, List, [], ◌∷◌, ◌++◌, map, Result, Ok, Err, refl, sym, ◌∙◌, ap, cond}
 use Rattle.std.specs.List.{AllByRecursion, flat_map}
+use Rattle.dsde_sim_tree.specs.Tree.{name_of}
 use Rattle.dsde_values.specs.declared.path.Path.{Path}
 use Rattle.dsde_values.specs.declared.arrival.Item.{Item}
 use Rattle.dsde_faults.specs.declared.end.LeafEnd.{LeafEnd}
@@ -22,10 +23,9 @@ use Rattle.dsde_sim_tree.specs.declared.sim.Sim.TheOpen as layer
 use Rattle.dsde_sim_tree.specs.declared.sim.Sim.TheVariants as sim
 use Rattle.dsde_sim_tree.specs.declared.sim.Sim.TheViews.{out-Kid, out-Net, roll-out-Kid, roll-out-Net, rolls-Leaf, rolls-Net}
 use Rattle.dsde_sim_tree.specs.Output.{◌>>=◌, by_port, sent, Answer, KidAnswer, asked, sources_of, output_step, output_kid, output_net, output, kid_output, output_of_net}
-use Rattle.dsde_sim_tree.specs.Trees.{each_tree}
+use Rattle.dsde_sim_tree.specs.lemmas.Trees.{each_tree}
 use Rattle.dsde_sim_delivery.specs.lemmas.Opens.{flat_map-map}
 use Rattle.dsde_sim_movers.specs.Asking.{Seated, Seatings, seated_step, seated_kid, seated_net, seated, seated_of_kid, seated_of_net, ending, ask_each, due_ones}
-use Rattle.dsde_sim_movers.specs.lemmas.Seats.{name_of}
 
 bind-assoc : {A B C : Type 0} (result : Result A TurnEnd) (next : A → Result B TurnEnd) (last : B → Result C TurnEnd) → ((result >>= next) >>= last) ≡ (result >>= (λ value. next value >>= last))
 bind-assoc (Ok value) next last = refl

@@ -19,10 +19,10 @@ use Rattle.dsde_sim_events.specs.Told.{Told, told, telling, ◌then◌}
 use Rattle.dsde_sim_tree.specs.declared.sim.Kid.{Kid}
 use Rattle.dsde_sim_tree.specs.Move.{change, drop_of, gone, kept, left_behind, refilled, survives, take_named}
 use Rattle.dsde_sim_tree.specs.Start.{Starter, start, started_kid}
-use Rattle.dsde_sim_tree.specs.Tree.{entry_of, parts_of_kids}
+use Rattle.dsde_sim_tree.specs.Tree.{entry_of, parts_of_kids, name_of}
 use Rattle.dsde_sim_movers.specs.Changes.{changed_as, first_called, is_fresh, placed, placed_each, those_called}
 use Rattle.dsde_sim_movers.specs.lemmas.Named.{same_name}
-use Rattle.dsde_sim_movers.specs.lemmas.Seats.{if-false, if-true, name_of}
+use Rattle.dsde_sim_movers.specs.lemmas.Seats.{if-false, if-true}
 use Rattle.dsde_sim_movers.specs.lemmas.Steps.{then-assoc, then-same}
 use Rattle.dsde_sim_movers.proofs.Moving.{filter-same}
 

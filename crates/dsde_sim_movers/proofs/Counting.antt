@@ -22,12 +22,12 @@ use Rattle.dsde_sim_tree.specs.declared.sim.Sim.TheVariants as sim
 use Rattle.dsde_sim_tree.specs.declared.sim.Sim.TheViews.{out-Kid, out-Net}
 use Rattle.dsde_sim_tree.specs.Move.{ins_of}
 use Rattle.dsde_sim_tree.specs.Output.{sources_of, kid_output}
-use Rattle.dsde_sim_tree.specs.Tree.{parts, parts_of_kid, parts_of_kids}
-use Rattle.dsde_sim_tree.specs.Trees.{each_tree}
+use Rattle.dsde_sim_tree.specs.Tree.{parts, parts_of_kid, parts_of_kids, name_of}
+use Rattle.dsde_sim_tree.specs.lemmas.Trees.{each_tree}
 use Rattle.dsde_sim_delivery.specs.Deliveries.{Delivery, KidReceives, shared, deliveries, deliveries_of_kid}
 use Rattle.dsde_sim_delivery.specs.lemmas.Opens.{deliveries-Leaf, deliveries-Net, deliveries-kid}
 use Rattle.dsde_sim_movers.specs.Movers.{Seat, seat_behind, is_mover, movers}
-use Rattle.dsde_sim_movers.specs.lemmas.Seats.{name_of, IsBehind, seat-in-net}
+use Rattle.dsde_sim_movers.specs.lemmas.Seats.{IsBehind, seat-in-net}
 use Rattle.dsde_sim_movers.specs.lemmas.Beneath.{behind-kid}
 use Rattle.dsde_sim_movers.proofs.Moving.{filter-same, seat-itself}
 use Rattle.dsde_sim_movers.specs.lemmas.Named.{IsPlaced, names-of, net-places}

@@ -8,6 +8,7 @@ use Rattle.std.specs.Cmp.{IsTotalOrder}
 use Rattle.std.specs.List.{AllByRecursion, IsDistinct, flat_map, range_with_len}
 use Rattle.std.specs.Ordering.{ordering_reverse}
 use Rattle.std.specs.Prelude.{if◌then◌else◌, slice_index_or}
+use Rattle.dsde_sim_tree.specs.Tree.{name_of}
 use Rattle.dsde_values.specs.declared.name.Name.{Name}
 use Rattle.dsde_values.specs.declared.path.Path.{Path}
 use Rattle.dsde_values.specs.declared.value.Value.{Value}
@@ -31,13 +32,13 @@ use Rattle.dsde_sim_tree.specs.declared.sim.Sim.TheOpen.{Sim-F}
 use Rattle.dsde_sim_tree.specs.declared.sim.Sim.TheViews.{out-Kid, out-Net}
 use Rattle.dsde_sim_tree.specs.Move.{ins_of}
 use Rattle.dsde_sim_tree.specs.Output.{sources_of, kid_output}
-use Rattle.dsde_sim_tree.specs.Trees.{each_tree}
+use Rattle.dsde_sim_tree.specs.lemmas.Trees.{each_tree}
 use Rattle.dsde_sim_delivery.specs.Deliveries.{Delivery, KidReceives, shared, deliveries, deliveries_of_kid, is_same_path, meant, received}
 use Rattle.dsde_sim_delivery.specs.lemmas.Events.{each-append}
 use Rattle.dsde_sim_delivery.specs.lemmas.Opens.{deliveries-Leaf, deliveries-Net, deliveries-kid}
 use Rattle.dsde_sim_movers.specs.Movers.{Seat, seat_of, seat_behind, leaf_in, leaf_at, AreInPathOrder}
 use Rattle.dsde_sim_movers.specs.Found.{IsFound}
-use Rattle.dsde_sim_movers.specs.lemmas.Seats.{out-Leaf, whole, whole-of, name_of, same-kid, NoneNamed, boss-at-whole, drop-front, IsBehind, net_with, seat-in-net, leaf-within}
+use Rattle.dsde_sim_movers.specs.lemmas.Seats.{out-Leaf, whole, whole-of, same-kid, NoneNamed, boss-at-whole, drop-front, IsBehind, net_with, seat-in-net, leaf-within}
 use Rattle.dsde_sim_movers.specs.lemmas.Beneath.{behind-kid}
 use Rattle.dsde_sim_movers.proofs.Moving.{none-before, seat-itself}
 use Rattle.dsde_sim_movers.specs.lemmas.Named.{same_name, IsPlaced, names-of, net-places}

@@ -15,14 +15,13 @@ use Rattle.dsde_sim_tree.specs.declared.sim.Sim.TheFolds.{fold-Net, fold-roll-Si
 use Rattle.dsde_sim_tree.specs.declared.sim.Sim.TheOpen as layer
 use Rattle.dsde_sim_tree.specs.declared.sim.Sim.TheVariants as sim
 use Rattle.dsde_sim_tree.specs.declared.sim.Sim.TheViews.{out-Kid, out-Net, roll-out-Kid, roll-out-Net, rolls-Leaf, rolls-Net}
-use Rattle.dsde_sim_tree.specs.Tree.{parts_step, kid_parts, net_parts, parts, parts_of_kid, parts_of_net, soonest, next_step, next_kid, next_net, next_time, next_of_kid}
-use Rattle.dsde_sim_tree.specs.Trees.{each_tree}
+use Rattle.dsde_sim_tree.specs.Tree.{parts_step, kid_parts, net_parts, parts, parts_of_kid, parts_of_net, soonest, next_step, next_kid, next_net, next_time, next_of_kid, name_of}
+use Rattle.dsde_sim_tree.specs.lemmas.Trees.{each_tree}
 use Rattle.dsde_sim_delivery.specs.Places.{paths_from, paths_of_kid}
 use Rattle.dsde_sim_delivery.specs.lemmas.Events.{Among, among-left, among-right, contains-from, each-append, each-weaker}
 use Rattle.dsde_sim_delivery.specs.lemmas.Opens.{paths-Leaf, paths-Net, paths-kid}
 use Rattle.dsde_sim_movers.specs.Asking.{Seated, seated, seated_of_kid, IsFrom, IsNext}
 use Rattle.dsde_sim_movers.proofs.Asked.{seated-Leaf, seated-Net, seated-kid}
-use Rattle.dsde_sim_movers.specs.lemmas.Seats.{name_of}
 
 pub parts-Leaf : (leaf : Leaf) → parts (sim.Leaf leaf) ≡ 1
 parts-Leaf leaf = ap parts (sym (rolls-Leaf leaf)) ∙ fold-roll-Sim ℕ ℕ ℕ parts_step kid_parts net_parts (layer.Leaf leaf)

@@ -6,6 +6,7 @@ use Rattle.std.proofs.lemmas.Map.Keys.{IsDistinct-head, IsDistinct-tail}
 use Rattle.std.specs.Cmp.{IsTotalOrder}
 use Rattle.std.specs.List.{AllByRecursion, IsDistinct, flat_map, filter}
 use Rattle.std.specs.Prelude.{if◌then◌else◌}
+use Rattle.dsde_sim_tree.specs.Tree.{name_of}
 use Rattle.dsde_values.specs.declared.name.Name.{Name}
 use Rattle.dsde_values.specs.declared.path.Path.{Path}
 use Rattle.dsde_values.specs.declared.value.Value.{Value}
@@ -31,14 +32,14 @@ use Rattle.dsde_sim_tree.specs.Move.{take_move, move_leaf_at, moved, after_boss,
 use Rattle.dsde_sim_tree.specs.Opened.{as_leaf, as_net, move-Leaf, move-Net, kid_move-opens, net_move-opens}
 use Rattle.dsde_sim_tree.specs.Output.{output}
 use Rattle.dsde_sim_tree.specs.Start.{kid_of, net_of}
-use Rattle.dsde_sim_tree.specs.Trees.{each_tree}
+use Rattle.dsde_sim_tree.specs.lemmas.Trees.{each_tree}
 use Rattle.dsde_sim_delivery.specs.Deliveries.{Delivery, KidReceives, shared, deliveries, deliveries_of_kid}
 use Rattle.dsde_sim_delivery.specs.lemmas.Asking.{asked-again}
 use Rattle.dsde_sim_delivery.specs.lemmas.Events.{each-filter, each-weaker}
 use Rattle.dsde_sim_delivery.specs.lemmas.Opens.{deliveries-Leaf, deliveries-Net, deliveries-kid}
 use Rattle.dsde_sim_movers.specs.Movers.{Seat, seat_of, leaf_in, leaf_at, moves, path_behind, move_at, seat_behind, move_one, move_each, is_called, is_mover, movers}
 use Rattle.dsde_sim_movers.specs.lemmas.Steps.{then-told, then-assoc, then-same}
-use Rattle.dsde_sim_movers.specs.lemmas.Seats.{out-Leaf, whole, name_of, whole-of, same-kid, named, NoneNamed, boss-moves-whole, leaf-moves-leaf, boss-at-whole, drop-front, IsBehind, net_with, with_room, move_one-within, is_mover-within}
+use Rattle.dsde_sim_movers.specs.lemmas.Seats.{out-Leaf, whole, whole-of, same-kid, named, NoneNamed, boss-moves-whole, leaf-moves-leaf, boss-at-whole, drop-front, IsBehind, net_with, with_room, move_one-within, is_mover-within}
 use Rattle.dsde_sim_movers.specs.lemmas.Beneath.{AreBehind, behind-kid}
 use Rattle.dsde_sim_movers.specs.lemmas.Named.{same_name, IsPlaced, names-of, net-places}
 

@@ -36,7 +36,7 @@ use Rattle.dsde_sim_tree.specs.Move.{take_move, move_leaf_at, gone, kept, surviv
 use Rattle.dsde_sim_tree.specs.Opened.{as_leaf, as_net, spots-Leaf}
 use Rattle.dsde_sim_tree.specs.Start.{entered, kid_of, net_of, start_leaf_at, Starter, started_kid, starts, structure_of, with_plan, with_boss, start_net, start_net_at, start_atomic, start}
 use Rattle.dsde_sim_tree.specs.Output.{output}
-use Rattle.dsde_sim_tree.specs.Tree.{entry_of, model_of, args_of, parts, parts_of_kids}
+use Rattle.dsde_sim_tree.specs.Tree.{entry_of, model_of, args_of, parts, parts_of_kids, name_of}
 use Rattle.dsde_sim_turns.specs.declared.step.TheConstants.{MOST_PARTS}
 use Rattle.dsde_sim_turns.specs.Turn.{without_room}
 use Rattle.dsde_sim_delivery.specs.Deliveries.{Delivery}
@@ -45,7 +45,7 @@ use Rattle.dsde_sim_movers.specs.Parts.{part_at, with_part}
 use Rattle.dsde_sim_movers.specs.Movers.{Step, moves_in, moves, path_behind, seat_behind, move_one, move_each}
 use Rattle.dsde_sim_movers.specs.Names.{AreNames, HasNames, IsNamed, NamesParts}
 use Rattle.dsde_sim_movers.specs.Turns.{free_phase, free_turn}
-use Rattle.dsde_sim_movers.specs.lemmas.Seats.{out-Leaf, out-Net-of, whole, name_of, named, own-sim, boss-moves-whole, leaf-moves-leaf}
+use Rattle.dsde_sim_movers.specs.lemmas.Seats.{out-Leaf, out-Net-of, whole, named, own-sim, boss-moves-whole, leaf-moves-leaf}
 use Rattle.dsde_sim_movers.specs.lemmas.Lenses.{by_parts}
 use Rattle.dsde_sim_movers.specs.lemmas.Steps.{same-ok, never-ok, split-then}
 use Rattle.dsde_sim_movers.specs.lemmas.Spotting.{IsAlike, alike-itself, model-whole, args-whole, whole-spots, spots-whole, spots-at, spots-with}

@@ -9,6 +9,7 @@ use Rattle.std.specs.List.Sorted.{IsStrictlySortedBy}
 use Rattle.std.specs.Option.{option_cmp}
 use Rattle.std.specs.Ordering.{bool_cmp, nat_cmp, ordering_then}
 use Rattle.std.specs.Prelude.{cond}
+use Rattle.dsde_sim_tree.specs.Tree.{name_of}
 use Rattle.dsde_values.specs.declared.name.Name.{Name}
 use Rattle.dsde_values.specs.declared.path.Path.{Path}
 use Rattle.dsde_values.specs.Path.{EXEC, is_executive, name_cmp, path_cmp}
@@ -29,13 +30,13 @@ use Rattle.dsde_sim_tree.specs.declared.sim.Sim.TheVariants as sim
 use Rattle.dsde_sim_tree.specs.declared.sim.Sim.TheViews.{out-Kid, out-Net}
 use Rattle.dsde_sim_tree.specs.Move.{ins_of}
 use Rattle.dsde_sim_tree.specs.Output.{sources_of, kid_output}
-use Rattle.dsde_sim_tree.specs.Trees.{each_tree}
+use Rattle.dsde_sim_tree.specs.lemmas.Trees.{each_tree}
 use Rattle.dsde_sim_delivery.specs.Deliveries.{Delivery, KidReceives, shared, deliveries, deliveries_of_kid}
 use Rattle.dsde_sim_delivery.specs.lemmas.Events.{each-append, each-weaker, each-filter}
 use Rattle.dsde_sim_delivery.specs.lemmas.Opens.{deliveries-Leaf, deliveries-Net, deliveries-kid}
 use Rattle.dsde_sim_movers.specs.Names.{IsNamed}
 use Rattle.dsde_sim_movers.specs.Movers.{is_mover, movers, AreInPathOrder}
-use Rattle.dsde_sim_movers.specs.lemmas.Seats.{name_of, IsBehind}
+use Rattle.dsde_sim_movers.specs.lemmas.Seats.{IsBehind}
 use Rattle.dsde_sim_movers.specs.lemmas.Beneath.{behind-kid}
 use Rattle.dsde_sim_movers.specs.lemmas.Named.{not-executive, names-of, net-names}
 

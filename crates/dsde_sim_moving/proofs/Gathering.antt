@@ -2,6 +2,7 @@
 use Rattle.std.proofs.Common.{◌≡◌, ℕ, suc, ◌<◌, arith, true, false, List, [], ◌∷◌, length, map, Result, Ok, Err, IfOk, slice_get, refl, sym, ap, subst, ◌∙◌}
 use Rattle.std.specs.List.{AllByRecursion, Contains}
 use Rattle.std.proofs.lemmas.List.FromFn.{length-map-range_with_len}
+use Rattle.dsde_sim_gathering.specs.Boxes.{box_of}
 use Rattle.dsde_syntax.specs.declared.decl.Model.{Model}
 use Rattle.dsde_values.specs.declared.name.Name.{Name}
 use Rattle.dsde_values.specs.declared.types.Field.{Field}
@@ -24,14 +25,14 @@ use Rattle.dsde_system.specs.Plans.{ArePortsOf, Cover, FitsSources, HasKid, ways
 use Rattle.dsde_sim_tree.specs.declared.sim.Kid.{Kid}
 use Rattle.dsde_sim_tree.specs.declared.sim.Net.{Net}
 use Rattle.dsde_sim_tree.specs.declared.sim.Sim.TheViews.{out-Kid, out-Net}
-use Rattle.dsde_sim_tree.specs.Tree.{entry_of, model_of}
+use Rattle.dsde_sim_tree.specs.Tree.{entry_of, model_of, name_of}
 use Rattle.dsde_sound_links.specs.Carrying.{FitsWiring, GatheredFit, ReachCovers}
 use Rattle.dsde_sim_gathering.specs.Passing.{AreSorted, AreSortedKids, IsOfModel}
 use Rattle.dsde_sim_starting.specs.Fitting.{FitsGot, FitsKid, FitsNet}
 use Rattle.dsde_sim_starting.specs.Asking.{AreSources, AreAsked}
-use Rattle.dsde_sim_moving.specs.Moving.{box_of, AreFew, AreGot, FitsInside, IsAsked}
-use Rattle.dsde_sim_starting.specs.Fits.{kid-tree, net-kids, net-shape}
-use Rattle.dsde_sim_starting.specs.Stood.{Stood, stood, same-own, component-ins}
+use Rattle.dsde_sim_moving.specs.Moving.{AreFew, AreGot, FitsInside, IsAsked}
+use Rattle.dsde_sim_starting.specs.lemmas.Fits.{kid-tree, net-kids, net-shape}
+use Rattle.dsde_sim_starting.specs.lemmas.Stood.{Stood, stood, same-own, component-ins}
 
 each-inside : (model : Model) (kids : List Kid) → AllByRecursion (FitsKid model) kids → AllByRecursion (FitsInside model) kids
 each-inside model [] all = tt
@@ -52,9 +53,6 @@ is-asked model net got fits has kids is (Err end) are = tt
 each-of-model : (model : Model) (kids : List Kid) → AllByRecursion (FitsInside model) kids → AllByRecursion (λ (kid : Kid). IsOfModel model (out-Kid kid).sim) kids
 each-of-model model [] all = tt
 each-of-model model (kid ∷ kids) all = (Stood.is_of (stood model (out-Kid kid).sim all.0), each-of-model model kids all.1)
-
-abbrev name_of : Kid → Name
-name_of kid = (out-Kid kid).name
 
 entry-names : (kids : List Kid) → names (map entry_of kids) ≡ map name_of kids
 entry-names [] = refl

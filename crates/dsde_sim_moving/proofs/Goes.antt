@@ -1,5 +1,6 @@
 -- How far a move has come.
 use Rattle.std.proofs.Common.{◌≡◌, ℕ, List, [], ◌∷◌, ◌++◌, map, sym, ap, subst, ◌∙◌, Some}
+use Rattle.dsde_sim_gathering.specs.Boxes.{box_of}
 use Rattle.dsde_values.specs.declared.path.Path.{Path}
 use Rattle.dsde_values.specs.declared.value.Value.{Value}
 use Rattle.dsde_declared.specs.declared.ids.ModelId.{ModelId}
@@ -11,7 +12,7 @@ use Rattle.dsde_structure.specs.declared.plan.Link.{Link}
 use Rattle.dsde_structure.specs.declared.sources.Sources.{Sources}
 use Rattle.dsde_sim_events.specs.declared.event.Event.{Event}
 use Rattle.dsde_sim_events.specs.Told.{Told, quietly, ◌then◌, to_boss}
-use Rattle.dsde_sim_telling.specs.GoingOn.{GoesOn, goes-begin}
+use Rattle.dsde_sim_telling.specs.lemmas.GoingOn.{GoesOn, goes-begin}
 use Rattle.dsde_sim_tree.specs.declared.sim.Kid.{Kid}
 use Rattle.dsde_sim_tree.specs.declared.sim.Net.{Net}
 use Rattle.dsde_sim_tree.specs.declared.sim.Sim.TheVariants as sim
@@ -19,7 +20,7 @@ use Rattle.dsde_sim_tree.specs.declared.sim.Sim.TheViews.{out-Net}
 use Rattle.dsde_sim_tree.specs.Opened.{as_leaf, as_net, move-Leaf, move-Net, net_move-opens}
 use Rattle.dsde_sim_tree.specs.Output.{kid_output, sources_of}
 use Rattle.dsde_sim_tree.specs.Move.{take_move, move_leaf_at, after_boss, after_kids, boss_moves, kid_move, move, net_move, with_sources}
-use Rattle.dsde_sim_moving.specs.Moving.{box_of, kid_with, kids_with}
+use Rattle.dsde_sim_moving.specs.Moving.{kid_with, kids_with}
 use Rattle.dsde_sim_moving.proofs.Opens.{kids-moved}
 
 -- what was to be told is another spelling of itself

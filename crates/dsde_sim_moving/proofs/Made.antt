@@ -18,7 +18,7 @@ use Rattle.dsde_sim_tree.specs.declared.sim.Sim.TheViews.{out-roll-Kid}
 use Rattle.dsde_sim_tree.specs.Start.{kid_of}
 use Rattle.dsde_sim_tree.specs.Tree.{entry_of}
 use Rattle.dsde_sim_starting.specs.Fitting.{FitsKid, FitsLinks, FitsTree}
-use Rattle.dsde_sim_starting.specs.Fits.{tree-kid}
+use Rattle.dsde_sim_starting.specs.lemmas.Fits.{tree-kid}
 
 module _ (model : Model) where
   pub kid-made : (name : Name) (own : Sim) → FitsTree model own → FitsKid model (kid_of name own)

@@ -1,5 +1,6 @@
 -- The components of a network move with what its links carry.
 use Rattle.std.proofs.Common.{◌≡◌, ℕ, List, [], ◌∷◌, ◌++◌, map, refl, ap, ◌∙◌, Result, Ok, Err}
+use Rattle.dsde_sim_gathering.specs.Boxes.{box_of}
 use Rattle.dsde_values.specs.declared.path.Path.{Path}
 use Rattle.dsde_formalism.specs.System.{System}
 use Rattle.dsde_structure.specs.declared.plan.Link.{Link}
@@ -10,7 +11,7 @@ use Rattle.dsde_sim_events.specs.Told.{Told, telling, ◌then◌}
 use Rattle.dsde_sim_tree.specs.declared.sim.Kid.{Kid}
 use Rattle.dsde_sim_tree.specs.Opened.{kid_move-opens}
 use Rattle.dsde_sim_tree.specs.Move.{kid_move, moved}
-use Rattle.dsde_sim_moving.specs.Moving.{box_of, kid_with, kids_with}
+use Rattle.dsde_sim_moving.specs.Moving.{kid_with, kids_with}
 
 -- a step, and what follows in another spelling
 then-same : {A B : Type 0} (events : List Event) (end : Result A TurnEnd) (next other : A → Told B) → ((value : A) → next value ≡ other value) →

@@ -1,4 +1,4 @@
 pub use Rattle.dsde_sim_starting.specs.Fitting
-pub use Rattle.dsde_sim_starting.specs.Fits
-pub use Rattle.dsde_sim_starting.specs.Stood
+pub use Rattle.dsde_sim_starting.specs.lemmas.Fits
+pub use Rattle.dsde_sim_starting.specs.lemmas.Stood
 pub mod Moving

@@ -51,11 +51,6 @@ FitsInside model kid = FitsTree model (out-Kid kid).sim
 abbrev pub AreFew : Ports → Type 0
 AreFew got = length got < 2 ^ 32
 
--- what comes to a component of a network over its links
-abbrev pub box_of : System → List Link → Sources → Kid → Ports
-box_of system links sources kid =
-    gathered system.translate links sources (part.Kid (out-Kid kid).name) (ins_of system (out-Kid kid).sim)
-
 -- The links of a network that fits carry from these.
 pub record IsAsked (model : Model) (net : Net) (sources : Sources) : Type 0 where
   pub shape : FitsShape model (shape_in net)

@@ -2,6 +2,7 @@
 
 ghost use Rattle.std.specs.Prelude.{◌≡◌, ◌<◌, ◌^◌, length, map, IfOk};
 ghost use Rattle.std.specs.List.{AllByRecursion};
+ghost use Rattle.dsde_sim_gathering.specs.Boxes.{box_of};
 ghost use Rattle.dsde_structure.specs.declared.plan.Part.TheVariants as part;
 ghost use Rattle.dsde_structure.specs.Gather.{gathered};
 ghost use Rattle.dsde_formalism.specs.Leaf.{component_of};
@@ -11,7 +12,7 @@ ghost use Rattle.dsde_system.specs.Fitting.{FitsInputs};
 ghost use Rattle.dsde_sim_tree.specs.declared.sim.Sim.TheViews.{out-Net};
 ghost use Rattle.dsde_sim_tree.specs.Output.{kid_output, sources_of};
 ghost use Rattle.dsde_sim_starting.specs.Fitting.{FitsGot, FitsNet};
-ghost use Rattle.dsde_sim_moving.specs.Moving.{box_of, AreFew, AreGot, IsAsked};
+ghost use Rattle.dsde_sim_moving.specs.Moving.{AreFew, AreGot, IsAsked};
 
 use dsde_atomic::ports_in;
 use dsde_check_tables::narrow;

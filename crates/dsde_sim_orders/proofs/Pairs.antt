@@ -4,6 +4,7 @@ use Rattle.std.proofs.lemmas.Map.Keys.{IsDistinct-head, IsDistinct-tail}
 use Rattle.std.specs.Cmp.{IsTotalOrder}
 use Rattle.std.specs.List.{AllByRecursion, IsDistinct, flat_map, filter}
 use Rattle.std.specs.Prelude.{if◌then◌else◌}
+use Rattle.dsde_sim_tree.specs.Tree.{name_of}
 use Rattle.dsde_values.specs.declared.name.Name.{Name}
 use Rattle.dsde_values.specs.declared.path.Path.{Path}
 use Rattle.dsde_values.specs.Path.{name_cmp, EXEC}
@@ -23,7 +24,7 @@ use Rattle.dsde_sim_tree.specs.declared.sim.Sim.TheVariants as sim
 use Rattle.dsde_sim_tree.specs.declared.sim.Sim.TheViews.{out-Kid, out-Net}
 use Rattle.dsde_sim_tree.specs.Move.{ins_of}
 use Rattle.dsde_sim_tree.specs.Output.{sources_of, kid_output}
-use Rattle.dsde_sim_tree.specs.Trees.{each_tree}
+use Rattle.dsde_sim_tree.specs.lemmas.Trees.{each_tree}
 use Rattle.dsde_sim_delivery.specs.Deliveries.{Delivery, KidReceives, shared, deliveries, deliveries_of_kid}
 use Rattle.dsde_sim_delivery.specs.lemmas.Events.{each-append, each-weaker, each-filter}
 use Rattle.dsde_sim_delivery.specs.lemmas.Opens.{deliveries-Leaf, deliveries-Net, deliveries-kid}
@@ -31,7 +32,7 @@ use Rattle.dsde_sim_movers.specs.Parts.{are_apart}
 use Rattle.dsde_sim_movers.specs.Movers.{Seat, seat_of, seat_behind}
 use Rattle.dsde_sim_delivery.specs.Places.{begin_with}
 use Rattle.dsde_sim_orders.specs.Orders.{is_above, IsLawful}
-use Rattle.dsde_sim_movers.specs.lemmas.Seats.{name_of, IsBehind, seat-in-net, drop-front}
+use Rattle.dsde_sim_movers.specs.lemmas.Seats.{IsBehind, seat-in-net, drop-front}
 use Rattle.dsde_sim_movers.specs.lemmas.Beneath.{AreBehind, behind-kid}
 use Rattle.dsde_sim_movers.specs.lemmas.Named.{same_name, IsPlaced, names-of, net-places}
 

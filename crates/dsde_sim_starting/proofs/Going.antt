@@ -14,7 +14,7 @@ use Rattle.dsde_sim_events.specs.declared.event.Event.{Event}
 use Rattle.dsde_sim_events.specs.declared.event.Event.TheVariants.{AddNet}
 use Rattle.dsde_sim_events.specs.Told.{Told, told, quietly, ◌then◌, to_boss, Comes}
 use Rattle.dsde_system.specs.Plans.{FitsEntry}
-use Rattle.dsde_sim_telling.specs.GoingOn.{GoesOn, goes-begin, goes-ok, goes-told, goes-step}
+use Rattle.dsde_sim_telling.specs.lemmas.GoingOn.{GoesOn, goes-begin, goes-ok, goes-told, goes-step}
 use Rattle.dsde_sim_tree.specs.declared.sim.Kid.{Kid}
 use Rattle.dsde_sim_tree.specs.declared.sim.Net.{Net}
 use Rattle.dsde_sim_tree.specs.declared.sim.Sim.{Sim}

@@ -20,7 +20,7 @@ use Rattle.dsde_sim_tree.specs.Start.{kid_of, net_of}
 use Rattle.dsde_sim_tree.specs.Spots.{shape_of}
 use Rattle.dsde_sim_tree.specs.Opened.{shape_in}
 use Rattle.dsde_sim_starting.specs.Fitting.{FitsLinks, FitsShape, FitsTree, FitsKid, FitsNet}
-use Rattle.dsde_sim_starting.specs.Fits.{tree-kid, net-parts}
+use Rattle.dsde_sim_starting.specs.lemmas.Fits.{tree-kid, net-parts}
 use Rattle.dsde_sim_starting.specs.Starting.{FitsWhereItsPartsDo}
 
 module _ (model : Model) where

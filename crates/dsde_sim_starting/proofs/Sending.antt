@@ -33,7 +33,7 @@ use Rattle.dsde_sim_tree.specs.Output.{by_port}
 use Rattle.dsde_sim_tree.specs.Opened.{shape_in}
 use Rattle.dsde_sim_starting.specs.Fitting.{FitsAtomic, FitsBodySent, FitsNet, FitsSent, FitsShape}
 use Rattle.dsde_sim_starting.specs.Asking.{AreSources}
-use Rattle.dsde_sim_starting.specs.Fits.{net-shape}
+use Rattle.dsde_sim_starting.specs.lemmas.Fits.{net-shape}
 
 some-is : {A : Type 0} (o : Option A) (a b : A) → o ≡ Some a → o ≡ Some b → a ≡ b
 some-is o a b e h = cc

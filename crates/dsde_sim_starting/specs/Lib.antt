@@ -1,5 +1,4 @@
 pub mod Fitting
-pub mod Fits
-pub mod Stood
 pub mod Asking
 pub mod Starting
+pub mod lemmas

@@ -1,5 +1,6 @@
 -- The tree of simulators: how many parts it has, and when it is due.
 use Rattle.std.specs.Prelude.{ℕ, ◌+◌, min, sum, map, List, [], ◌∷◌}
+use Rattle.dsde_values.specs.declared.name.Name.{Name}
 use Rattle.dsde_values.specs.declared.value.Value.{Value}
 use Rattle.dsde_values.specs.declared.when.When.{When}
 use Rattle.dsde_values.specs.declared.when.When.TheVariants.{At, Never}
@@ -70,6 +71,10 @@ model_of sim = elim (out-Sim sim) [ layer.Leaf leaf ↦ leaf.model | layer.Net n
 
 abbrev pub args_of : Sim → List Value
 args_of sim = elim (out-Sim sim) [ layer.Leaf leaf ↦ leaf.args | layer.Net net ↦ (out-Net net).args ]
+
+-- the name of a component
+abbrev pub name_of : Kid → Name
+name_of kid = (out-Kid kid).name
 
 -- the entry of a component of a network: its name, with its model and arguments
 abbrev pub entry_of : Kid → Entry

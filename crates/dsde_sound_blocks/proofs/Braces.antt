@@ -16,11 +16,11 @@ use Rattle.dsde_eval_meaning.specs.Tables.{Coded, State, state_of, means_in, act
 use Rattle.dsde_eval_meaning.specs.Proper.{all_so}
 use Rattle.dsde_eval_meaning.specs.Typed.{Typed, Fits, AllSent, shown}
 use Rattle.dsde_eval_meaning.specs.Scopes.{Sees}
-use Rattle.dsde_sound_typing.specs.Values.{AllHave, all-cons}
-use Rattle.dsde_sound_typing.specs.Steps.{went, ok-is}
-use Rattle.dsde_sound_typing.specs.Truths.{and-left, and-right}
-use Rattle.dsde_sound_typing.specs.Standing.{stands-head, stands-tail, stands-left, stands-right}
-use Rattle.dsde_sound_typing.specs.Fitting.{field_of, fits-snoc, values-snoc}
+use Rattle.dsde_sound_typing.specs.lemmas.Values.{AllHave, all-cons}
+use Rattle.dsde_sound_typing.specs.lemmas.Steps.{went, ok-is}
+use Rattle.dsde_sound_typing.specs.lemmas.Truths.{and-left, and-right}
+use Rattle.dsde_sound_typing.specs.lemmas.Standing.{stands-head, stands-tail, stands-left, stands-right}
+use Rattle.dsde_sound_typing.specs.lemmas.Fitting.{field_of, fits-snoc, values-snoc}
 use Rattle.dsde_sound_blocks.proofs.Shows.{Shows, shows-ok, shows-then, shows-where, shows-braces}
 use Rattle.dsde_sound_blocks.proofs.Does.{Ready, Done, Does, AllDo, within_braces, block_id}
 

@@ -31,12 +31,12 @@ use Rattle.dsde_eval_meaning.specs.Proper as proper
 use Rattle.dsde_eval_meaning.specs.Proper.{is_proper, all_so}
 use Rattle.dsde_eval_meaning.specs.Typed.{Typed, Sound, Fits, AllSent, values_in, shown}
 use Rattle.dsde_eval_meaning.specs.Scopes.{Sees}
-use Rattle.dsde_sound_typing.specs.Values.{truth-sound}
-use Rattle.dsde_sound_typing.specs.Outcomes.{sound-then}
-use Rattle.dsde_sound_typing.specs.Types.{wanted-is}
-use Rattle.dsde_sound_typing.specs.Steps.{went, ok-is}
-use Rattle.dsde_sound_typing.specs.Truths.{and-left, and-right}
-use Rattle.dsde_sound_typing.specs.Standing.{stands-left, stands-right}
+use Rattle.dsde_sound_typing.specs.lemmas.Values.{truth-sound}
+use Rattle.dsde_sound_typing.specs.lemmas.Outcomes.{sound-then}
+use Rattle.dsde_sound_typing.specs.lemmas.Types.{wanted-is}
+use Rattle.dsde_sound_typing.specs.lemmas.Steps.{went, ok-is}
+use Rattle.dsde_sound_typing.specs.lemmas.Truths.{and-left, and-right}
+use Rattle.dsde_sound_typing.specs.lemmas.Standing.{stands-left, stands-right}
 use Rattle.dsde_sound_blocks.proofs.Shows.{Shows, shows-ok, shows-over, shows-if, shows-where}
 use Rattle.dsde_sound_blocks.proofs.Does.{Ready, Done, Does, AllDo, Exprs, within_braces, behind_nodes, block_id, not-cut}
 use Rattle.dsde_sound_blocks.proofs.Braces.{walk-rises, braces-show}

@@ -32,14 +32,14 @@ use Rattle.dsde_eval_meaning.specs.Proper as proper
 use Rattle.dsde_eval_meaning.specs.Proper.{is_plain, is_proper, all_so}
 use Rattle.dsde_eval_meaning.specs.Typed.{Typed, Sound, values_in, shown}
 use Rattle.dsde_eval_meaning.specs.Scopes.{Sees}
-use Rattle.dsde_sound_typing.specs.Values.{IsList, items-sound}
-use Rattle.dsde_sound_typing.specs.Outcomes.{sound-then}
-use Rattle.dsde_sound_typing.specs.Types.{item-is, item-in-list}
-use Rattle.dsde_sound_typing.specs.Steps.{went, ok-is}
-use Rattle.dsde_sound_typing.specs.Truths.{and-left, and-right}
-use Rattle.dsde_sound_typing.specs.Standing.{stands-left, stands-right}
-use Rattle.dsde_sound_typing.specs.Fitting.{field_of}
-use Rattle.dsde_sound_typing.specs.Seeing.{sees-snoc, fresh-new, slot-behind}
+use Rattle.dsde_sound_typing.specs.lemmas.Values.{IsList, items-sound}
+use Rattle.dsde_sound_typing.specs.lemmas.Outcomes.{sound-then}
+use Rattle.dsde_sound_typing.specs.lemmas.Types.{item-is, item-in-list}
+use Rattle.dsde_sound_typing.specs.lemmas.Steps.{went, ok-is}
+use Rattle.dsde_sound_typing.specs.lemmas.Truths.{and-left, and-right}
+use Rattle.dsde_sound_typing.specs.lemmas.Standing.{stands-left, stands-right}
+use Rattle.dsde_sound_typing.specs.lemmas.Fitting.{field_of}
+use Rattle.dsde_sound_typing.specs.lemmas.Seeing.{sees-snoc, fresh-new, slot-behind}
 use Rattle.dsde_sound_blocks.proofs.Shows.{shows-over, shows-where}
 use Rattle.dsde_sound_blocks.proofs.Does.{Ready, Done, Does, AllDo, Exprs, within_braces, behind_nodes, block_id, not-cut}
 use Rattle.dsde_sound_blocks.proofs.Braces.{walk-rises, Held, for-shows}

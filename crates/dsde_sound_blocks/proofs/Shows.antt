@@ -8,7 +8,7 @@ use Rattle.dsde_eval_meaning.specs.Flow.{Flow, stopped, over, inside}
 use Rattle.dsde_eval_meaning.specs.Meaning.{Scene, Walk, cut_vars}
 use Rattle.dsde_eval_meaning.specs.Tables.{State, state_of, cut}
 use Rattle.dsde_eval_meaning.specs.Typed.{Sound, Fits, AllSent, Lands, shown, seen}
-use Rattle.dsde_sound_typing.specs.Fitting.{fits-take, fits-length, values-take, values-size}
+use Rattle.dsde_sound_typing.specs.lemmas.Fitting.{fits-take, fits-length, values-take, values-size}
 
 module _ (types : Types) (outs : List Field) where
   -- What is meant leaves variables of these slots, or stops at a fault; and what is found is the same over slots, where this holds.

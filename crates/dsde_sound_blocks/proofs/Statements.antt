@@ -38,13 +38,13 @@ use Rattle.dsde_eval_meaning.specs.Proper as proper
 use Rattle.dsde_eval_meaning.specs.Proper.{is_plain, is_proper}
 use Rattle.dsde_eval_meaning.specs.Typed.{Typed, Fits, AllSent, IsSent, values_in, shown}
 use Rattle.dsde_eval_meaning.specs.Scopes.{Sees, Slotted, AreOuts}
-use Rattle.dsde_sound_typing.specs.Places.{Placed, placed, named-is}
-use Rattle.dsde_sound_typing.specs.Types.{wanted-is}
-use Rattle.dsde_sound_typing.specs.Steps.{went, ok-is, unless-is}
-use Rattle.dsde_sound_typing.specs.Truths.{and-left, and-right}
-use Rattle.dsde_sound_typing.specs.Standing.{stands-left}
-use Rattle.dsde_sound_typing.specs.Fitting.{var_of, field_of, fits-snoc, fits-place, fits-set, fits-within, sent-snoc, set-values, values-snoc}
-use Rattle.dsde_sound_typing.specs.Seeing.{sees-snoc, fresh-new, slot-behind}
+use Rattle.dsde_sound_typing.specs.lemmas.Places.{Placed, placed, named-is}
+use Rattle.dsde_sound_typing.specs.lemmas.Types.{wanted-is}
+use Rattle.dsde_sound_typing.specs.lemmas.Steps.{went, ok-is, unless-is}
+use Rattle.dsde_sound_typing.specs.lemmas.Truths.{and-left, and-right}
+use Rattle.dsde_sound_typing.specs.lemmas.Standing.{stands-left}
+use Rattle.dsde_sound_typing.specs.lemmas.Fitting.{var_of, field_of, fits-snoc, fits-place, fits-set, fits-within, sent-snoc, set-values, values-snoc}
+use Rattle.dsde_sound_typing.specs.lemmas.Seeing.{sees-snoc, fresh-new, slot-behind}
 use Rattle.dsde_sound_blocks.proofs.Shows.{Shows, shows-at}
 use Rattle.dsde_sound_blocks.proofs.Does.{Ready, Done, Does, Exprs, Reads, value-shows, not-cut}
 

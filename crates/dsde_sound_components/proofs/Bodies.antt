@@ -25,8 +25,8 @@ use Rattle.dsde_eval_meaning.specs.Flow.{lifted}
 use Rattle.dsde_eval_meaning.specs.Meaning.{Vars, Scene, scene, with_var}
 use Rattle.dsde_eval_meaning.specs.Outcome.{Fault, ◌>>=◌, int_of, option_of}
 use Rattle.dsde_eval_meaning.specs.Typed.{Typed, Sound, Fits, AllSent, values_in}
-use Rattle.dsde_sound_typing.specs.Outcomes.{sound-then, sound-if}
-use Rattle.dsde_sound_typing.specs.Values.{Held, int-sound, option-sound}
+use Rattle.dsde_sound_typing.specs.lemmas.Outcomes.{sound-then, sound-if}
+use Rattle.dsde_sound_typing.specs.lemmas.Values.{Held, int-sound, option-sound}
 use Rattle.dsde_sound_places.specs.Places.{IsBlock}
 use Rattle.dsde_sound_places.specs.Laws.{KnownIsWithin}
 use Rattle.dsde_sound_places.specs.Bodies.{BodyStands, InitsStand, body_slots, moved_slots}

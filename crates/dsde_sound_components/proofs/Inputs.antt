@@ -19,7 +19,7 @@ use Rattle.dsde_eval_meaning.specs.Typed.{Typed, Fits, values_in}
 use Rattle.dsde_formalism.specs.System.{Ports}
 use Rattle.dsde_system.specs.Body.{vars_of, lists_of, input_vars, is_flooded}
 use Rattle.dsde_system.specs.Fitting.{AreOf, Reach}
-use Rattle.dsde_sound_typing.specs.Values.{typed-int, typed-list}
+use Rattle.dsde_sound_typing.specs.lemmas.Values.{typed-int, typed-list}
 use Rattle.dsde_sound_components.proofs.Filling.{fits-append, values-append}
 
 or-false : (a b : Bool) → (a || b) ≡ false → (a ≡ false) × (b ≡ false)

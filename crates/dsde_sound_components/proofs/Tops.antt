@@ -13,7 +13,7 @@ use Rattle.dsde_check_rules.specs.Right.{IsRight}
 use Rattle.dsde_eval_meaning.specs.Agreement.{ExpressionsAgree}
 use Rattle.dsde_eval_meaning.specs.Outcome.{Outcome, ◌>>=◌, present}
 use Rattle.dsde_eval_meaning.specs.Typed.{Typed, Sound}
-use Rattle.dsde_sound_typing.specs.Outcomes.{sound-then}
+use Rattle.dsde_sound_typing.specs.lemmas.Outcomes.{sound-then}
 use Rattle.dsde_sound_inputs.specs.Lawful.{TopIsDeclared}
 use Rattle.dsde_sound_places.specs.Bodies.{TopStands, ArgsStand}
 use Rattle.dsde_eval_meaning.specs.Functions.{mean_of}

@@ -11,8 +11,8 @@ use Rattle.dsde_eval_meaning.specs.Outcome.{Outcome, ◌>>=◌}
 use Rattle.dsde_eval_meaning.specs.Meaning.{Mean}
 use Rattle.dsde_eval_meaning.specs.Tables.{Means, means_in, node_mean}
 use Rattle.dsde_eval_meaning.specs.Typed.{Typed, Sound, values_in}
-use Rattle.dsde_sound_typing.specs.Standing.{stands-left, stands-right}
-use Rattle.dsde_sound_typing.specs.Outcomes.{sound-then, same-then}
+use Rattle.dsde_sound_typing.specs.lemmas.Standing.{stands-left, stands-right}
+use Rattle.dsde_sound_typing.specs.lemmas.Outcomes.{sound-then, same-then}
 use Rattle.dsde_sound_expressions.proofs.At.{Ground, At, node-reads}
 
 module _ (g : Ground) (slots : List Field) (own : List ExprId → Node) (kind : List Field → Ty) (u : Ty) (is : kind slots ≡ u) (n : ℕ) where

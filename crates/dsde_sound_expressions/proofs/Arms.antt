@@ -24,11 +24,11 @@ use Rattle.dsde_eval_meaning.specs.Meaning.{Vars, Mean, ArmMean, Function, mean_
 use Rattle.dsde_eval_meaning.specs.Tables.{Coded, means_in, arms_from}
 use Rattle.dsde_eval_meaning.specs.Typed.{Typed, Sound, Fits, values_in}
 use Rattle.dsde_eval_meaning.specs.Scopes.{Stands, Sees}
-use Rattle.dsde_sound_typing.specs.Standing.{stands-left, stands-right}
-use Rattle.dsde_sound_typing.specs.Steps.{went, ok-is}
-use Rattle.dsde_sound_typing.specs.Outcomes.{Any, sound-then, sound-if, same-then}
-use Rattle.dsde_sound_typing.specs.Types.{wanted-is}
-use Rattle.dsde_sound_typing.specs.Values.{truth-sound}
+use Rattle.dsde_sound_typing.specs.lemmas.Standing.{stands-left, stands-right}
+use Rattle.dsde_sound_typing.specs.lemmas.Steps.{went, ok-is}
+use Rattle.dsde_sound_typing.specs.lemmas.Outcomes.{Any, sound-then, sound-if, same-then}
+use Rattle.dsde_sound_typing.specs.lemmas.Types.{wanted-is}
+use Rattle.dsde_sound_typing.specs.lemmas.Values.{truth-sound}
 use Rattle.dsde_sound_expressions.proofs.At.{Ground, ground, At, at-typed, at-higher, at-seen, node-reads}
 use Rattle.dsde_sound_expressions.proofs.Parts.{Agreed}
 

@@ -18,9 +18,9 @@ use Rattle.dsde_eval_meaning.specs.Meaning.{Vars, Mean}
 use Rattle.dsde_eval_meaning.specs.Tables.{Coded, Means, means_in, node_mean, node_at}
 use Rattle.dsde_eval_meaning.specs.Typed.{Typed, Sound, Fits, values_in}
 use Rattle.dsde_eval_meaning.specs.Scopes.{Stands}
-use Rattle.dsde_sound_typing.specs.Standing.{stands-head, stands-tail, stands-left, stands-right}
-use Rattle.dsde_sound_typing.specs.Steps.{went, ok-is, unless-is}
-use Rattle.dsde_sound_typing.specs.Outcomes.{sound-then, same-then}
+use Rattle.dsde_sound_typing.specs.lemmas.Standing.{stands-head, stands-tail, stands-left, stands-right}
+use Rattle.dsde_sound_typing.specs.lemmas.Steps.{went, ok-is, unless-is}
+use Rattle.dsde_sound_typing.specs.lemmas.Outcomes.{sound-then, same-then}
 
 -- the types of values, the tables of nodes, and whether there is always a value
 pub record Ground : Type 0 where

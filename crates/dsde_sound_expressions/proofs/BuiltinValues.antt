@@ -14,8 +14,8 @@ use Rattle.dsde_declared.specs.declared.operator.Builtin.TheVariants as builtin
 use Rattle.dsde_eval_meaning.specs.Outcome.{Fault, ◌>>=◌, int_of, items_of, option_of}
 use Rattle.dsde_eval_meaning.specs.Operators.{listed, truth, count_of, numbers_from, ranged, replaced, of_one, of_two, of_three}
 use Rattle.dsde_eval_meaning.specs.Typed.{Typed}
-use Rattle.dsde_sound_typing.specs.Outcomes.{sound-then, sound-if}
-use Rattle.dsde_sound_typing.specs.Values.{IsList, Held, typed-int, typed-bool, typed-list, int-sound, items-sound, option-sound, all-snoc}
+use Rattle.dsde_sound_typing.specs.lemmas.Outcomes.{sound-then, sound-if}
+use Rattle.dsde_sound_typing.specs.lemmas.Values.{IsList, Held, typed-int, typed-bool, typed-list, int-sound, items-sound, option-sound, all-snoc}
 use Rattle.dsde_sound_expressions.proofs.Numbers.{fits-if, range-fits, range-long, all-take, all-drop, all-set}
 use Rattle.dsde_sound_expressions.proofs.Operators.{Fine, IsInt, listed-sound, ints-sound}
 

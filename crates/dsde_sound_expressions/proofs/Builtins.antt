@@ -35,9 +35,9 @@ use Rattle.dsde_eval_meaning.specs.Meaning.{Function, Mean, mean_step}
 use Rattle.dsde_eval_meaning.specs.Tables.{Coded, Means, node_mean}
 use Rattle.dsde_eval_meaning.specs.Typed.{Typed}
 use Rattle.dsde_eval_meaning.specs.Scopes.{Sees}
-use Rattle.dsde_sound_typing.specs.Steps.{went, well, ok-is, unless-is}
-use Rattle.dsde_sound_typing.specs.Types.{wanted-is, item-is, held-is, item-in-list, held-in-opt}
-use Rattle.dsde_sound_typing.specs.Values.{typed-some}
+use Rattle.dsde_sound_typing.specs.lemmas.Steps.{went, well, ok-is, unless-is}
+use Rattle.dsde_sound_typing.specs.lemmas.Types.{wanted-is, item-is, held-is, item-in-list, held-in-opt}
+use Rattle.dsde_sound_typing.specs.lemmas.Values.{typed-some}
 use Rattle.dsde_sound_expressions.proofs.At.{Ground, ground, At, at-typed, at-higher, at-seen, made-is, never-total}
 use Rattle.dsde_sound_expressions.proofs.Operators.{Fine}
 use Rattle.dsde_sound_expressions.proofs.BuiltinValues.{len-sound, is-some-sound, min-sound, max-sound, range-sound, push-sound, take-sound, skip-sound, put-sound}

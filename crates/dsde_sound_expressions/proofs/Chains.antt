@@ -28,8 +28,8 @@ use Rattle.dsde_eval_meaning.specs.Meaning.{Mean, field_named}
 use Rattle.dsde_eval_meaning.specs.Tables.{Coded, field_at}
 use Rattle.dsde_eval_meaning.specs.Typed.{Typed, Sound}
 use Rattle.dsde_eval_meaning.specs.Scopes.{Sees, Within}
-use Rattle.dsde_sound_typing.specs.Steps.{went, ok-is}
-use Rattle.dsde_sound_typing.specs.Types.{wanted-is, item-is, held-is, item-in-list, held-in-opt}
+use Rattle.dsde_sound_typing.specs.lemmas.Steps.{went, ok-is}
+use Rattle.dsde_sound_typing.specs.lemmas.Types.{wanted-is, item-is, held-is, item-in-list, held-in-opt}
 use Rattle.dsde_sound_expressions.proofs.At.{Ground, ground, At, at-typed, at-seen, made-is, never-total, one-at, two-at}
 use Rattle.dsde_sound_expressions.proofs.Operators.{Fine, or-sound, and-sound, unwrapped-sound, indexed-sound}
 use Rattle.dsde_sound_expressions.proofs.Signs.{Takes, makes, is_operator}

@@ -28,13 +28,13 @@ use Rattle.dsde_eval_meaning.specs.Tables.{Coded, means_in, holds_at, kept_from,
 use Rattle.dsde_eval_meaning.specs.Proper.{is_plain}
 use Rattle.dsde_eval_meaning.specs.Typed.{Typed, Sound, Fits, values_in}
 use Rattle.dsde_eval_meaning.specs.Scopes.{Stands, Sees}
-use Rattle.dsde_sound_typing.specs.Standing.{stands-left, stands-right}
-use Rattle.dsde_sound_typing.specs.Steps.{went, ok-is}
-use Rattle.dsde_sound_typing.specs.Outcomes.{Any, sound-then, sound-if, same-then}
-use Rattle.dsde_sound_typing.specs.Types.{wanted-is, item-is, item-in-list}
-use Rattle.dsde_sound_typing.specs.Values.{AllHave, IsList, all-cons, all-snoc, typed-list, truth-sound, items-sound}
-use Rattle.dsde_sound_typing.specs.Fitting.{fits-snoc, field_of}
-use Rattle.dsde_sound_typing.specs.Seeing.{sees-snoc, fresh-new, slot-behind}
+use Rattle.dsde_sound_typing.specs.lemmas.Standing.{stands-left, stands-right}
+use Rattle.dsde_sound_typing.specs.lemmas.Steps.{went, ok-is}
+use Rattle.dsde_sound_typing.specs.lemmas.Outcomes.{Any, sound-then, sound-if, same-then}
+use Rattle.dsde_sound_typing.specs.lemmas.Types.{wanted-is, item-is, item-in-list}
+use Rattle.dsde_sound_typing.specs.lemmas.Values.{AllHave, IsList, all-cons, all-snoc, typed-list, truth-sound, items-sound}
+use Rattle.dsde_sound_typing.specs.lemmas.Fitting.{fits-snoc, field_of}
+use Rattle.dsde_sound_typing.specs.lemmas.Seeing.{sees-snoc, fresh-new, slot-behind}
 use Rattle.dsde_sound_expressions.proofs.At.{Ground, ground, At, at-typed, at-higher, at-seen, made-is, node-reads}
 use Rattle.dsde_sound_expressions.proofs.Parts.{Agreed}
 

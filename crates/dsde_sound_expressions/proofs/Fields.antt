@@ -30,10 +30,10 @@ use Rattle.dsde_eval_meaning.specs.Meaning.{part_named, field_named}
 use Rattle.dsde_eval_meaning.specs.Tables.{field_at}
 use Rattle.dsde_eval_meaning.specs.Typed.{Typed}
 use Rattle.dsde_eval_meaning.specs.Scopes.{Within}
-use Rattle.dsde_sound_typing.specs.Steps.{ok-is}
-use Rattle.dsde_sound_typing.specs.Truths.{and-left, and-right}
-use Rattle.dsde_sound_typing.specs.Values.{by_layer}
-use Rattle.dsde_sound_typing.specs.Places.{Placed, placed}
+use Rattle.dsde_sound_typing.specs.lemmas.Steps.{ok-is}
+use Rattle.dsde_sound_typing.specs.lemmas.Truths.{and-left, and-right}
+use Rattle.dsde_sound_typing.specs.lemmas.Values.{by_layer}
+use Rattle.dsde_sound_typing.specs.lemmas.Places.{Placed, placed}
 
 -- the fields of a record type
 pub fields-of-rec : (known : Known) (number : ℕ) → fields_of known (ty.Rec number) ≡ fields_at known number

@@ -31,12 +31,12 @@ use Rattle.dsde_eval_meaning.specs.Meaning.{Function, Mean, mean_step, called}
 use Rattle.dsde_eval_meaning.specs.Tables.{Coded, called_at}
 use Rattle.dsde_eval_meaning.specs.Typed.{Typed, Sound}
 use Rattle.dsde_eval_meaning.specs.Scopes.{Sees, Within, IsDeclared, Serve, Calls}
-use Rattle.dsde_sound_typing.specs.Steps.{went, unless-is}
-use Rattle.dsde_sound_typing.specs.Values.{typed-enum, typed-rec, typed-list, typed-nothing}
+use Rattle.dsde_sound_typing.specs.lemmas.Steps.{went, unless-is}
+use Rattle.dsde_sound_typing.specs.lemmas.Values.{typed-enum, typed-rec, typed-list, typed-nothing}
 use Rattle.dsde_sound_expressions.proofs.At.{Ground, ground, At, at-higher, at-seen, made-is, never-total, leaf-at}
 use Rattle.dsde_sound_expressions.proofs.Operators.{listed-sound}
 use Rattle.dsde_sound_expressions.proofs.Fields.{whole-fields}
-use Rattle.dsde_sound_typing.specs.Written.{written}
+use Rattle.dsde_sound_typing.specs.lemmas.Written.{written}
 use Rattle.dsde_sound_expressions.proofs.Variants.{VariantIs, variant-is}
 use Rattle.dsde_sound_expressions.proofs.Parts.{Agreed, AllAt, fit-at, all-at, fill-at, alike, alike-have, field_types, types-fill, parts-at}
 

@@ -11,7 +11,7 @@ use Rattle.dsde_values.specs.declared.value.Value.TheVariants as value
 use Rattle.dsde_values.specs.Value.{fits_int}
 use Rattle.dsde_eval_meaning.specs.Operators.{nearest, is_zero, count_of, numbers_from}
 use Rattle.dsde_eval_meaning.specs.Typed.{Typed}
-use Rattle.dsde_sound_typing.specs.Values.{typed-int, AllHave, all-cons, cons-all}
+use Rattle.dsde_sound_typing.specs.lemmas.Values.{typed-int, AllHave, all-cons, cons-all}
 
 pub nearest-fits : (z : ℤ) → fits_int (nearest z) ≡ true
 nearest-fits (pos n) = lt-ltb (min n (2 ^ 63 - 1)) (2 ^ 63) (omega arith)

@@ -14,8 +14,8 @@ use Rattle.dsde_declared.specs.declared.operator.Binary.TheVariants as binary
 use Rattle.dsde_eval_meaning.specs.Outcome.{Fault, Outcome, ◌>>=◌, int_of, truth_of, items_of, option_of}
 use Rattle.dsde_eval_meaning.specs.Operators.{same_value, whole, nearest, listed, is_zero, divided, remaining, of_ints, truth, joined, operated, combined, denied, negated, or_else, unwrapped, item_at, indexed}
 use Rattle.dsde_eval_meaning.specs.Typed.{Typed, Sound}
-use Rattle.dsde_sound_typing.specs.Outcomes.{Any, sound-then, sound-if}
-use Rattle.dsde_sound_typing.specs.Values.{AllHave, IsList, Held, typed-int, typed-bool, typed-list, int-sound, truth-sound, items-sound, option-sound, all-cons, all-append}
+use Rattle.dsde_sound_typing.specs.lemmas.Outcomes.{Any, sound-then, sound-if}
+use Rattle.dsde_sound_typing.specs.lemmas.Values.{AllHave, IsList, Held, typed-int, typed-bool, typed-list, int-sound, truth-sound, items-sound, option-sound, all-cons, all-append}
 use Rattle.dsde_sound_expressions.proofs.Numbers.{nearest-fits, rem-fits}
 
 module _ (types : Types) (total : Bool) where

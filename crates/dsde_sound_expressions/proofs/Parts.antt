@@ -20,13 +20,13 @@ use Rattle.dsde_eval_meaning.specs.Meaning.{Vars, Mean, values_of}
 use Rattle.dsde_eval_meaning.specs.Tables.{Means, means_in, node_mean, values_from}
 use Rattle.dsde_eval_meaning.specs.Typed.{Typed, Sound, AllTyped, Fits, values_in}
 use Rattle.dsde_eval_meaning.specs.Scopes.{Stands, Sees}
-use Rattle.dsde_sound_typing.specs.Standing.{stands-left, stands-right}
-use Rattle.dsde_sound_typing.specs.Steps.{went, ok-is}
-use Rattle.dsde_sound_typing.specs.Outcomes.{sound-then, same-then}
-use Rattle.dsde_sound_typing.specs.Truths.{and-right}
-use Rattle.dsde_sound_typing.specs.Types.{wanted-is}
-use Rattle.dsde_sound_typing.specs.Values.{AllHave, cons-all}
-use Rattle.dsde_sound_typing.specs.Fitting.{typed-snoc}
+use Rattle.dsde_sound_typing.specs.lemmas.Standing.{stands-left, stands-right}
+use Rattle.dsde_sound_typing.specs.lemmas.Steps.{went, ok-is}
+use Rattle.dsde_sound_typing.specs.lemmas.Outcomes.{sound-then, same-then}
+use Rattle.dsde_sound_typing.specs.lemmas.Truths.{and-right}
+use Rattle.dsde_sound_typing.specs.lemmas.Types.{wanted-is}
+use Rattle.dsde_sound_typing.specs.lemmas.Values.{AllHave, cons-all}
+use Rattle.dsde_sound_typing.specs.lemmas.Fitting.{typed-snoc}
 use Rattle.dsde_sound_expressions.proofs.At.{Ground, At, at-typed, at-higher, node-reads}
 
 -- An expression that is judged stands over the slots of what it sees.

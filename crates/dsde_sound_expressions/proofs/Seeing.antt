@@ -15,8 +15,8 @@ use Rattle.dsde_eval_meaning.specs.Outcome.{Outcome, ◌>>=◌, present}
 use Rattle.dsde_eval_meaning.specs.Meaning.{Var, Vars, value_named}
 use Rattle.dsde_eval_meaning.specs.Typed.{Typed, Sound, Fits, values_in}
 use Rattle.dsde_eval_meaning.specs.Scopes.{Slotted}
-use Rattle.dsde_sound_typing.specs.Places.{Placed, placed}
-use Rattle.dsde_sound_typing.specs.Fitting.{fits-place}
+use Rattle.dsde_sound_typing.specs.lemmas.Places.{Placed, placed}
+use Rattle.dsde_sound_typing.specs.lemmas.Fitting.{fits-place}
 use Rattle.dsde_check_rules.specs.Steps.{above}
 use Rattle.dsde_sound_expressions.proofs.At.{Ground, At, leaf-at}
 

@@ -15,8 +15,8 @@ use Rattle.dsde_declared.specs.Operators.{sign_binary}
 use Rattle.dsde_eval_meaning.specs.Outcome.{Outcome}
 use Rattle.dsde_eval_meaning.specs.Operators.{combined}
 use Rattle.dsde_eval_meaning.specs.Typed.{Typed}
-use Rattle.dsde_sound_typing.specs.Steps.{Went, went, ok-is}
-use Rattle.dsde_sound_typing.specs.Types.{wanted-is, item-is}
+use Rattle.dsde_sound_typing.specs.lemmas.Steps.{Went, went, ok-is}
+use Rattle.dsde_sound_typing.specs.lemmas.Types.{wanted-is, item-is}
 use Rattle.dsde_sound_expressions.proofs.At.{never-total}
 use Rattle.dsde_sound_expressions.proofs.Operators.{Fine, equal-sound, apart-sound, less-sound, at-most-sound, greater-sound, at-least-sound, add-sound, sub-sound, mul-sound, div-sound, rem-sound, cap-add-sound, cap-sub-sound, cap-mul-sound, join-sound}
 

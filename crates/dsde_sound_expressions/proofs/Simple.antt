@@ -27,9 +27,9 @@ use Rattle.dsde_eval_meaning.specs.Operators.{combined, denied, negated, or_else
 use Rattle.dsde_eval_meaning.specs.Meaning.{Function, Mean, mean_step}
 use Rattle.dsde_eval_meaning.specs.Tables.{Coded}
 use Rattle.dsde_eval_meaning.specs.Scopes.{Sees, Slotted}
-use Rattle.dsde_sound_typing.specs.Steps.{went, unless-is}
-use Rattle.dsde_sound_typing.specs.Types.{wanted-is, held-is}
-use Rattle.dsde_sound_typing.specs.Values.{typed-int, typed-bool}
+use Rattle.dsde_sound_typing.specs.lemmas.Steps.{went, unless-is}
+use Rattle.dsde_sound_typing.specs.lemmas.Types.{wanted-is, held-is}
+use Rattle.dsde_sound_typing.specs.lemmas.Values.{typed-int, typed-bool}
 use Rattle.dsde_sound_expressions.proofs.At.{Ground, ground, At, at-typed, at-seen, made-is, never-total, leaf-at, one-at, two-at}
 use Rattle.dsde_sound_expressions.proofs.Operators.{denied-sound, negated-sound, or-else-sound}
 use Rattle.dsde_sound_expressions.proofs.Signs.{Takes, compares}

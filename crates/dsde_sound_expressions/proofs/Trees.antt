@@ -28,7 +28,7 @@ use Rattle.dsde_eval_meaning.specs.Tables.{Coded}
 use Rattle.dsde_eval_meaning.specs.Proper as proper
 use Rattle.dsde_eval_meaning.specs.Proper.{Signed, is_proper, all_so, is_plain}
 use Rattle.dsde_eval_meaning.specs.Scopes.{Within, Serve, Calls}
-use Rattle.dsde_sound_typing.specs.Truths.{and-left, and-right}
+use Rattle.dsde_sound_typing.specs.lemmas.Truths.{and-left, and-right}
 use Rattle.dsde_sound_expressions.proofs.At.{Ground, ground}
 use Rattle.dsde_sound_expressions.proofs.Parts.{Agreed}
 use Rattle.dsde_sound_expressions.proofs.ProperParts.{AreOperators, Passed, passed, word-map, three, first-kept, sum-operator, mul-operator}

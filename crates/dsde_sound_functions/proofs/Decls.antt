@@ -35,9 +35,9 @@ use Rattle.dsde_eval_meaning.specs.Scopes.{Stands, Within, Serve, Calls}
 use Rattle.dsde_eval_meaning.specs.Proper.{are_plain, is_proper, is_proper_stmt, is_proper_decl}
 use Rattle.dsde_eval_meaning.specs.Agreement.{ExpressionsAgree, BlocksAgree}
 use Rattle.dsde_sound_places.specs.Places.{known_behind}
-use Rattle.dsde_sound_typing.specs.Standing.{stands-head, stands-tail, stands-left, stands-right}
-use Rattle.dsde_sound_typing.specs.Steps.{went, ok-is, unless-is}
-use Rattle.dsde_sound_typing.specs.Truths.{and-left, and-right}
+use Rattle.dsde_sound_typing.specs.lemmas.Standing.{stands-head, stands-tail, stands-left, stands-right}
+use Rattle.dsde_sound_typing.specs.lemmas.Steps.{went, ok-is, unless-is}
+use Rattle.dsde_sound_typing.specs.lemmas.Truths.{and-left, and-right}
 use Rattle.dsde_sound_functions.proofs.Names.{Grows, grows-none, grows-more}
 use Rattle.dsde_sound_functions.proofs.FuncAgrees.{FuncAgrees, func-agrees}
 use Rattle.dsde_sound_functions.proofs.Frame.{Frame, frame-same, frame-func, still-called}

@@ -21,8 +21,8 @@ use Rattle.dsde_eval_meaning.specs.Functions.{run_func}
 use Rattle.dsde_eval_meaning.specs.Tables.{Coded, means_in, run_code, called_at}
 use Rattle.dsde_eval_meaning.specs.Typed.{Typed, Sound, AllTyped}
 use Rattle.dsde_eval_meaning.specs.Scopes.{Serve, Served, Calls}
-use Rattle.dsde_sound_typing.specs.Places.{same-name, pick, or_last, named-snoc, among-snoc, eq-same, named-front, position-longer, any-map, added-new}
-use Rattle.dsde_sound_typing.specs.Truths.{or-left, or-right}
+use Rattle.dsde_sound_typing.specs.lemmas.Places.{same-name, pick, or_last, named-snoc, among-snoc, eq-same, named-front, position-longer, any-map, added-new}
+use Rattle.dsde_sound_typing.specs.lemmas.Truths.{or-left, or-right}
 use Rattle.dsde_sound_functions.proofs.Names.{Grows, place-new, some-alike}
 use Rattle.dsde_sound_functions.proofs.FuncAgrees.{FuncAgrees}
 

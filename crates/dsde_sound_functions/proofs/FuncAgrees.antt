@@ -37,10 +37,10 @@ use Rattle.dsde_eval_meaning.specs.Typed.{Typed, Sound, AllTyped, Fits, Faults, 
 use Rattle.dsde_eval_meaning.specs.Scopes.{Stands, Sees, Within, Serve, Calls}
 use Rattle.dsde_eval_meaning.specs.Proper.{is_proper, is_proper_stmt}
 use Rattle.dsde_eval_meaning.specs.Agreement.{Agrees, ExpressionsAgree, BlockAgrees, BlocksAgree}
-use Rattle.dsde_sound_typing.specs.Standing.{stands-head, stands-tail, stands-left, stands-right}
-use Rattle.dsde_sound_typing.specs.Steps.{went, ok-is, unless-is}
-use Rattle.dsde_sound_typing.specs.Types.{wanted-is}
-use Rattle.dsde_sound_typing.specs.Seeing.{slots_of, slots-see}
+use Rattle.dsde_sound_typing.specs.lemmas.Standing.{stands-head, stands-tail, stands-left, stands-right}
+use Rattle.dsde_sound_typing.specs.lemmas.Steps.{went, ok-is, unless-is}
+use Rattle.dsde_sound_typing.specs.lemmas.Types.{wanted-is}
+use Rattle.dsde_sound_typing.specs.lemmas.Seeing.{slots_of, slots-see}
 use Rattle.dsde_sound_functions.proofs.Params.{ty_of, params-slots, Given, params-given}
 
 abbrev pub height_of : Passed → Seen → ℕ

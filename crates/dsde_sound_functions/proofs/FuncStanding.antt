@@ -40,11 +40,11 @@ use Rattle.dsde_eval_meaning.specs.Agreement.{BlockAgrees, BlocksAgree}
 use Rattle.dsde_sound_grammar.specs.IsProper.{ShapedIsProper}
 use Rattle.dsde_sound_places.specs.Places.{KnownAt, known_behind, piece_of}
 use Rattle.dsde_sound_places.specs.Laws.{KnownIsWithin}
-use Rattle.dsde_sound_typing.specs.Standing.{stands-tail, stands-left, stands-right}
-use Rattle.dsde_sound_typing.specs.Seeing.{slots_of, slots-see}
-use Rattle.dsde_sound_typing.specs.Steps.{went, ok-is, unless-is}
-use Rattle.dsde_sound_typing.specs.Truths.{and-left, and-right}
-use Rattle.dsde_sound_typing.specs.Written.{written}
+use Rattle.dsde_sound_typing.specs.lemmas.Standing.{stands-tail, stands-left, stands-right}
+use Rattle.dsde_sound_typing.specs.lemmas.Seeing.{slots_of, slots-see}
+use Rattle.dsde_sound_typing.specs.lemmas.Steps.{went, ok-is, unless-is}
+use Rattle.dsde_sound_typing.specs.lemmas.Truths.{and-left, and-right}
+use Rattle.dsde_sound_typing.specs.lemmas.Written.{written}
 use Rattle.dsde_sound_functions.specs.Coded.{coded_of, FuncsAgree, FunctionsAgree}
 use Rattle.dsde_sound_functions.specs.Standing.{FuncText, funcs_of, func_slots, FuncStands, HasFunc}
 use Rattle.dsde_sound_functions.proofs.Params.{params-slots}

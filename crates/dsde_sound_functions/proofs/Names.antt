@@ -3,7 +3,7 @@ use Rattle.std.proofs.Common.{◌≡◌, ℕ, suc, Bool, true, false, ◌||◌, 
 use Rattle.std.specs.Option.{option_map}
 use Rattle.std.specs.Str.{bytes_eq}
 use Rattle.dsde_names.specs.Table.{place_of, named, is_among}
-use Rattle.dsde_sound_typing.specs.Places.{next_place, place-cons, pick, named-cons, eq-same}
+use Rattle.dsde_sound_typing.specs.lemmas.Places.{next_place, place-cons, pick, named-cons, eq-same}
 
 -- a list with more behind it
 pub record Grows {A : Type 0} (items all : List A) : Type 0 where

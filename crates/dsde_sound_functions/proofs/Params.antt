@@ -19,10 +19,10 @@ use Rattle.dsde_declared.specs.Models.{typed_fields}
 use Rattle.dsde_eval_meaning.specs.Functions.{bound_params}
 use Rattle.dsde_eval_meaning.specs.Scopes.{Within}
 use Rattle.dsde_eval_meaning.specs.Typed.{AllTyped, Fits, values_in}
-use Rattle.dsde_sound_typing.specs.Fitting.{field_of}
-use Rattle.dsde_sound_typing.specs.Seeing.{own_slot, slots_of, among-slots, slot-behind}
-use Rattle.dsde_sound_typing.specs.Steps.{went, ok-is, unless-is}
-use Rattle.dsde_sound_typing.specs.Written.{written}
+use Rattle.dsde_sound_typing.specs.lemmas.Fitting.{field_of}
+use Rattle.dsde_sound_typing.specs.lemmas.Seeing.{own_slot, slots_of, among-slots, slot-behind}
+use Rattle.dsde_sound_typing.specs.lemmas.Steps.{went, ok-is, unless-is}
+use Rattle.dsde_sound_typing.specs.lemmas.Written.{written}
 
 abbrev pub ty_of : Binding → Ty
 ty_of bound = bound.ty

@@ -22,7 +22,7 @@ use Rattle.dsde_sound_grammar.specs.IsProper.{ShapedIsProper}
 use Rattle.dsde_sound_places.specs.Places.{KnownAt}
 use Rattle.dsde_sound_places.specs.Laws.{KnownIsWithin}
 use Rattle.dsde_sound_functions.specs.Coded.{coded_of, FuncsAgree}
-use Rattle.dsde_sound_typing.specs.Steps.{went}
+use Rattle.dsde_sound_typing.specs.lemmas.Steps.{went}
 use Rattle.dsde_sound_functions.proofs.Decls.{Tabled, Here, Ended, walk-decls}
 
 -- the whole of a table

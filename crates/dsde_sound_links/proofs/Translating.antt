@@ -27,7 +27,7 @@ use Rattle.dsde_sound_places.specs.Places.{IsExpr}
 use Rattle.dsde_sound_places.specs.Laws.{KnownIsWithin}
 use Rattle.dsde_sound_functions.specs.Coded.{coded_of, FuncsAgree, FunctionsAgree}
 use Rattle.dsde_sound_places.specs.Conditions.{CanTranslate, Translated, via_values, option_value}
-use Rattle.dsde_sound_typing.specs.Values.{by_layer}
+use Rattle.dsde_sound_typing.specs.lemmas.Values.{by_layer}
 use Rattle.dsde_system.specs.Plans.{IsKey, Takes, via_slots}
 use Rattle.dsde_system.specs.Program.{system, translated, held_in, key_vars, via_vars}
 

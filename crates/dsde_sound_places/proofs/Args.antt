@@ -26,8 +26,8 @@ use Rattle.dsde_program_nodes.specs.Pieces.{Block, Next, Step}
 use Rattle.dsde_eval_meaning.specs.Proper.{is_proper}
 use Rattle.dsde_sound_places.specs.Places.{KnownAt}
 use Rattle.dsde_sound_places.specs.Bodies.{ArgsStand}
-use Rattle.dsde_sound_typing.specs.Steps.{ok-is, Went, went}
-use Rattle.dsde_sound_typing.specs.Types.{wanted-is}
+use Rattle.dsde_sound_typing.specs.lemmas.Steps.{ok-is, Went, went}
+use Rattle.dsde_sound_typing.specs.lemmas.Types.{wanted-is}
 use Rattle.dsde_sound_places.proofs.Slots.{sees-slots}
 use Rattle.dsde_sound_places.proofs.Pieces.{Put, put-first, put-next, put-own}
 

@@ -21,9 +21,9 @@ use Rattle.dsde_check_rules.specs.Right.{IsRight}
 use Rattle.dsde_eval_meaning.specs.Proper.{is_proper_decl, are_plain, is_proper_body}
 use Rattle.dsde_sound_places.specs.Bodies.{BodyStands, InfoIs}
 use Rattle.dsde_sound_places.specs.Laws.{HasOwn}
-use Rattle.dsde_sound_typing.specs.Steps.{went}
+use Rattle.dsde_sound_typing.specs.lemmas.Steps.{went}
 use Rattle.dsde_sound_places.proofs.Within.{ruled}
-use Rattle.dsde_sound_typing.specs.Standing.{stands-whole}
+use Rattle.dsde_sound_typing.specs.lemmas.Standing.{stands-whole}
 use Rattle.dsde_sound_places.proofs.Pieces.{Put}
 use Rattle.dsde_sound_places.proofs.BodyPieces.{body-put}
 use Rattle.dsde_sound_places.proofs.DeclPieces.{BodyDecl, func-put, atomic-put, network-put, top-put}

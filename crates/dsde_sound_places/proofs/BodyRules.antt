@@ -10,8 +10,8 @@ use Rattle.dsde_check_rules.specs.Steps.{◌>>=◌}
 use Rattle.dsde_check_rules.specs.Types.{wanted}
 use Rattle.dsde_check_rules.specs.Judge.{Scope, judge}
 use Rattle.dsde_check_rules.specs.Blocks.{Passed, Walk, walk_all, state_of, inputs_seen, phase_of, moving, advance_of, move_of, inputs_of, phases_of, external_of, body_of}
-use Rattle.dsde_sound_typing.specs.Steps.{ok-is, Went, went}
-use Rattle.dsde_sound_typing.specs.Types.{wanted-is}
+use Rattle.dsde_sound_typing.specs.lemmas.Steps.{ok-is, Went, went}
+use Rattle.dsde_sound_typing.specs.lemmas.Types.{wanted-is}
 
 -- Statements are no lower than what came before them.
 pub walk-high : (walks : List Walk) (height : ℕ) (scope : Scope) (passed : Passed) → walk_all walks height scope ≡ Ok passed → height ≤ passed.height

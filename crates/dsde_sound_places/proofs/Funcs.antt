@@ -21,8 +21,8 @@ use Rattle.dsde_check_rules.specs.Judge.{Scope, type_of}
 use Rattle.dsde_check_rules.specs.Blocks.{func_of, func_height, around_func, params_all}
 use Rattle.dsde_check_rules.specs.Rules.{apart_all}
 use Rattle.dsde_declared.specs.Models.{with_func, with_funcs}
-use Rattle.dsde_sound_typing.specs.Places.{added-new}
-use Rattle.dsde_sound_typing.specs.Steps.{ok-is, Went, went}
+use Rattle.dsde_sound_typing.specs.lemmas.Places.{added-new}
+use Rattle.dsde_sound_typing.specs.lemmas.Steps.{ok-is, Went, went}
 use Rattle.dsde_sound_places.proofs.Steps.{is_name, apart-parts, Among, among-more, among-new}
 
 -- a function by its name and by the type of its result

@@ -7,7 +7,7 @@ use Rattle.dsde_check_rules.specs.declared.signatures.TypeWord.{TypeWord}
 use Rattle.dsde_check_rules.specs.Tables.{added, model_name, models_from, text_params, text_ports}
 use Rattle.dsde_check_rules.specs.Rules.{own_name, apart_all}
 use Rattle.dsde_declared.specs.Models.{Own, owns_of}
-use Rattle.dsde_sound_typing.specs.Places.{added-new}
+use Rattle.dsde_sound_typing.specs.lemmas.Places.{added-new}
 use Rattle.dsde_sound_places.proofs.Steps.{is_name, apart-parts, Among, among-more, among-new}
 
 -- a model, as it is declared

@@ -26,8 +26,8 @@ use Rattle.dsde_declared.specs.Names.{with_slots}
 use Rattle.dsde_check_rules.specs.Right.{IsRight}
 use Rattle.dsde_eval_meaning.specs.Proper.{is_proper_decl, are_plain, is_proper_body}
 use Rattle.dsde_sound_places.specs.Structures.{ModelIs, PortsApart, ModelsAre}
-use Rattle.dsde_sound_typing.specs.Places.{added-new}
-use Rattle.dsde_sound_typing.specs.Steps.{went}
+use Rattle.dsde_sound_typing.specs.lemmas.Places.{added-new}
+use Rattle.dsde_sound_typing.specs.lemmas.Steps.{went}
 use Rattle.dsde_sound_places.proofs.Steps.{among-none}
 use Rattle.dsde_sound_places.proofs.Funcs.{words-stay, models-stay}
 use Rattle.dsde_sound_places.proofs.Within.{known-models, ruled}

@@ -38,8 +38,8 @@ use Rattle.dsde_eval_meaning.specs.Proper.{is_plain, are_plain, is_proper, is_pr
 use Rattle.dsde_eval_meaning.specs.Scopes.{Sees, AreOuts}
 use Rattle.dsde_sound_places.specs.Places.{KnownAt, IsExpr}
 use Rattle.dsde_sound_places.specs.Bodies.{BodyStands, PhaseStands, InitsStand, body_slots, moved_slots}
-use Rattle.dsde_sound_typing.specs.Places.{any-map}
-use Rattle.dsde_sound_typing.specs.Seeing.{own_slot, among-slots}
+use Rattle.dsde_sound_typing.specs.lemmas.Places.{any-map}
+use Rattle.dsde_sound_typing.specs.lemmas.Seeing.{own_slot, among-slots}
 use Rattle.dsde_sound_places.proofs.Slots.{NewFields, slots-are, none-passes, elapsed_field, sees-slots, sees-moved}
 use Rattle.dsde_sound_places.proofs.Params.{NewPorts, ports_in, ParamsAre, params-are, PortsAre, ports-are, directed-is, directed-new, covered-none, covered-scope, MovedAre, moved-are, are-outs, are-none}
 use Rattle.dsde_sound_places.proofs.BodyPieces.{BodyPut}

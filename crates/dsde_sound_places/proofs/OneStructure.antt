@@ -24,7 +24,7 @@ use Rattle.dsde_eval_meaning.specs.Scopes.{Stands}
 use Rattle.dsde_sound_grammar.specs.Items.{is_proper_item}
 use Rattle.dsde_sound_places.specs.Bodies.{body_slots}
 use Rattle.dsde_sound_places.specs.Structures.{IsStructure}
-use Rattle.dsde_sound_typing.specs.Steps.{went}
+use Rattle.dsde_sound_typing.specs.lemmas.Steps.{went}
 use Rattle.dsde_sound_places.proofs.Params.{PortsAre, ports-are, directed-is}
 use Rattle.dsde_sound_places.proofs.BodyPieces.{BodyPut}
 use Rattle.dsde_sound_places.proofs.OneBody.{StructureJudged, slots1-are, structure-sees, directed-are}

@@ -26,8 +26,8 @@ use Rattle.dsde_program_nodes.specs.Pieces.{Block}
 use Rattle.dsde_check_rules.specs.Right.{IsRight}
 use Rattle.dsde_eval_meaning.specs.Proper.{are_plain, is_proper_body}
 use Rattle.dsde_sound_places.specs.Places.{KnownAt, known_behind}
-use Rattle.dsde_sound_typing.specs.Steps.{ok-is, unless-is, Went, went}
-use Rattle.dsde_sound_typing.specs.Written.{written}
+use Rattle.dsde_sound_typing.specs.lemmas.Steps.{ok-is, unless-is, Went, went}
+use Rattle.dsde_sound_typing.specs.lemmas.Written.{written}
 use Rattle.dsde_sound_places.proofs.Within.{known-is-within}
 use Rattle.dsde_sound_places.proofs.OneBody.{OwnJudged, StructureJudged}
 

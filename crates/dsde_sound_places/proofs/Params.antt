@@ -24,10 +24,10 @@ use Rattle.dsde_declared.specs.Structures.{directed}
 use Rattle.dsde_declared.specs.Models.{typed_fields, port_fields}
 use Rattle.dsde_program_nodes.specs.Statements.{list_fields}
 use Rattle.dsde_eval_meaning.specs.Scopes.{Slotted, AreOuts}
-use Rattle.dsde_sound_typing.specs.Places.{any-left, added-new, named-cons}
-use Rattle.dsde_sound_typing.specs.Truths.{or-left, or-right}
-use Rattle.dsde_sound_typing.specs.Seeing.{own_slot, among-slots}
-use Rattle.dsde_sound_typing.specs.Steps.{ok-is, unless-is, went}
+use Rattle.dsde_sound_typing.specs.lemmas.Places.{any-left, added-new, named-cons}
+use Rattle.dsde_sound_typing.specs.lemmas.Truths.{or-left, or-right}
+use Rattle.dsde_sound_typing.specs.lemmas.Seeing.{own_slot, among-slots}
+use Rattle.dsde_sound_typing.specs.lemmas.Steps.{ok-is, unless-is, went}
 use Rattle.dsde_sound_places.proofs.Slots.{NewFields}
 
 -- the ports that are declared, by their text

@@ -7,7 +7,7 @@ use Rattle.dsde_declared.specs.Names.{Scope}
 use Rattle.dsde_program_nodes.specs.Expressions.{Resolved, expr_id}
 use Rattle.dsde_program_nodes.specs.Pieces.{Block, Next, Piece, Step, ◌>>=◌, behind, expr}
 use Rattle.dsde_eval_meaning.specs.Scopes.{Stands}
-use Rattle.dsde_sound_typing.specs.Standing.{stands-left, stands-right}
+use Rattle.dsde_sound_typing.specs.lemmas.Standing.{stands-left, stands-right}
 
 module _ (nodes : List Node) (blocks : List Block) where
   -- A piece stands in the tables from these numbers on.

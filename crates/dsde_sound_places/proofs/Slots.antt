@@ -9,9 +9,9 @@ use Rattle.dsde_check_rules.specs.Judge as rules
 use Rattle.dsde_check_rules.specs.Tables.{field_name}
 use Rattle.dsde_declared.specs.Names.{with_slots, elapsed_name}
 use Rattle.dsde_eval_meaning.specs.Scopes.{Sees}
-use Rattle.dsde_sound_typing.specs.Places.{added-new, among-snoc, other-name}
-use Rattle.dsde_sound_typing.specs.Fitting.{field_of}
-use Rattle.dsde_sound_typing.specs.Seeing.{slots_of, slots-see, slotted-left, slotted-new}
+use Rattle.dsde_sound_typing.specs.lemmas.Places.{added-new, among-snoc, other-name}
+use Rattle.dsde_sound_typing.specs.lemmas.Fitting.{field_of}
+use Rattle.dsde_sound_typing.specs.lemmas.Seeing.{slots_of, slots-see, slotted-left, slotted-new}
 
 -- Each of these fields has a name that none before it has.
 abbrev pub NewFields : List Field → List Field → Type 0

@@ -39,11 +39,11 @@ use Rattle.dsde_eval_meaning.specs.Proper.{is_plain, is_proper, is_proper_phase}
 use Rattle.dsde_eval_meaning.specs.Scopes.{Sees, AreOuts}
 use Rattle.dsde_sound_places.specs.Places.{KnownAt}
 use Rattle.dsde_sound_places.specs.Bodies.{InitsStand, PhaseStands}
-use Rattle.dsde_sound_typing.specs.Places.{added-new, other-way}
-use Rattle.dsde_sound_typing.specs.Truths.{or-left, or-right}
-use Rattle.dsde_sound_typing.specs.Types.{wanted-is}
-use Rattle.dsde_sound_typing.specs.Seeing.{own_slot, among-slots}
-use Rattle.dsde_sound_typing.specs.Steps.{ok-is, unless-is, Went, went}
+use Rattle.dsde_sound_typing.specs.lemmas.Places.{added-new, other-way}
+use Rattle.dsde_sound_typing.specs.lemmas.Truths.{or-left, or-right}
+use Rattle.dsde_sound_typing.specs.lemmas.Types.{wanted-is}
+use Rattle.dsde_sound_typing.specs.lemmas.Seeing.{own_slot, among-slots}
+use Rattle.dsde_sound_typing.specs.lemmas.Steps.{ok-is, unless-is, Went, went}
 use Rattle.dsde_sound_places.proofs.Slots.{NewFields, sees-slots}
 use Rattle.dsde_sound_places.proofs.Params.{NewPorts}
 use Rattle.dsde_sound_places.proofs.Pieces.{Put, put-first, put-own, put-behind, behind_expr}

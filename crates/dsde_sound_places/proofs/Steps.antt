@@ -7,9 +7,9 @@ use Rattle.dsde_names.specs.Table.{is_among}
 use Rattle.dsde_check_rules.specs.Steps.{apart}
 use Rattle.dsde_check_rules.specs.Tables.{with_name}
 use Rattle.dsde_check_rules.specs.Rules.{own_name, apart_all}
-use Rattle.dsde_sound_typing.specs.Truths.{or-left, or-right}
-use Rattle.dsde_sound_typing.specs.Steps.{went, unless-is}
-use Rattle.dsde_sound_typing.specs.Places.{any-left}
+use Rattle.dsde_sound_typing.specs.lemmas.Truths.{or-left, or-right}
+use Rattle.dsde_sound_typing.specs.lemmas.Steps.{went, unless-is}
+use Rattle.dsde_sound_typing.specs.lemmas.Places.{any-left}
 
 -- whether a name is among names
 abbrev pub is_name : List (List ℕ) → List ℕ → Bool

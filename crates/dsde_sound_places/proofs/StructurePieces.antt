@@ -25,7 +25,7 @@ use Rattle.dsde_program_nodes.specs.Models.{Parts, resolve_decl}
 use Rattle.dsde_program_nodes.specs.Pieces.{Block, Next, Piece, Step, ◌>>=◌, behind, give, over}
 use Rattle.dsde_program_nodes.specs.Statements.{resolve_func, resolve_body, body_scope}
 use Rattle.dsde_eval_meaning.specs.Scopes.{Stands}
-use Rattle.dsde_sound_typing.specs.Standing.{stands-left, stands-right}
+use Rattle.dsde_sound_typing.specs.lemmas.Standing.{stands-left, stands-right}
 use Rattle.dsde_sound_places.proofs.Pieces.{Put, put-first, put-next}
 use Rattle.dsde_sound_places.proofs.Counts.{args-count, func-count, body-counts}
 use Rattle.dsde_sound_places.proofs.ItemCounts.{items-count}

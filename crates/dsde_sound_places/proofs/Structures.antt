@@ -27,9 +27,9 @@ use Rattle.dsde_eval_meaning.specs.Proper.{is_proper_decl, are_plain, is_proper_
 use Rattle.dsde_eval_meaning.specs.Scopes.{Stands}
 use Rattle.dsde_sound_grammar.specs.Items.{has_proper_items}
 use Rattle.dsde_sound_places.specs.Structures.{IsStructure, HasStructure}
-use Rattle.dsde_sound_typing.specs.Steps.{went}
+use Rattle.dsde_sound_typing.specs.lemmas.Steps.{went}
 use Rattle.dsde_sound_places.proofs.Within.{ruled}
-use Rattle.dsde_sound_typing.specs.Standing.{stands-left, stands-right, stands-whole}
+use Rattle.dsde_sound_typing.specs.lemmas.Standing.{stands-left, stands-right, stands-whole}
 use Rattle.dsde_sound_places.proofs.BodyPieces.{body-put}
 use Rattle.dsde_sound_places.proofs.OneBody.{StructureJudged}
 use Rattle.dsde_sound_places.proofs.Owns.{Place, known-at, next-place, structure-judged}

@@ -35,8 +35,8 @@ use Rattle.dsde_check_rules.specs.Right.{IsRight}
 use Rattle.dsde_eval_meaning.specs.Proper.{is_proper, is_proper_decl}
 use Rattle.dsde_sound_places.specs.Places.{KnownAt}
 use Rattle.dsde_sound_places.specs.Bodies.{ArgsStand, TopStands}
-use Rattle.dsde_sound_typing.specs.Places.{Placed, placed, position-at, Passes}
-use Rattle.dsde_sound_typing.specs.Steps.{unless-is, went}
+use Rattle.dsde_sound_typing.specs.lemmas.Places.{Placed, placed, position-at, Passes}
+use Rattle.dsde_sound_typing.specs.lemmas.Steps.{unless-is, went}
 use Rattle.dsde_sound_places.proofs.Steps.{among-none}
 use Rattle.dsde_sound_places.proofs.Funcs.{words-stay, models-stay}
 use Rattle.dsde_sound_places.proofs.Within.{known-models, RuledModel, ruled}

@@ -20,7 +20,7 @@ use Rattle.dsde_check_rules.specs.Tables.{type_word, with_word, with_name, with_
 use Rattle.dsde_check_rules.specs.Judge.{variants_in}
 use Rattle.dsde_check_rules.specs.Rules.{own_name, apart_all}
 use Rattle.dsde_declared.specs.Models.{defs_from}
-use Rattle.dsde_sound_typing.specs.Places.{added-new}
+use Rattle.dsde_sound_typing.specs.lemmas.Places.{added-new}
 use Rattle.dsde_sound_places.proofs.Steps.{is_name, apart-parts, Among, among-none, among-more, among-new}
 
 abbrev pub word_as : Bool → Id → TypeWord

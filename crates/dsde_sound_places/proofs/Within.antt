@@ -27,12 +27,12 @@ use Rattle.dsde_program_nodes.specs.Typing.{func_type}
 use Rattle.dsde_check_rules.specs.Right.{IsRight}
 use Rattle.dsde_eval_meaning.specs.Scopes.{Within, IsDeclared, AreVariants}
 use Rattle.dsde_sound_places.specs.Places.{KnownAt, known_behind}
-use Rattle.dsde_sound_typing.specs.Places.{position-longer, position-at, Passes, position-map, Placed, placed, named-at, get-left}
-use Rattle.dsde_sound_typing.specs.Steps.{ok-is, went}
+use Rattle.dsde_sound_typing.specs.lemmas.Places.{position-longer, position-at, Passes, position-map, Placed, placed, named-at, get-left}
+use Rattle.dsde_sound_typing.specs.lemmas.Steps.{ok-is, went}
 use Rattle.dsde_sound_places.proofs.Steps.{is_name, apart-parts, name-new, Among, among-none, among-more, among-new}
 use Rattle.dsde_sound_places.proofs.Types.{type_names, shapes_in, names-append, shapes-are, words-longer, type_by, numbered-is, shapes-stay, file_tokens, variants-few}
 use Rattle.dsde_sound_places.proofs.Funcs.{Sig, sig, sigs_in, sigs-append, words-stay, types-stay, one-func, funcs-are, Judged, func-judged}
-use Rattle.dsde_sound_typing.specs.Written.{written}
+use Rattle.dsde_sound_typing.specs.lemmas.Written.{written}
 
 -- the rules of a model in which nothing is wrong
 pub record Ruled (decls : List Decl) : Type 0 where

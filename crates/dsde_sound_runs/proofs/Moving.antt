@@ -33,14 +33,14 @@ use Rattle.dsde_sim_tree.specs.Output.{kid_output, sources_of}
 use Rattle.dsde_sim_tree.specs.Start.{kid_of, net_of, structure_of}
 use Rattle.dsde_sim_tree.specs.Move.{after_boss, after_kids, change, ins_of, kid_move, move, move_leaf_at, moved, net_move, net_moves, replanned, take_move, with_sources}
 use Rattle.dsde_sim_tree.specs.Tree.{args_of, entry_of, model_of}
-use Rattle.dsde_sim_tree.specs.Trees.{each_tree}
+use Rattle.dsde_sim_tree.specs.lemmas.Trees.{each_tree}
 use Rattle.dsde_sound_components.specs.Sure.{FitsNetwork}
 use Rattle.dsde_sound_runs.proofs.Relied.{Laws}
 use Rattle.dsde_sound_runs.proofs.Safe.{Safe, safe-then}
 use Rattle.dsde_sim_starting.specs.Fitting.{FitsAtomic, FitsKid, FitsLinks, FitsShape, FitsTree}
 use Rattle.dsde_sound_runs.proofs.Ports.{Receives, inputs-of}
-use Rattle.dsde_sim_starting.specs.Fits.{kid-tree, leaf-tree, net-kids, net-shape, net-tree}
-use Rattle.dsde_sim_starting.specs.Stood.{Stood, component-ins, model-leaf, model-net, same-own, stood}
+use Rattle.dsde_sim_starting.specs.lemmas.Fits.{kid-tree, leaf-tree, net-kids, net-shape, net-tree}
+use Rattle.dsde_sim_starting.specs.lemmas.Stood.{Stood, component-ins, model-leaf, model-net, same-own, stood}
 use Rattle.dsde_sound_runs.proofs.Opens.{args-Leaf, args-Net}
 use Rattle.dsde_sound_runs.proofs.Leaves.{IsLeaf, leaf-moves, take-safe}
 use Rattle.dsde_sound_runs.proofs.Starting.{AreKids, IsHead, IsKid, IsPart, kid-is, kids-behind, leaf-part, net-part, plan-links, structure-safe}

@@ -14,7 +14,7 @@ use Rattle.dsde_system.specs.Program.{system, component_at, network_at}
 use Rattle.dsde_system.specs.Fitting.{FitsInputs, Reach}
 use Rattle.dsde_system.specs.Plans.{ways, body_ways}
 use Rattle.dsde_sim_starting.specs.Fitting.{FitsAtomic}
-use Rattle.dsde_sim_starting.specs.Stood.{plain-ins}
+use Rattle.dsde_sim_starting.specs.lemmas.Stood.{plain-ins}
 
 -- Values come to a part of this model: a list for each of its in ports, of its type.
 pub record Receives (model : Model) (number : ℕ) (got : Ports) : Type 0 where

@@ -29,14 +29,14 @@ use Rattle.dsde_sim_tree.specs.declared.sim.Sim.TheViews.{out-Kid, out-Net}
 use Rattle.dsde_sim_tree.specs.Opened.{shape_in}
 use Rattle.dsde_sim_tree.specs.Output.{◌>>=◌, asked, by_port, kid_output, output, sent, sources_of}
 use Rattle.dsde_sim_tree.specs.Tree.{entry_of, model_of}
-use Rattle.dsde_sim_tree.specs.Trees.{each_tree}
+use Rattle.dsde_sim_tree.specs.lemmas.Trees.{each_tree}
 use Rattle.dsde_sound_components.specs.Sure.{Sure}
 use Rattle.dsde_sound_components.specs.lemmas.Steps.{sure-then, sure-more}
 use Rattle.dsde_sound_runs.proofs.Relied.{Laws}
 use Rattle.dsde_sound_runs.proofs.Safe.{Safe, safe-at, safe-bind}
 use Rattle.dsde_sim_starting.specs.Fitting.{FitsAtomic, FitsBodySent, FitsKid, FitsSent, FitsShape, FitsTree}
-use Rattle.dsde_sim_starting.specs.Fits.{kid-tree, leaf-tree, net-kids, net-shape, net-tree}
-use Rattle.dsde_sim_starting.specs.Stood.{model-leaf, model-net, same-own}
+use Rattle.dsde_sim_starting.specs.lemmas.Fits.{kid-tree, leaf-tree, net-kids, net-shape, net-tree}
+use Rattle.dsde_sim_starting.specs.lemmas.Stood.{model-leaf, model-net, same-own}
 use Rattle.dsde_sound_runs.proofs.Ports.{component-outs, network-outs, plain}
 use Rattle.dsde_sound_runs.proofs.Opens.{output-Leaf, output-Net, output-kid}
 use Rattle.dsde_sound_runs.proofs.Leaves.{leaf-args, leaf-state}

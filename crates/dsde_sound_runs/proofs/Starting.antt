@@ -29,8 +29,8 @@ use Rattle.dsde_sound_components.specs.Sure.{FitsNetwork}
 use Rattle.dsde_sound_runs.proofs.Relied.{Laws}
 use Rattle.dsde_sound_runs.proofs.Safe.{Safe, safe-at, safe-then}
 use Rattle.dsde_sim_starting.specs.Fitting.{FitsKid, FitsLinks, FitsShape, FitsTree, IsExecutive}
-use Rattle.dsde_sim_starting.specs.Fits.{net-parts, tree-kid, tree-leaf, tree-net}
-use Rattle.dsde_sim_starting.specs.Stood.{model-leaf, model-net}
+use Rattle.dsde_sim_starting.specs.lemmas.Fits.{net-parts, tree-kid, tree-leaf, tree-net}
+use Rattle.dsde_sim_starting.specs.lemmas.Stood.{model-leaf, model-net}
 use Rattle.dsde_sound_runs.proofs.Opens.{args-Leaf, args-Net}
 use Rattle.dsde_sound_runs.proofs.Leaves.{IsLeaf, entered-safe, leaf-starts}
 

@@ -16,10 +16,10 @@ use Rattle.dsde_sim_tree.specs.declared.sim.Sim.TheVariants as sim
 use Rattle.dsde_sim_tree.specs.declared.sim.Sim.TheViews.{out-Kid, out-Net}
 use Rattle.dsde_sim_tree.specs.Opened.{shape_in}
 use Rattle.dsde_sim_tree.specs.Tree.{next_time, next_of_kid, sooner, soonest}
-use Rattle.dsde_sim_tree.specs.Trees.{each_tree}
+use Rattle.dsde_sim_tree.specs.lemmas.Trees.{each_tree}
 use Rattle.dsde_sim_turns.specs.Turn.{turn_time}
 use Rattle.dsde_sim_starting.specs.Fitting.{FitsKid, FitsShape, FitsTree}
-use Rattle.dsde_sim_starting.specs.Fits.{kid-tree, leaf-tree, net-kids, net-shape, net-tree}
+use Rattle.dsde_sim_starting.specs.lemmas.Fits.{kid-tree, leaf-tree, net-kids, net-shape, net-tree}
 use Rattle.dsde_sound_runs.proofs.Opens.{next-Leaf, next-Net, next-kid}
 
 sooner-in-time : (a b : When) → IsInTime a → IsInTime b → IsInTime (sooner a b)

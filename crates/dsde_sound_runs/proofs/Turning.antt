@@ -34,7 +34,7 @@ use Rattle.dsde_sound_runs.proofs.Relied.{Laws}
 use Rattle.dsde_sound_runs.proofs.Safe.{Safe, safe-at, safe-then}
 use Rattle.dsde_sim_starting.specs.Fitting.{FitsSent, FitsTree}
 use Rattle.dsde_sound_runs.proofs.Ports.{Receives}
-use Rattle.dsde_sim_starting.specs.Stood.{Stood, same-own, stood}
+use Rattle.dsde_sim_starting.specs.lemmas.Stood.{Stood, same-own, stood}
 use Rattle.dsde_sound_runs.proofs.Starting.{IsPart, part-starts}
 use Rattle.dsde_sound_runs.proofs.Sending.{tree-answers}
 use Rattle.dsde_sound_runs.proofs.Moving.{tree-moves}

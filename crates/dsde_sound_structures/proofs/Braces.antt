@@ -19,11 +19,11 @@ use Rattle.dsde_eval_meaning.specs.Scopes.{Stands, Sees}
 use Rattle.dsde_executive_plans.specs.Layout.{Layout, Lay, lay_all, braced, for_one, for_lay}
 use Rattle.dsde_executive_plans.specs.Drafts as over_slots
 use Rattle.dsde_executive_plans.specs.Drafts.{Draft, draft_of, for_draw}
-use Rattle.dsde_sound_typing.specs.Values.{AllHave, all-cons}
-use Rattle.dsde_sound_typing.specs.Steps.{went, ok-is}
-use Rattle.dsde_sound_typing.specs.Truths.{and-left, and-right}
-use Rattle.dsde_sound_typing.specs.Standing.{stands-left, stands-right}
-use Rattle.dsde_sound_typing.specs.Fitting.{field_of, fits-snoc, values-snoc}
+use Rattle.dsde_sound_typing.specs.lemmas.Values.{AllHave, all-cons}
+use Rattle.dsde_sound_typing.specs.lemmas.Steps.{went, ok-is}
+use Rattle.dsde_sound_typing.specs.lemmas.Truths.{and-left, and-right}
+use Rattle.dsde_sound_typing.specs.lemmas.Standing.{stands-left, stands-right}
+use Rattle.dsde_sound_typing.specs.lemmas.Fitting.{field_of, fits-snoc, values-snoc}
 use Rattle.dsde_sound_structures.proofs.Ground.{Ground, Kept, Shows, shown, shows-ok, shows-then, shows-cut}
 use Rattle.dsde_sound_structures.proofs.Does.{Entered, entered-first, entered-then, Widens, nothing-widens, then-widens, Ready, Done, Does, AllDo, one_does, all_do}
 

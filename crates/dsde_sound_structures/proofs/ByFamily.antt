@@ -17,7 +17,7 @@ use Rattle.dsde_structure.specs.declared.plan.Part.{Part}
 use Rattle.dsde_structure.specs.declared.plan.Part.TheVariants as part
 use Rattle.dsde_executive_plans.specs.declared.placed.PlacedLink.{PlacedLink}
 use Rattle.dsde_system.specs.Plans.{ways, body_ways, HasPort, Joins, IsThrough, FitsEntry}
-use Rattle.dsde_sound_typing.specs.Places.{Placed, placed}
+use Rattle.dsde_sound_typing.specs.lemmas.Places.{Placed, placed}
 
 -- the port of a name
 pub port-has : (ports : List Field) (name : List ℕ) (field : Field) → named field_name ports name ≡ Some field → HasPort ports (slot_of ports name) field.ty

@@ -34,11 +34,11 @@ use Rattle.dsde_declared.specs.Structures as standing
 use Rattle.dsde_executive_plans.specs.Layout.{Layout, Lay, ArmLay, lay_all, braced, last_lay, arms_lay, item_step, item_arm_step}
 use Rattle.dsde_executive_plans.specs.Drafts as over_slots
 use Rattle.dsde_executive_plans.specs.Drafts.{Draft, Draw, ArmDraw, arms_draw, else_draw, draw_arm, draws}
-use Rattle.dsde_sound_typing.specs.Values.{truth-sound}
-use Rattle.dsde_sound_typing.specs.Types.{wanted-is}
-use Rattle.dsde_sound_typing.specs.Steps.{went, ok-is}
-use Rattle.dsde_sound_typing.specs.Truths.{and-left, and-right}
-use Rattle.dsde_sound_typing.specs.Standing.{stands-left, stands-right}
+use Rattle.dsde_sound_typing.specs.lemmas.Values.{truth-sound}
+use Rattle.dsde_sound_typing.specs.lemmas.Types.{wanted-is}
+use Rattle.dsde_sound_typing.specs.lemmas.Steps.{went, ok-is}
+use Rattle.dsde_sound_typing.specs.lemmas.Truths.{and-left, and-right}
+use Rattle.dsde_sound_typing.specs.lemmas.Standing.{stands-left, stands-right}
 use Rattle.dsde_sound_structures.proofs.Gets.{Gets, gets-own}
 use Rattle.dsde_sound_structures.proofs.Ground.{Ground, Kept, Shows, part_in, shown, shows-ok, shows-over, shows-by}
 use Rattle.dsde_sound_structures.proofs.Values.{value-gets}

@@ -48,11 +48,11 @@ use Rattle.dsde_sound_places.specs.Structures.{ModelIs, ModelsAre}
 use Rattle.dsde_executive_plans.specs.Layout.{most, inserted, is_there, with_entry, index_of, item_step}
 use Rattle.dsde_executive_plans.specs.Drafts.{index_at}
 use Rattle.dsde_system.specs.Fitting.{Fill, FitsArgs}
-use Rattle.dsde_sound_typing.specs.Steps.{went, ok-is, unless-is}
+use Rattle.dsde_sound_typing.specs.lemmas.Steps.{went, ok-is, unless-is}
 use Rattle.dsde_eval_meaning.specs.Proper.{is_plain}
-use Rattle.dsde_sound_typing.specs.Truths.{and-left, and-right}
-use Rattle.dsde_sound_typing.specs.Places.{Placed, placed}
-use Rattle.dsde_sound_typing.specs.Standing.{stands-left, stands-right}
+use Rattle.dsde_sound_typing.specs.lemmas.Truths.{and-left, and-right}
+use Rattle.dsde_sound_typing.specs.lemmas.Places.{Placed, placed}
+use Rattle.dsde_sound_typing.specs.lemmas.Standing.{stands-left, stands-right}
 use Rattle.dsde_sound_structures.proofs.Gets.{gets-own}
 use Rattle.dsde_sound_structures.proofs.Families.{comp-enters}
 use Rattle.dsde_sound_structures.proofs.Ground.{Ground, Shows, part_in, shown, shows-ok, shows-over, shows-by}

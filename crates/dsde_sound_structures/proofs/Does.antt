@@ -14,7 +14,7 @@ use Rattle.dsde_program_nodes.specs.Pieces.{Next, Piece, Step}
 use Rattle.dsde_eval_meaning.specs.Scopes.{Stands, Sees}
 use Rattle.dsde_executive_plans.specs.Layout.{Layout, Lay}
 use Rattle.dsde_executive_plans.specs.Drafts.{Draw, draw, draws}
-use Rattle.dsde_sound_typing.specs.Steps.{went, ok-is}
+use Rattle.dsde_sound_typing.specs.lemmas.Steps.{went, ok-is}
 use Rattle.dsde_sound_structures.proofs.Families.{Grows, grows-same, grows-more}
 use Rattle.dsde_sound_structures.proofs.Ground.{Ground, Kept, Shows, part_in, shown}
 

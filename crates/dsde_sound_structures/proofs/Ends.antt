@@ -40,9 +40,9 @@ use Rattle.dsde_sound_places.specs.Structures.{ArePorts}
 use Rattle.dsde_executive_plans.specs.Layout.{index_of, part_of, end_of}
 use Rattle.dsde_executive_plans.specs.Drafts.{index_at, part_at, end_at}
 use Rattle.dsde_system.specs.Plans.{ways, body_ways, HasPort}
-use Rattle.dsde_sound_typing.specs.Steps.{went}
-use Rattle.dsde_sound_typing.specs.Standing.{stands-left}
-use Rattle.dsde_sound_typing.specs.Fitting.{field_of}
+use Rattle.dsde_sound_typing.specs.lemmas.Steps.{went}
+use Rattle.dsde_sound_typing.specs.lemmas.Standing.{stands-left}
+use Rattle.dsde_sound_typing.specs.lemmas.Fitting.{field_of}
 use Rattle.dsde_sound_structures.proofs.Gets.{Gets, gets-ok, gets-then}
 use Rattle.dsde_sound_structures.proofs.Ports.{PortSeen, port-seen, directed-named, model-named, typed-slot}
 use Rattle.dsde_sound_structures.proofs.ByFamily.{NetIs, PortsBy, EndBy, port-has}

@@ -20,8 +20,8 @@ use Rattle.dsde_check_rules.specs.Structures as rules
 use Rattle.dsde_check_rules.specs.Structures.{Enter, family_named, enter, enter_all, enter_step, enter_arm_step, with_comp, comp_family}
 use Rattle.dsde_declared.specs.Structures.{Kin, kin_all, kin_of, kin_step, kin_arm_step}
 use Rattle.dsde_declared.specs.Models as nodes
-use Rattle.dsde_sound_typing.specs.Steps.{went, ok-is, unless-is}
-use Rattle.dsde_sound_typing.specs.Places.{eq-same, pick, or_last, named-cons, named-snoc}
+use Rattle.dsde_sound_typing.specs.lemmas.Steps.{went, ok-is, unless-is}
+use Rattle.dsde_sound_typing.specs.lemmas.Places.{eq-same, pick, or_last, named-cons, named-snoc}
 
 abbrev family_of : List ℕ → ℕ → Family
 family_of name model = record { name = name; model = model }

@@ -22,7 +22,7 @@ use Rattle.dsde_executive_plans.specs.declared.placed.PlacedLink.{PlacedLink}
 use Rattle.dsde_executive_plans.specs.Layout.{Layout}
 use Rattle.dsde_executive_plans.specs.Drafts.{Draft, Draw, draft_of}
 use Rattle.dsde_sound_structures.proofs.Gets.{Gets}
-use Rattle.dsde_sound_typing.specs.Fitting.{fits-take, fits-length, values-take, values-size}
+use Rattle.dsde_sound_typing.specs.lemmas.Fitting.{fits-take, fits-length, values-take, values-size}
 
 -- Where items stand: what is known there, in the file and in its tables, to a depth; and what components
 -- and links are like.

@@ -25,11 +25,11 @@ use Rattle.dsde_sound_grammar.specs.Items as proper
 use Rattle.dsde_declared.specs.Structures as standing
 use Rattle.dsde_executive_plans.specs.Layout.{item_step}
 use Rattle.dsde_executive_plans.specs.Drafts.{draft_of}
-use Rattle.dsde_sound_typing.specs.Steps.{went, ok-is}
-use Rattle.dsde_sound_typing.specs.Truths.{and-left, and-right}
-use Rattle.dsde_sound_typing.specs.Standing.{stands-left}
-use Rattle.dsde_sound_typing.specs.Fitting.{field_of, fits-snoc, values-snoc}
-use Rattle.dsde_sound_typing.specs.Seeing.{sees-snoc, fresh-new, slot-behind}
+use Rattle.dsde_sound_typing.specs.lemmas.Steps.{went, ok-is}
+use Rattle.dsde_sound_typing.specs.lemmas.Truths.{and-left, and-right}
+use Rattle.dsde_sound_typing.specs.lemmas.Standing.{stands-left}
+use Rattle.dsde_sound_typing.specs.lemmas.Fitting.{field_of, fits-snoc, values-snoc}
+use Rattle.dsde_sound_typing.specs.lemmas.Seeing.{sees-snoc, fresh-new, slot-behind}
 use Rattle.dsde_sound_structures.proofs.Ground.{Ground, Shows, part_in, shown, shows-at, shows-over, shows-by}
 use Rattle.dsde_sound_structures.proofs.Values.{value-gets}
 use Rattle.dsde_sound_structures.proofs.Drawing.{draw-let}

@@ -34,9 +34,9 @@ use Rattle.dsde_executive_plans.specs.declared.placed.PlacedLink.{PlacedLink}
 use Rattle.dsde_executive_plans.specs.Layout.{most, vias_in, with_link, end_of, via_of, item_step}
 use Rattle.dsde_executive_plans.specs.Drafts.{end_at, via_at}
 use Rattle.dsde_system.specs.Plans.{Joins}
-use Rattle.dsde_sound_typing.specs.Steps.{went, ok-is, unless-is}
-use Rattle.dsde_sound_typing.specs.Truths.{and-left, and-right}
-use Rattle.dsde_sound_typing.specs.Standing.{stands-left, stands-right}
+use Rattle.dsde_sound_typing.specs.lemmas.Steps.{went, ok-is, unless-is}
+use Rattle.dsde_sound_typing.specs.lemmas.Truths.{and-left, and-right}
+use Rattle.dsde_sound_typing.specs.lemmas.Standing.{stands-left, stands-right}
 use Rattle.dsde_sound_structures.proofs.Gets.{Gets, gets-own}
 use Rattle.dsde_sound_structures.proofs.Ground.{Ground, Shows, part_in, shown, shows-ok, shows-over, shows-by}
 use Rattle.dsde_sound_structures.proofs.ByFamily.{LinkBy, not-through}

@@ -32,13 +32,13 @@ use Rattle.dsde_eval_meaning.specs.Scopes.{Sees}
 use Rattle.dsde_sound_grammar.specs.Items as proper
 use Rattle.dsde_declared.specs.Structures as standing
 use Rattle.dsde_executive_plans.specs.Layout.{Lay, lay_all, item_step}
-use Rattle.dsde_sound_typing.specs.Values.{IsList, items-sound}
-use Rattle.dsde_sound_typing.specs.Types.{item-is, item-in-list}
-use Rattle.dsde_sound_typing.specs.Steps.{went, ok-is}
-use Rattle.dsde_sound_typing.specs.Truths.{and-left, and-right}
-use Rattle.dsde_sound_typing.specs.Standing.{stands-left, stands-right}
-use Rattle.dsde_sound_typing.specs.Fitting.{field_of}
-use Rattle.dsde_sound_typing.specs.Seeing.{sees-snoc, fresh-new, slot-behind}
+use Rattle.dsde_sound_typing.specs.lemmas.Values.{IsList, items-sound}
+use Rattle.dsde_sound_typing.specs.lemmas.Types.{item-is, item-in-list}
+use Rattle.dsde_sound_typing.specs.lemmas.Steps.{went, ok-is}
+use Rattle.dsde_sound_typing.specs.lemmas.Truths.{and-left, and-right}
+use Rattle.dsde_sound_typing.specs.lemmas.Standing.{stands-left, stands-right}
+use Rattle.dsde_sound_typing.specs.lemmas.Fitting.{field_of}
+use Rattle.dsde_sound_typing.specs.lemmas.Seeing.{sees-snoc, fresh-new, slot-behind}
 use Rattle.dsde_sound_structures.proofs.Gets.{gets-own}
 use Rattle.dsde_sound_structures.proofs.Ground.{Ground, part_in, shown, shows-over, shows-by}
 use Rattle.dsde_sound_structures.proofs.Values.{value-gets}

@@ -18,9 +18,9 @@ use Rattle.dsde_check_rules.specs.Structures.{port_at, end_at, ports_at}
 use Rattle.dsde_declared.specs.Names.{with_slot, with_slots}
 use Rattle.dsde_program_nodes.specs.Typing.{slot_type}
 use Rattle.dsde_declared.specs.Structures.{directed, model_ports}
-use Rattle.dsde_sound_typing.specs.Steps.{went, ok-is, unless-is}
-use Rattle.dsde_sound_typing.specs.Places.{same-name, pick, or_last, named-cons, named-snoc}
-use Rattle.dsde_sound_typing.specs.Fitting.{field_of}
+use Rattle.dsde_sound_typing.specs.lemmas.Steps.{went, ok-is, unless-is}
+use Rattle.dsde_sound_typing.specs.lemmas.Places.{same-name, pick, or_last, named-cons, named-snoc}
+use Rattle.dsde_sound_typing.specs.lemmas.Fitting.{field_of}
 use Rattle.dsde_sound_structures.proofs.Families.{among-found}
 
 -- whether a port is of a direction

@@ -23,7 +23,7 @@ use Rattle.dsde_eval_meaning.specs.Typed.{Sound}
 use Rattle.dsde_executive_plans.specs.declared.placed.PlacedLink.{PlacedLink}
 use Rattle.dsde_executive_plans.specs.Layout.{is_there, has_part, tied}
 use Rattle.dsde_system.specs.Plans.{ArePortsOf, HasKid, FitsLink, FitsEntry}
-use Rattle.dsde_sound_typing.specs.Truths.{and-left, and-right}
+use Rattle.dsde_sound_typing.specs.lemmas.Truths.{and-left, and-right}
 use Rattle.dsde_sound_structures.proofs.ByFamily.{EntryBy, LinkBy, KidBy, PortsBy}
 
 -- names that are the same are equal

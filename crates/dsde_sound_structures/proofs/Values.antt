@@ -29,12 +29,12 @@ use Rattle.dsde_eval_meaning.specs.Scopes.{Stands, Sees}
 use Rattle.dsde_sound_grammar.specs.Items.{is_proper_index}
 use Rattle.dsde_executive_plans.specs.Layout.{natural, index_of}
 use Rattle.dsde_executive_plans.specs.Drafts.{index_at}
-use Rattle.dsde_sound_typing.specs.Steps.{went, ok-is}
-use Rattle.dsde_sound_typing.specs.Truths.{and-left, and-right}
-use Rattle.dsde_sound_typing.specs.Types.{wanted-is}
-use Rattle.dsde_sound_typing.specs.Values.{int-sound}
-use Rattle.dsde_sound_typing.specs.Standing.{stands-left, stands-right}
-use Rattle.dsde_sound_typing.specs.Fitting.{typed-snoc}
+use Rattle.dsde_sound_typing.specs.lemmas.Steps.{went, ok-is}
+use Rattle.dsde_sound_typing.specs.lemmas.Truths.{and-left, and-right}
+use Rattle.dsde_sound_typing.specs.lemmas.Types.{wanted-is}
+use Rattle.dsde_sound_typing.specs.lemmas.Values.{int-sound}
+use Rattle.dsde_sound_typing.specs.lemmas.Standing.{stands-left, stands-right}
+use Rattle.dsde_sound_typing.specs.lemmas.Fitting.{typed-snoc}
 use Rattle.dsde_sound_structures.proofs.Gets.{Gets, sound-any, gets-ok, gets-own, gets-then}
 use Rattle.dsde_sound_structures.proofs.Ground.{Ground, part_in}
 

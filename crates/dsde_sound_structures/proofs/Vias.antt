@@ -43,13 +43,13 @@ use Rattle.dsde_executive_plans.specs.Layout.{via_of, key_of}
 use Rattle.dsde_executive_plans.specs.Drafts.{via_at, key_at}
 use Rattle.dsde_sound_places.specs.Conditions.{IsVia}
 use Rattle.dsde_system.specs.Plans.{IsKey, Joins}
-use Rattle.dsde_sound_typing.specs.Steps.{went, ok-is, unless-is}
-use Rattle.dsde_sound_typing.specs.Truths.{and-left, and-right, or-right}
-use Rattle.dsde_sound_typing.specs.Types.{same-true, wanted-is}
-use Rattle.dsde_sound_typing.specs.Places.{among-snoc}
-use Rattle.dsde_sound_typing.specs.Standing.{stands-head, stands-left, stands-right}
-use Rattle.dsde_sound_typing.specs.Fitting.{field_of}
-use Rattle.dsde_sound_typing.specs.Seeing.{sees-snoc, slot-behind}
+use Rattle.dsde_sound_typing.specs.lemmas.Steps.{went, ok-is, unless-is}
+use Rattle.dsde_sound_typing.specs.lemmas.Truths.{and-left, and-right, or-right}
+use Rattle.dsde_sound_typing.specs.lemmas.Types.{same-true, wanted-is}
+use Rattle.dsde_sound_typing.specs.lemmas.Places.{among-snoc}
+use Rattle.dsde_sound_typing.specs.lemmas.Standing.{stands-head, stands-left, stands-right}
+use Rattle.dsde_sound_typing.specs.lemmas.Fitting.{field_of}
+use Rattle.dsde_sound_typing.specs.lemmas.Seeing.{sees-snoc, slot-behind}
 use Rattle.dsde_sound_structures.proofs.Gets.{Gets, gets-ok, gets-then}
 use Rattle.dsde_sound_structures.proofs.Ground.{Ground, part_in}
 use Rattle.dsde_sound_structures.proofs.Values.{value-gets}

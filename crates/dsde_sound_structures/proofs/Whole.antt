@@ -36,7 +36,7 @@ use Rattle.dsde_executive_plans.specs.Layout.{Layout, lay, lay_all, tied, plan_o
 use Rattle.dsde_executive_plans.specs.Drafts.{Draft, draws, draft_of}
 use Rattle.dsde_system.specs.Plans.{FitsPlan}
 use Rattle.dsde_sound_structures.specs.Agreement.{StructuresAgree, structure_of}
-use Rattle.dsde_sound_typing.specs.Steps.{went, ok-is}
+use Rattle.dsde_sound_typing.specs.lemmas.Steps.{went, ok-is}
 use Rattle.dsde_sound_structures.proofs.Families.{all-enters, item-enters, grows-same}
 use Rattle.dsde_sound_structures.proofs.Ground.{Ground, Kept, seen}
 use Rattle.dsde_sound_structures.proofs.ByFamily.{EntryBy, LinkBy}

@@ -3,6 +3,7 @@
 use Rattle.std.proofs.Common.{◌≡◌, ℕ, List, [], ◌∷◌, ◌++◌, map, Result, Ok, Err, refl, sym, ◌∙◌, ap}
 use Rattle.std.proofs.lemmas.List.{map-append}
 use Rattle.std.specs.List.{AllByRecursion, flat_map}
+use Rattle.dsde_sim_tree.specs.Tree.{name_of}
 use Rattle.dsde_values.specs.declared.path.Path.{Path}
 use Rattle.dsde_formalism.specs.declared.leaf.Leaf.{Leaf}
 use Rattle.dsde_formalism.specs.System.{System, Ports}
@@ -22,10 +23,10 @@ use Rattle.dsde_sim_tree.specs.declared.sim.Sim.TheVariants as sim
 use Rattle.dsde_sim_tree.specs.declared.sim.Sim.TheViews.{out-Kid, out-Net, roll-out-Kid, roll-out-Net, rolls-Net}
 use Rattle.dsde_sim_tree.specs.Move.{ins_of}
 use Rattle.dsde_sim_tree.specs.Output.{◌>>=◌, sent, Answer, KidAnswer, asked, sources_of, output_step, output_kid, output_net, output, kid_output, output_of_net}
-use Rattle.dsde_sim_tree.specs.Trees.{each_tree}
+use Rattle.dsde_sim_tree.specs.lemmas.Trees.{each_tree}
 use Rattle.dsde_sim_delivery.specs.Places.{leaves_from, leaves_of_kid}
 use Rattle.dsde_sim_delivery.specs.Deliveries.{Delivery, KidReceives, shared, deliveries, deliveries_of_kid}
-use Rattle.dsde_sim_delivery.specs.lemmas.Opens.{name_of, leaves-Leaf, leaves-Net, leaves-kid, deliveries-Leaf, deliveries-Net, deliveries-kid}
+use Rattle.dsde_sim_delivery.specs.lemmas.Opens.{leaves-Leaf, leaves-Net, leaves-kid, deliveries-Leaf, deliveries-Net, deliveries-kid}
 
 -- where two steps came to a value the first did
 first-ok : {A B : Type 0} (result : Result A TurnEnd) (next : A → Result B TurnEnd) (value : B) → (result >>= next) ≡ Ok value → (first : A) × (result ≡ Ok first) × (next first ≡ Ok value)

@@ -2,6 +2,7 @@
 use Rattle.std.proofs.Common.{◌≡◌, ℕ, List, [], ◌∷◌, ◌++◌, map, refl, sym, ap, ◌∙◌}
 use Rattle.std.proofs.lemmas.Simd.{map-map}
 use Rattle.std.specs.List.{flat_map}
+use Rattle.dsde_sim_tree.specs.Tree.{name_of}
 use Rattle.dsde_values.specs.declared.name.Name.{Name}
 use Rattle.dsde_values.specs.declared.path.Path.{Path}
 use Rattle.dsde_formalism.specs.declared.leaf.Leaf.{Leaf}
@@ -19,10 +20,6 @@ use Rattle.dsde_sim_tree.specs.declared.sim.Sim.TheViews.{out-Kid, out-Net, roll
 use Rattle.dsde_sim_tree.specs.Output.{KidAnswer, kid_output}
 use Rattle.dsde_sim_delivery.specs.Places.{Places, paths_step, paths_kid, paths_net, paths_from, paths_of_kid, paths_of_net, leaves_net, leaves_from, leaves_of_kid, leaves_of_net}
 use Rattle.dsde_sim_delivery.specs.Deliveries.{Receives, KidReceives, receive_step, receive_kid, receive_net, received_kid, received_net, deliveries, deliveries_of_kid, deliveries_of_net}
-
--- the name of a component
-abbrev pub name_of : Kid → Name
-name_of kid = (out-Kid kid).name
 
 pub flat_map-map : {X Y Z : Type 0} (f : Y → List Z) (g : X → Y) (xs : List X) → flat_map f (map g xs) ≡ flat_map (λ x. f (g x)) xs
 flat_map-map f g [] = refl

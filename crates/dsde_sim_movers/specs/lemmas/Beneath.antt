@@ -1,6 +1,7 @@
 -- What is delivered in what stands at a path is delivered behind it.
 use Rattle.std.proofs.Common.{ℕ, List, [], ◌∷◌, ◌++◌, map, Result, Ok, Err, sym, ◌∙◌, subst, append_assoc, append-nil}
 use Rattle.std.specs.List.{AllByRecursion, flat_map}
+use Rattle.dsde_sim_tree.specs.Tree.{name_of}
 use Rattle.dsde_values.specs.declared.name.Name.{Name}
 use Rattle.dsde_values.specs.declared.path.Path.{Path}
 use Rattle.dsde_formalism.specs.declared.leaf.Leaf.{Leaf}
@@ -19,11 +20,11 @@ use Rattle.dsde_sim_tree.specs.declared.sim.Sim.TheVariants as sim
 use Rattle.dsde_sim_tree.specs.declared.sim.Sim.TheViews.{out-Kid, out-Net}
 use Rattle.dsde_sim_tree.specs.Move.{ins_of}
 use Rattle.dsde_sim_tree.specs.Output.{sources_of, kid_output}
-use Rattle.dsde_sim_tree.specs.Trees.{each_tree}
+use Rattle.dsde_sim_tree.specs.lemmas.Trees.{each_tree}
 use Rattle.dsde_sim_delivery.specs.Deliveries.{Delivery, KidReceives, shared, deliveries, deliveries_of_kid}
 use Rattle.dsde_sim_delivery.specs.lemmas.Events.{each-append, each-weaker}
 use Rattle.dsde_sim_delivery.specs.lemmas.Opens.{deliveries-Leaf, deliveries-Net, deliveries-kid}
-use Rattle.dsde_sim_movers.specs.lemmas.Seats.{IsBehind, name_of}
+use Rattle.dsde_sim_movers.specs.lemmas.Seats.{IsBehind}
 
 abbrev pub AreBehind : Path → List Delivery → Type 0
 AreBehind path list = AllByRecursion (λ (own : Delivery). IsBehind path own.path) list

@@ -1,6 +1,7 @@
 -- Parts and what stands in their place: what one place has another has not to do with.
 use Rattle.std.proofs.Common.{◌≡◌, Bool, true, false, List, [], ◌∷◌, Option, Some, None, refl, sym, ◌∙◌, ap, subst}
 use Rattle.std.specs.Prelude.{if◌then◌else◌, option_and_then, option_map}
+use Rattle.dsde_sim_tree.specs.Tree.{name_of}
 use Rattle.dsde_values.specs.declared.name.Name.{Name}
 use Rattle.dsde_values.specs.declared.value.Value.{Value}
 use Rattle.dsde_declared.specs.declared.ids.ModelId.{ModelId}
@@ -12,9 +13,9 @@ use Rattle.dsde_sim_tree.specs.declared.sim.Sim.{Sim}
 use Rattle.dsde_sim_tree.specs.declared.sim.Sim.TheVariants as sim
 use Rattle.dsde_sim_tree.specs.declared.sim.Sim.TheViews.{out-Kid, out-Net}
 use Rattle.dsde_sim_tree.specs.Start.{kid_of}
-use Rattle.dsde_sim_tree.specs.Trees.{each_tree}
+use Rattle.dsde_sim_tree.specs.lemmas.Trees.{each_tree}
 use Rattle.dsde_sim_movers.specs.Parts.{kid_named, with_named, part_in, part_at, with_in, with_part, are_apart}
-use Rattle.dsde_sim_movers.specs.lemmas.Seats.{out-Leaf, whole, whole-of, name_of, named, own-sim, if-true, if-false, part_at-whole, with_part-whole}
+use Rattle.dsde_sim_movers.specs.lemmas.Seats.{out-Leaf, whole, whole-of, named, own-sim, if-true, if-false, part_at-whole, with_part-whole}
 
 -- a fact of each tree, by leaves and by networks of parts
 pub by_parts : (P : Sim → Type 0) → ((leaf : Leaf) → P (sim.Leaf leaf)) →

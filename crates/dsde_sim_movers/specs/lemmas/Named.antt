@@ -21,10 +21,9 @@ use Rattle.dsde_sim_tree.specs.declared.sim.Sim.TheVariants as sim
 use Rattle.dsde_sim_tree.specs.declared.sim.Sim.TheViews.{out-Kid, out-Net}
 use Rattle.dsde_sim_tree.specs.Opened.{shape_in, spots-Net, spots-kid, spots-net}
 use Rattle.dsde_sim_tree.specs.Spots.{Spot, spots, spots_of_kid}
-use Rattle.dsde_sim_tree.specs.Tree.{entry_of}
+use Rattle.dsde_sim_tree.specs.Tree.{entry_of, name_of}
 use Rattle.dsde_sim_delivery.specs.lemmas.Events.{each-weaker, each-flat}
 use Rattle.dsde_sim_movers.specs.Names.{AreNames, HasNames, IsNamed}
-use Rattle.dsde_sim_movers.specs.lemmas.Seats.{name_of}
 
 -- The names of a network's components are distinct, and none is an executive's.
 abbrev pub HasPlaces : Spot → Type 0

@@ -2,6 +2,7 @@
 use Rattle.std.proofs.Common.{◌≡◌, ℕ, Bool, true, false, List, [], ◌∷◌, ◌++◌, length, drop, Option, Some, None, refl, sym, ◌∙◌, ap, append_assoc}
 use Rattle.std.specs.Prelude.{if◌then◌else◌, option_and_then}
 use Rattle.std.specs.List.{AllByRecursion}
+use Rattle.dsde_sim_tree.specs.Tree.{name_of}
 use Rattle.dsde_values.specs.declared.name.Name.{Name}
 use Rattle.dsde_values.specs.declared.path.Path.{Path}
 use Rattle.dsde_values.specs.declared.value.Value.{Value}
@@ -36,9 +37,6 @@ out-Net-of net = ap out-Sim (sym (rolls-Net net)) ∙ out-roll-Sim (layer.Net ne
 -- a network of these parts, as a part
 abbrev pub whole : ModelId → List Value → Leaf → List Kid → List Link → Sim
 whole model args boss kids links = sim.Net (net_of model args boss kids links)
-
-abbrev pub name_of : Kid → Name
-name_of kid = (out-Kid kid).name
 
 -- a network is that of its parts
 pub whole-of : (net : Net) → sim.Net net ≡ whole (out-Net net).model (out-Net net).args (out-Net net).boss (out-Net net).kids (out-Net net).links

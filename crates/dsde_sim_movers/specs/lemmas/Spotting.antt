@@ -18,10 +18,10 @@ use Rattle.dsde_sim_tree.specs.declared.sim.Sim.TheViews.{out-Kid, out-Net, out-
 use Rattle.dsde_sim_tree.specs.Opened.{shape_in, spots-Net, spots-kid, spots-net}
 use Rattle.dsde_sim_tree.specs.Spots.{Spot, Shape, shape_of, spots, spots_of_kid}
 use Rattle.dsde_sim_tree.specs.Start.{kid_of, net_of}
-use Rattle.dsde_sim_tree.specs.Tree.{model_of, args_of, entry_of}
+use Rattle.dsde_sim_tree.specs.Tree.{model_of, args_of, entry_of, name_of}
 use Rattle.dsde_sim_delivery.specs.lemmas.Events.{each-weaker, flat-each}
 use Rattle.dsde_sim_movers.specs.Parts.{kid_named, with_named, part_at, with_part}
-use Rattle.dsde_sim_movers.specs.lemmas.Seats.{out-Net-of, whole, name_of, named, own-sim, part_at-whole, with_part-whole}
+use Rattle.dsde_sim_movers.specs.lemmas.Seats.{out-Net-of, whole, named, own-sim, part_at-whole, with_part-whole}
 use Rattle.dsde_sim_movers.specs.lemmas.Lenses.{by_parts, part-leaf}
 use Rattle.dsde_sim_movers.specs.lemmas.Named.{net-spots}
 

@@ -10,7 +10,7 @@ use Rattle.dsde_sim_tree.specs.Output.{outs_from}
 use Rattle.dsde_sim_tree.specs.Move.{move}
 use Rattle.dsde_sim_turns.specs.declared.step.TheConstants.{MOST_PARTS}
 use Rattle.dsde_sim_turns.specs.Turn.{move_phase, without_room}
-use Rattle.dsde_sim_telling.specs.GoingOn.{goes-begin, goes-told, goes-step, goes-end, stops}
+use Rattle.dsde_sim_telling.specs.lemmas.GoingOn.{goes-begin, goes-told, goes-step, goes-end, stops}
 use Rattle.dsde_sim.proofs.turn.move_phase.Goals as goal
 
 pub returns-in_err-tree-clause-told : goal.returns-in_err-tree-clause-told

@@ -8,7 +8,7 @@ use Rattle.dsde_system.specs.Program.{system}
 use Rattle.dsde_sim_tree.specs.Output.{by_port, output}
 use Rattle.dsde_sim_tree.specs.Move.{ins_of}
 use Rattle.dsde_sim_turns.specs.Turn.{turn, move_phase}
-use Rattle.dsde_sim_telling.specs.GoingOn.{goes-begin, goes-told, goes-ok, ends, lacks, tail}
+use Rattle.dsde_sim_telling.specs.lemmas.GoingOn.{goes-begin, goes-told, goes-ok, ends, lacks, tail}
 use Rattle.dsde_sim.proofs.turn.turn.Goals as goal
 
 pub returns-in_err-sent-clause-told : goal.returns-in_err-sent-clause-told

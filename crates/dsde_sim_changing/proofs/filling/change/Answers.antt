@@ -1,11 +1,11 @@
 use Rattle.std.proofs.Common.{sym, subst, map, List}
 use Rattle.std.specs.List.{AllByRecursion}
+use Rattle.dsde_sim_tree.specs.Tree.{name_of}
 use Rattle.dsde_structure.specs.declared.plan.Entry.{Entry}
 use Rattle.dsde_structure.specs.Survival.{AreInOrder}
 use Rattle.dsde_sim_starting.specs.Fitting.{FitsKid}
 use Rattle.dsde_sim_tree.specs.declared.sim.Kid.{Kid}
 use Rattle.dsde_sim_tree.specs.Move.{survives}
-use Rattle.dsde_sim_changing.specs.Heads.{name_of}
 use Rattle.dsde_sim_changing.proofs.Keeping.{each-filter, filter-passes, order-filter, kids-in-order}
 use Rattle.dsde_sim_changing.proofs.Choosing.{AllSurvive}
 use Rattle.dsde_sim_changing.proofs.filling.change.Goals as goal

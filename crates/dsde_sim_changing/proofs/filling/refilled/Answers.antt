@@ -1,7 +1,7 @@
 use Rattle.std.proofs.Common.{ℕ, ◌∙◌, ap, subst, Ok, Err, []}
 use Rattle.std.proofs.lemmas.Result.{err_from_is_err_and}
 use Rattle.dsde_sim_events.specs.Told.{Tells}
-use Rattle.dsde_sim_telling.specs.GoingOn.{stops, lacks}
+use Rattle.dsde_sim_telling.specs.lemmas.GoingOn.{stops, lacks}
 use Rattle.dsde_system.specs.Program.{system}
 use Rattle.dsde_system.specs.Plans.{FitsEntry}
 use Rattle.dsde_sim_starting.specs.Fitting.{FitsKid}

@@ -1,8 +1,8 @@
 use Rattle.std.proofs.Common.{Ok, Err, sym, rules}
 use Rattle.std.proofs.lemmas.Fn.{always_returns_same}
+use Rattle.dsde_sim_tree.specs.Tree.{name_of}
 use Rattle.dsde_values.specs.Path.{name_cmp}
 use Rattle.dsde_sim_tree.specs.declared.sim.Kid.{Kid}
-use Rattle.dsde_sim_gathering.specs.Boxes.{name_of}
 use Rattle.dsde_sim_gathering.proofs.Placing.{searched}
 use Rattle.dsde_sim_gathering.proofs.names.place_of_kid.Goals as goal
 

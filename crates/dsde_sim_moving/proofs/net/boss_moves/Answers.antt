@@ -3,7 +3,7 @@ use Rattle.std.proofs.lemmas.Result.{err_from_is_err_and}
 use Rattle.dsde_formalism.specs.Leaf.{kind_of}
 use Rattle.dsde_formalism.specs.System.{Ports}
 use Rattle.dsde_sim_events.specs.Told.{to_boss}
-use Rattle.dsde_sim_telling.specs.GoingOn.{goes-step, stops, tail}
+use Rattle.dsde_sim_telling.specs.lemmas.GoingOn.{goes-step, stops, tail}
 use Rattle.dsde_sim_tree.specs.Move.{take_move, after_boss, boss_moves}
 use Rattle.dsde_system.specs.Program.{system}
 use Rattle.dsde_sim_moving.proofs.Goes.{boss-goes}

@@ -1,6 +1,6 @@
 use Rattle.std.proofs.Common.{◌≡◌, ◌+◌, ◌*◌, ◌≤◌, [], ◌++◌, map}
 use Rattle.std.specs.List.{AllByRecursion}
-use Rattle.dsde_sim_telling.specs.GoingOn.{GoesOn}
+use Rattle.dsde_sim_telling.specs.lemmas.GoingOn.{GoesOn}
 use Rattle.dsde_system.specs.Program.{system}
 use Rattle.dsde_sim_tree.specs.Tree.{parts, parts_of_kid, parts_of_kids, parts_of_net, entry_of}
 use Rattle.dsde_sim_starting.specs.Fitting.{FitsKid}

@@ -6,7 +6,7 @@ use Rattle.dsde_system.specs.Program.{system}
 use Rattle.dsde_sim_tree.specs.declared.sim.Sim.TheViews.{out-Kid}
 use Rattle.dsde_sim_tree.specs.Output.{output}
 use Rattle.dsde_sim_starting.specs.Fitting.{FitsTree}
-use Rattle.dsde_sim_starting.specs.Fits.{leaf-tree}
+use Rattle.dsde_sim_starting.specs.lemmas.Fits.{leaf-tree}
 use Rattle.dsde_sim_starting.proofs.Asks.{answers}
 use Rattle.dsde_sim_starting.proofs.asking.+output.Goals as goal
 

@@ -1,4 +1,4 @@
-use Rattle.dsde_sim_starting.specs.Fits.{kid-tree}
+use Rattle.dsde_sim_starting.specs.lemmas.Fits.{kid-tree}
 use Rattle.dsde_sim_starting.proofs.asking.kid_fits.Goals as goal
 
 pub returns : goal.returns

@@ -1,4 +1,4 @@
-use Rattle.dsde_sim_starting.specs.Fits.{net-tree}
+use Rattle.dsde_sim_starting.specs.lemmas.Fits.{net-tree}
 use Rattle.dsde_sim_starting.proofs.asking.net_fits.Goals as goal
 
 pub returns : goal.returns

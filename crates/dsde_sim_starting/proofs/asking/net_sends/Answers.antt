@@ -1,5 +1,5 @@
 use Rattle.std.proofs.Common.{sym, ◌∙◌}
-use Rattle.dsde_sim_starting.specs.Fits.{net-shape}
+use Rattle.dsde_sim_starting.specs.lemmas.Fits.{net-shape}
 use Rattle.dsde_sim_starting.proofs.Sending.{net-sent}
 use Rattle.dsde_sim_starting.proofs.asking.net_sends.Goals as goal
 

@@ -1,4 +1,4 @@
-use Rattle.dsde_sim_starting.specs.Fits.{net-kids, net-shape}
+use Rattle.dsde_sim_starting.specs.lemmas.Fits.{net-kids, net-shape}
 use Rattle.dsde_sim_starting.proofs.asking.parts_fit.Goals as goal
 
 pub returns-clause-kids : goal.returns-clause-kids

@@ -3,11 +3,11 @@ use Rattle.std.proofs.lemmas.Result.{err_from_is_err_and}
 use Rattle.dsde_structure.specs.declared.plan.Entry.{Entry}
 use Rattle.dsde_sim_events.specs.Told.{to_boss}
 use Rattle.dsde_system.specs.Program.{system}
-use Rattle.dsde_sim_telling.specs.GoingOn.{goes-step, goes-end, stops, lacks, tail}
+use Rattle.dsde_sim_telling.specs.lemmas.GoingOn.{goes-step, goes-end, stops, lacks, tail}
 use Rattle.dsde_sim_tree.specs.Tree.{entry_of}
 use Rattle.dsde_sim_tree.specs.Start.{start_leaf_at, start, starts, started_kid, with_boss}
 use Rattle.dsde_sim_starting.specs.Fitting.{FitsLinks}
-use Rattle.dsde_sim_starting.specs.Fits.{tree-net}
+use Rattle.dsde_sim_starting.specs.lemmas.Fits.{tree-net}
 use Rattle.dsde_sim_starting.proofs.Made.{kid-of-fits, plan-links}
 use Rattle.dsde_sim_starting.proofs.Going.{start-goes, start_inner, as_part, net-told, net-boss, net_whole, goes-here, goes-on, start-one, starts_behind}
 use Rattle.dsde_sim_starting.proofs.parts.+start.Goals as goal

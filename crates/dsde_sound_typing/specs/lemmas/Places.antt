@@ -6,7 +6,7 @@ use Rattle.std.proofs.lemmas.Slice.Eq.{bytes_eq-Decides}
 use Rattle.std.specs.List.{list_any, position_or_len}
 use Rattle.dsde_names.specs.Table.{place_of, named, is_among}
 use Rattle.dsde_check_rules.specs.Tables.{added}
-use Rattle.dsde_sound_typing.specs.Truths.{or-left}
+use Rattle.dsde_sound_typing.specs.lemmas.Truths.{or-left}
 
 -- names that are the same, and names that differ
 pub same-name : (one other : List ℕ) → bytes_eq one other ≡ true → one ≡ other

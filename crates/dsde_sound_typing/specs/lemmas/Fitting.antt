@@ -12,7 +12,7 @@ use Rattle.dsde_values.specs.declared.value.Value.{Value}
 use Rattle.dsde_check_rules.specs.Tables.{field_name}
 use Rattle.dsde_eval_meaning.specs.Meaning.{Var, Vars, var_name}
 use Rattle.dsde_eval_meaning.specs.Typed.{Typed, AllTyped, Fits, IsSent, AllSent, values_in}
-use Rattle.dsde_sound_typing.specs.Places.{next_place, place-cons}
+use Rattle.dsde_sound_typing.specs.lemmas.Places.{next_place, place-cons}
 
 abbrev pub var_of : List ℕ → Value → Var
 var_of name own = record { name = name; value = own }

@@ -17,10 +17,10 @@ use Rattle.dsde_declared.specs.Names.{with_slot, elapsed_name}
 use Rattle.dsde_eval_meaning.specs.Proper.{is_plain}
 use Rattle.dsde_words.specs.Words.{is_reserved}
 use Rattle.dsde_eval_meaning.specs.Scopes.{Slotted, Sees}
-use Rattle.dsde_sound_typing.specs.Truths.{or-left, or-right}
-use Rattle.dsde_sound_typing.specs.Places.{same-name, eq-same, pick, or_last, any-map, added-new, among-snoc, named-map, named-snoc, named-front, unnamed}
-use Rattle.dsde_sound_typing.specs.Steps.{went, unless-is}
-use Rattle.dsde_sound_typing.specs.Fitting.{field_of}
+use Rattle.dsde_sound_typing.specs.lemmas.Truths.{or-left, or-right}
+use Rattle.dsde_sound_typing.specs.lemmas.Places.{same-name, eq-same, pick, or_last, any-map, added-new, among-snoc, named-map, named-snoc, named-front, unnamed}
+use Rattle.dsde_sound_typing.specs.lemmas.Steps.{went, unless-is}
+use Rattle.dsde_sound_typing.specs.lemmas.Fitting.{field_of}
 
 -- the slot of a name that is bound
 abbrev pub own_slot : Binding → Field

@@ -29,7 +29,7 @@ use Rattle.dsde_sim_tree.specs.Tree.{model_of}
 use Rattle.dsde_sim_tree.specs.Move.{ins_of}
 use Rattle.dsde_sim_starting.specs.Fitting.{FitsAtomic, FitsGot, FitsShape, FitsTree}
 use Rattle.dsde_sim_gathering.specs.Passing.{IsOfModel}
-use Rattle.dsde_sim_starting.specs.Fits.{leaf-tree, net-tree, net-shape}
+use Rattle.dsde_sim_starting.specs.lemmas.Fits.{leaf-tree, net-tree, net-shape}
 
 -- two that stand at one number are one
 pub same-own : (found : Option Own) (one other : Own) → found ≡ Some one → found ≡ Some other → one ≡ other

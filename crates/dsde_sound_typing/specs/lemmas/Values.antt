@@ -18,8 +18,8 @@ use Rattle.dsde_values.specs.declared.value.Value.TheViews.{outs-Int, outs-Bool,
 use Rattle.dsde_values.specs.Value.{fields_at, fits_int, is_variant, fill, type_step, has_type}
 use Rattle.dsde_eval_meaning.specs.Outcome.{Stuck, int_of, truth_of, items_of, option_of}
 use Rattle.dsde_eval_meaning.specs.Typed.{Typed, Sound}
-use Rattle.dsde_sound_typing.specs.Truths.{and-left, and-right}
-use Rattle.dsde_sound_typing.specs.Outcomes.{Any}
+use Rattle.dsde_sound_typing.specs.lemmas.Truths.{and-left, and-right}
+use Rattle.dsde_sound_typing.specs.lemmas.Outcomes.{Any}
 
 module _ (types : Types) where
   abbrev step : Value-F (Ty → Bool) → Ty → Bool

@@ -17,7 +17,7 @@ use Rattle.dsde_check_rules.specs.Types.{deeper}
 use Rattle.dsde_check_rules.specs.Tables.{numbered, text_type, text_step, by_text}
 use Rattle.dsde_check_rules.specs.Judge.{made_type, declared_type, type_at, type_step, type_of}
 use Rattle.dsde_eval_meaning.specs.Scopes.{IsDeclared}
-use Rattle.dsde_sound_typing.specs.Steps.{went, ok-is}
+use Rattle.dsde_sound_typing.specs.lemmas.Steps.{went, ok-is}
 
 type-made : (t : Ty) (depth at : ℕ) (seen : TypeSeen) → made_type t depth at ≡ Ok seen → t ≡ seen.ty
 type-made t depth at seen h = by_limit (nat_lt 64 depth) h

@@ -1,0 +1,10 @@
+pub mod Truths
+pub mod Steps
+pub mod Outcomes
+pub mod Standing
+pub mod Types
+pub mod Written
+pub mod Values
+pub mod Places
+pub mod Fitting
+pub mod Seeing
