@@ -1,15 +1,13 @@
 //! Moves of components and of executives.
 
-ghost use Rattle.std.specs.Prelude.{◌≡◌, ◌<◌, ◌^◌, List, length, IfOk};
-ghost use Rattle.dsde_values.specs.declared.value.Value.{Value};
-ghost use Rattle.dsde_declared.specs.declared.ids.ModelId.{ModelId};
+ghost use Rattle.std.specs.Prelude.{◌≡◌, ◌<◌, ◌^◌, length, IfOk};
 ghost use Rattle.dsde_values.specs.When.{IsMoment};
 ghost use Rattle.dsde_formalism.specs.Leaf.{has_come, kind_of, move_leaf};
 ghost use Rattle.dsde_sim_events.specs.Told.{at, to_boss, Comes, Tells};
 ghost use Rattle.dsde_system.specs.Program.{system};
 ghost use Rattle.dsde_system.specs.Fitting.{FitsInputs, FitsLeaf};
 ghost use Rattle.dsde_sim_tree.specs.Move.{take_move, move_leaf_at};
-ghost use Rattle.dsde_sim_starting.specs.Fitting.{FitsAtomic, FitsGot, IsExecutive};
+ghost use Rattle.dsde_sim_starting.specs.Fitting.{FitsAtomic, FitsGot};
 
 use dsde_atomic::move_leaf;
 use dsde_formalism::{Inputs, Leaf, MoveKind};
@@ -135,7 +133,9 @@ pub(crate) fn boss_move(
     requires few { length got < 2 ^ 32 }
     ensures told { Tells (take_move (system program.now) boss.now kind (to_boss path.now) time got) events.old events.new result }
     ensures fits { IfOk result (FitsLeaf program.now) }
-    ensures is { (number : ModelId) (args : List Value) → IsExecutive number args boss.now → IfOk result (IsExecutive number args) }
+    ensures model { IfOk result (λ moved. moved.model ≡ boss.now.model) }
+    ensures args { IfOk result (λ moved. moved.args ≡ boss.now.args) }
+    ensures boss { IfOk result (λ moved. moved.boss ≡ boss.now.boss) }
 {
     let path = boss_of(alloc, path)?;
     take_move(alloc, program, boss, kind, &path, time, got, events)
