@@ -1,9 +1,11 @@
 //! Expressions and blocks by their numbers.
 
-ghost use Rattle.std.specs.Prelude.{◌≡◌};
+ghost use Rattle.std.specs.Prelude.{◌≡◌, Err};
+ghost use Rattle.dsde_eval_meaning.specs.Tables.{state_of};
 ghost use Rattle.dsde_sound_functions.specs.Coded.{coded_of};
 ghost use Rattle.dsde_eval_tables.specs.declared.eval.Evaluator.{Evaluator};
 ghost use Rattle.dsde_eval_tables.specs.Evaluating as evaluating;
+ghost use Rattle.dsde_eval_tables.specs.Passing.{PassesIn};
 ghost use Rattle.dsde_sound_places.specs.Conditions.{CanEval, Came, CanRun, Ran};
 
 use crate::laws::laws;
@@ -47,7 +49,8 @@ pub fn eval(alloc: Global, program: &Program, expr: ExprId, env: &mut Env) -> Re
 }
 
 /// Runs the block with a number. The slots are then those behind its statements, or where the first
-/// fault stopped them, and what they sent stands behind what was sent before.
+/// fault stopped them, and what they sent stands behind what was sent before. Where memory runs out
+/// both are as they were before one of the statements or behind the last, in the program's tables.
 pub fn run_block(
     alloc: Global,
     program: &Program,
@@ -56,7 +59,8 @@ pub fn run_block(
     sends: &mut Seq<Item>,
 ) -> Result<(), EvalEnd>
     requires { CanRun program.now block.0 env.old.slots sends.old }
-    ensures { Ran program.now block.0 env.old.slots sends.old result env.new.slots sends.new }
+    ensures ran { Ran program.now block.0 env.old.slots sends.old result env.new.slots sends.new }
+    ensures passes { result ≡ Err EvalEnd.Memory → PassesIn (coded_of program.now) 513 block (state_of env.old.slots sends.old) (state_of env.new.slots sends.new) }
 {
     laws();
     program.right();

@@ -1,2 +1,3 @@
 pub mod Spots
 pub mod Evaluating
+pub mod Passing

@@ -1,13 +1,14 @@
 //! The evaluator of tables.
 
-ghost use Rattle.std.specs.Prelude.{◌≡◌, ◌≢◌, ◌++◌, ◌∷◌, [], Some, Err};
+ghost use Rattle.std.specs.Prelude.{◌≡◌, ◌≢◌, ◌⊎◌, ◌++◌, ◌∷◌, [], Some, Err};
 ghost use Rattle.dsde_eval_meaning.specs.Outcome.{Stuck, Gives};
 ghost use Rattle.dsde_eval_meaning.specs.Operators.{combined};
 ghost use Rattle.dsde_eval_meaning.specs.Flow.{why};
-ghost use Rattle.dsde_eval_meaning.specs.Tables.{means_in, node_mean, values_from, holds_at, each_from, arms_from, run_code, builtin_at, set_slot, braced_at, once, for_each, test_at, arms_flow, act_flow, acts_flow, state_of, Flows, Tests};
+ghost use Rattle.dsde_eval_meaning.specs.Tables.{means_in, node_mean, values_from, holds_at, each_from, arms_from, run_code, builtin_at, set_slot, braced_at, once, for_each, test_at, arms_flow, act_flow, acts_flow, state_of, with_slot, Flows, Tests};
 ghost use Rattle.dsde_program_nodes.specs.declared.node.Node.TheVariants as node_of;
 ghost use Rattle.dsde_eval_tables.specs.Spots.{Reaches};
 ghost use Rattle.dsde_eval_tables.specs.Evaluating.{coded_of, one_kept, index_at, Adds};
+ghost use Rattle.dsde_eval_tables.specs.Passing.{PassesIn, ActsPass, ActPasses, ArmsPass, BracedPasses, EachPasses};
 
 use crate::spot::{
     Got, Spot, field_in, held_of, inner_of, is_there, item_of, one_of, slot_copy, taken,
@@ -570,8 +571,8 @@ impl Evaluator<'_> {
 
     /// Runs the block with a number over slots and sends, to a depth, where it comes to its end or to
     /// a fault: the answer is the first fault with its place, if there is one, and the slots and the
-    /// sends are those that the statements left. `Memory` where memory runs out; then nothing is said
-    /// of them.
+    /// sends are those that the statements left. `Memory` where memory runs out; then they are those
+    /// of a state that the statements pass through.
     #[cycle(evaluating)]
     #[tactic(auto, using(crate::proofs::Depths::depths))]
     pub fn block(
@@ -582,7 +583,8 @@ impl Evaluator<'_> {
         sends: &mut Seq<Item>,
     ) -> Result<(), EvalEnd>
         requires { why ((means_in (coded_of self.now) depth).run number (state_of slots.old sends.old)) ≢ Some Stuck }
-        ensures { Flows ((means_in (coded_of self.now) depth).run number (state_of slots.old sends.old)) result slots.new sends.new }
+        ensures flows { Flows ((means_in (coded_of self.now) depth).run number (state_of slots.old sends.old)) result slots.new sends.new }
+        ensures passes { result ≡ Err EvalEnd.Memory → PassesIn (coded_of self.now) depth number (state_of slots.old sends.old) (state_of slots.new sends.new) }
     {
         if depth == 0 {
             unreachable!()
@@ -603,7 +605,8 @@ impl Evaluator<'_> {
         sends: &mut Seq<Item>,
     ) -> Result<(), EvalEnd>
         requires { why (acts_flow (means_in (coded_of self.now) depth) acts.now (state_of slots.old sends.old)) ≢ Some Stuck }
-        ensures { Flows (acts_flow (means_in (coded_of self.now) depth) acts.now (state_of slots.old sends.old)) result slots.new sends.new }
+        ensures flows { Flows (acts_flow (means_in (coded_of self.now) depth) acts.now (state_of slots.old sends.old)) result slots.new sends.new }
+        ensures passes { result ≡ Err EvalEnd.Memory → ActsPass (means_in (coded_of self.now) depth) (PassesIn (coded_of self.now) depth) acts.now (state_of slots.old sends.old) (state_of slots.new sends.new) }
     {
         for act in acts {
             self.act(depth, act, slots, sends)?;
@@ -621,7 +624,8 @@ impl Evaluator<'_> {
         sends: &mut Seq<Item>,
     ) -> Result<(), EvalEnd>
         requires { why (act_flow (means_in (coded_of self.now) depth) act.now (state_of slots.old sends.old)) ≢ Some Stuck }
-        ensures { Flows (act_flow (means_in (coded_of self.now) depth) act.now (state_of slots.old sends.old)) result slots.new sends.new }
+        ensures flows { Flows (act_flow (means_in (coded_of self.now) depth) act.now (state_of slots.old sends.old)) result slots.new sends.new }
+        ensures passes { result ≡ Err EvalEnd.Memory → ActPasses (means_in (coded_of self.now) depth) (PassesIn (coded_of self.now) depth) act.now (state_of slots.old sends.old) (state_of slots.new sends.new) }
     {
         match act {
             Act::Let(number) => {
@@ -675,7 +679,8 @@ impl Evaluator<'_> {
         sends: &mut Seq<Item>,
     ) -> Result<(), EvalEnd>
         requires { why (arms_flow (means_in (coded_of self.now) depth) arms.now last (state_of slots.old sends.old)) ≢ Some Stuck }
-        ensures { Flows (arms_flow (means_in (coded_of self.now) depth) arms.now last (state_of slots.old sends.old)) result slots.new sends.new }
+        ensures flows { Flows (arms_flow (means_in (coded_of self.now) depth) arms.now last (state_of slots.old sends.old)) result slots.new sends.new }
+        ensures passes { result ≡ Err EvalEnd.Memory → ArmsPass (means_in (coded_of self.now) depth) (PassesIn (coded_of self.now) depth) arms.now last (state_of slots.old sends.old) (state_of slots.new sends.new) }
     {
         for arm in arms {
             if self.test(depth, arm.cond, slots, sends)? {
@@ -698,7 +703,8 @@ impl Evaluator<'_> {
         sends: &mut Seq<Item>,
     ) -> Result<(), EvalEnd>
         requires { why (braced_at (means_in (coded_of self.now) depth).run block (state_of slots.old sends.old)) ≢ Some Stuck }
-        ensures { Flows (braced_at (means_in (coded_of self.now) depth).run block (state_of slots.old sends.old)) result slots.new sends.new }
+        ensures flows { Flows (braced_at (means_in (coded_of self.now) depth).run block (state_of slots.old sends.old)) result slots.new sends.new }
+        ensures passes { result ≡ Err EvalEnd.Memory → BracedPasses (PassesIn (coded_of self.now) depth) block (state_of slots.old sends.old) (state_of slots.old sends.old) (state_of slots.new sends.new) }
     {
         let size = slots.len();
         let end = self.block(depth, block, slots, sends);
@@ -717,7 +723,8 @@ impl Evaluator<'_> {
         sends: &mut Seq<Item>,
     ) -> Result<(), EvalEnd>
         requires { why (once (means_in (coded_of self.now) depth).run block item.now (state_of slots.old sends.old)) ≢ Some Stuck }
-        ensures { Flows (once (means_in (coded_of self.now) depth).run block item.now (state_of slots.old sends.old)) result slots.new sends.new }
+        ensures flows { Flows (once (means_in (coded_of self.now) depth).run block item.now (state_of slots.old sends.old)) result slots.new sends.new }
+        ensures passes { result ≡ Err EvalEnd.Memory → (state_of slots.new sends.new ≡ state_of slots.old sends.old) ⊎ BracedPasses (PassesIn (coded_of self.now) depth) block (with_slot item.now (state_of slots.old sends.old)) (state_of slots.old sends.old) (state_of slots.new sends.new) }
     {
         let size = slots.len();
         slots.push(copy_value(self.alloc, item)?)?;
@@ -737,7 +744,8 @@ impl Evaluator<'_> {
         sends: &mut Seq<Item>,
     ) -> Result<(), EvalEnd>
         requires { why (for_each (means_in (coded_of self.now) depth).run block items.now (state_of slots.old sends.old)) ≢ Some Stuck }
-        ensures { Flows (for_each (means_in (coded_of self.now) depth).run block items.now (state_of slots.old sends.old)) result slots.new sends.new }
+        ensures flows { Flows (for_each (means_in (coded_of self.now) depth).run block items.now (state_of slots.old sends.old)) result slots.new sends.new }
+        ensures passes { result ≡ Err EvalEnd.Memory → EachPasses (means_in (coded_of self.now) depth) (PassesIn (coded_of self.now) depth) block items.now (state_of slots.old sends.old) (state_of slots.new sends.new) }
     {
         for item in items {
             self.once(depth, block, item, slots, sends)?;
@@ -754,7 +762,8 @@ fn set_slot(
     sends: &Seq<Item>,
 ) -> Result<(), EvalEnd>
     requires { why (set_slot number value (state_of slots.old sends.now)) ≢ Some Stuck }
-    ensures { Flows (set_slot number value (state_of slots.old sends.now)) result slots.new sends.now }
+    ensures flows { Flows (set_slot number value (state_of slots.old sends.now)) result slots.new sends.now }
+    ensures sure { result ≢ Err EvalEnd.Memory }
 {
     match slots.get_mut(number as usize) {
         Some(slot) => {

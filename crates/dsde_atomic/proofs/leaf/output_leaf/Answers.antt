@@ -25,14 +25,14 @@ returns-in-Ok-clause-gives c =
     let same : c.in_ok-slots.slots ≡ c.args.leaf.now.args ++ c.args.leaf.now.state = c.in_ok-slots.ensures ∙ ap (λ (l : List Value). c.args.leaf.now.args ++ l) (c.in_ok-state.ensures ∙ c.as_slice.ensures) in
     output-ok c.args.program.now c.args.leaf.now.model c.code_of.result.now c.code_of.ensures c.args.leaf.now.args c.args.leaf.now.state (leaf-args c.args.program.now c.args.leaf.now c.requires) (leaf-state c.args.program.now c.args.leaf.now c.requires) c.in-Some.block c.in-Some.is
     c.run_block.new.env.slots c.run_block.new.sends c.in-Ok.field-0
-    (ran-at c.args.program.now c.in-Some.block.0 _ _ _ _ _ _ c.run_block.new.env.slots c.run_block.new.sends same c.new-sends.ensures c.in-Ok.is c.run_block.ensures)
+    (ran-at c.args.program.now c.in-Some.block.0 _ _ _ _ _ _ c.run_block.new.env.slots c.run_block.new.sends same c.new-sends.ensures c.in-Ok.is c.run_block.ensures.ran)
 
 pub returns-in-Ok-clause-fits : goal.returns-in-Ok-clause-fits
 returns-in-Ok-clause-fits c =
     let same : c.in_ok-slots.slots ≡ c.args.leaf.now.args ++ c.args.leaf.now.state = c.in_ok-slots.ensures ∙ ap (λ (l : List Value). c.args.leaf.now.args ++ l) (c.in_ok-state.ensures ∙ c.as_slice.ensures) in
     output-fits c.args.program.now c.args.leaf.now.model c.code_of.result.now c.code_of.ensures c.args.leaf.now.args c.args.leaf.now.state (leaf-args c.args.program.now c.args.leaf.now c.requires) (leaf-state c.args.program.now c.args.leaf.now c.requires) c.in-Some.block c.in-Some.is
     c.run_block.new.env.slots c.run_block.new.sends c.in-Ok.field-0
-    (ran-at c.args.program.now c.in-Some.block.0 _ _ _ _ _ _ c.run_block.new.env.slots c.run_block.new.sends same c.new-sends.ensures c.in-Ok.is c.run_block.ensures)
+    (ran-at c.args.program.now c.in-Some.block.0 _ _ _ _ _ _ c.run_block.new.env.slots c.run_block.new.sends same c.new-sends.ensures c.in-Ok.is c.run_block.ensures.ran)
 
 pub returns-in-Err-clause-gives : goal.returns-in-Err-clause-gives
 returns-in-Err-clause-gives c =
@@ -40,4 +40,4 @@ returns-in-Err-clause-gives c =
     rw c.at_site.ensures
     (output-end c.args.program.now c.args.leaf.now.model c.code_of.result.now c.code_of.ensures c.args.leaf.now.args c.args.leaf.now.state (leaf-args c.args.program.now c.args.leaf.now c.requires) (leaf-state c.args.program.now c.args.leaf.now c.requires) c.in-Some.block c.in-Some.is
     c.run_block.new.env.slots c.run_block.new.sends c.in-Err.end
-    (ran-at c.args.program.now c.in-Some.block.0 _ _ _ _ _ _ c.run_block.new.env.slots c.run_block.new.sends same c.new-sends.ensures c.in-Err.is c.run_block.ensures))
+    (ran-at c.args.program.now c.in-Some.block.0 _ _ _ _ _ _ c.run_block.new.env.slots c.run_block.new.sends same c.new-sends.ensures c.in-Err.is c.run_block.ensures.ran))

@@ -1,7 +1,8 @@
 -- What the rest comes to, after what came so far, stays the same; and the depth falls.
 use Rattle.std.proofs.Common.{◌≡◌, ◌+◌, ◌*◌, [], drop}
-use Rattle.dsde_eval_meaning.specs.Tables.{means_in, values_from, each_from, arms_from, arms_flow, acts_flow, for_each, state_of}
+use Rattle.dsde_eval_meaning.specs.Tables.{means_in, values_from, each_from, arms_from, arms_flow, acts_flow, for_each, state_of, State}
 use Rattle.dsde_eval_tables.specs.Evaluating.{coded_of}
+use Rattle.dsde_eval_tables.specs.Passing.{ActsPass, ArmsPass, EachPasses, PassesIn}
 use Rattle.dsde_eval_tables.proofs.eval.Evaluator.+evaluating.Given as goal
 
 abbrev pub invariant-values-loop-number : goal.invariant-values-loop-number
@@ -21,19 +22,25 @@ invariant-arms-loop-arm l =
 
 abbrev pub invariant-acts-loop-act : goal.invariant-acts-loop-act
 invariant-acts-loop-act l =
-    acts_flow (means_in (coded_of l.self) l.depth) (drop l.act-index l.acts) (state_of l.slots l.sends)
-    ≡ acts_flow (means_in (coded_of l.self) l.depth) l.acts (state_of l.fn.slots l.fn.sends)
+    (acts_flow (means_in (coded_of l.self) l.depth) (drop l.act-index l.acts) (state_of l.slots l.sends)
+    ≡ acts_flow (means_in (coded_of l.self) l.depth) l.acts (state_of l.fn.slots l.fn.sends))
+    × ((passed : State) → ActsPass (means_in (coded_of l.self) l.depth) (PassesIn (coded_of l.self) l.depth) (drop l.act-index l.acts) (state_of l.slots l.sends) passed
+    → ActsPass (means_in (coded_of l.self) l.depth) (PassesIn (coded_of l.self) l.depth) l.acts (state_of l.fn.slots l.fn.sends) passed)
 
 abbrev pub invariant-act_arms-loop-arm : goal.invariant-act_arms-loop-arm
 invariant-act_arms-loop-arm l =
     (arms_flow (means_in (coded_of l.self) l.depth) (drop l.arm-index l.arms) l.last (state_of l.slots l.sends)
     ≡ arms_flow (means_in (coded_of l.self) l.depth) l.arms l.last (state_of l.fn.slots l.fn.sends))
     × (l.slots ≡ l.fn.slots) × (l.sends ≡ l.fn.sends)
+    × ((passed : State) → ArmsPass (means_in (coded_of l.self) l.depth) (PassesIn (coded_of l.self) l.depth) (drop l.arm-index l.arms) l.last (state_of l.slots l.sends) passed
+    → ArmsPass (means_in (coded_of l.self) l.depth) (PassesIn (coded_of l.self) l.depth) l.arms l.last (state_of l.fn.slots l.fn.sends) passed)
 
 abbrev pub invariant-for_each-loop-item : goal.invariant-for_each-loop-item
 invariant-for_each-loop-item l =
-    for_each (means_in (coded_of l.self) l.depth).run l.block (drop l.item-index l.items) (state_of l.slots l.sends)
-    ≡ for_each (means_in (coded_of l.self) l.depth).run l.block l.items (state_of l.fn.slots l.fn.sends)
+    (for_each (means_in (coded_of l.self) l.depth).run l.block (drop l.item-index l.items) (state_of l.slots l.sends)
+    ≡ for_each (means_in (coded_of l.self) l.depth).run l.block l.items (state_of l.fn.slots l.fn.sends))
+    × ((passed : State) → EachPasses (means_in (coded_of l.self) l.depth) (PassesIn (coded_of l.self) l.depth) l.block (drop l.item-index l.items) (state_of l.slots l.sends) passed
+    → EachPasses (means_in (coded_of l.self) l.depth) (PassesIn (coded_of l.self) l.depth) l.block l.items (state_of l.fn.slots l.fn.sends) passed)
 
 abbrev pub decreases-reach : goal.decreases-reach
 decreases-reach l = 12 * l.depth + 1
