@@ -1,6 +1,6 @@
 //! The bodies of models, and the values that they see.
 
-ghost use Rattle.std.specs.Prelude.{◌≡◌, ◌<◌, ◌≤◌, ◌++◌, Some, length, drop, IfOk};
+ghost use Rattle.std.specs.Prelude.{◌≡◌, ◌<◌, ◌≤◌, Some, length, drop};
 ghost use Rattle.dsde_program_nodes.specs.Models.{infos_of};
 ghost use Rattle.dsde_declared.specs.Models.{Own};
 ghost use Rattle.dsde_sound_places.specs.Bodies.{BodyStands};
@@ -9,11 +9,9 @@ ghost use Rattle.dsde_atomic.specs.Steps.{own_at, sited};
 use crate::laws::laws;
 use dsde_declared::ModelId;
 use dsde_faults::{EvalEnd, LeafEnd, Site};
-use dsde_lists::Memory;
 use dsde_program::Program;
 use dsde_program_nodes::Code;
-use dsde_values::{Seq, Values, copy_values};
-use std::alloc::Global;
+use dsde_values::{Seq, Values};
 
 /// The body of the atomic model with a number, or of the network's executive.
 pub(crate) fn code_of<'p>(program: &'p Program, model: ModelId) -> &'p Code
@@ -35,16 +33,6 @@ pub(crate) fn at_site(site: Site, end: EvalEnd) -> LeafEnd
     }
 }
 
-/// Values with others behind them.
-pub(crate) fn joined(values: Values, others: Values) -> Result<Values, Memory>
-    ensures { IfOk result (λ all. all ≡ values ++ others) }
-{
-    let mut all = values.into_vec();
-    let mut behind = others.into_vec();
-    all.append(&mut behind)?;
-    Ok(Seq::from_vec(all))
-}
-
 /// The values behind the first ones.
 pub(crate) fn behind(values: Values, count: usize) -> Values
     requires { count ≤ length values }
@@ -55,15 +43,4 @@ pub(crate) fn behind(values: Values, count: usize) -> Values
     all.rotate_left(count);
     all.truncate(size - count);
     Seq::from_vec(all)
-}
-
-/// What a body sees: a copy of the arguments, and the state behind them.
-pub(crate) fn slots_of(alloc: Global, args: &Values, state: Values) -> Result<Values, Memory>
-    ensures { IfOk result (λ slots. slots ≡ args.now ++ state) }
-{
-    if args.len() == 0 {
-        return Ok(state);
-    }
-    let args = copy_values(alloc, args.as_slice())?;
-    joined(args, state)
 }

@@ -6,12 +6,13 @@ ghost use Rattle.dsde_formalism.specs.Leaf.{Gives, settled, start_leaf, output_l
 ghost use Rattle.dsde_system.specs.Program.{system};
 ghost use Rattle.dsde_system.specs.Fitting.{FitsArgs, FitsInputs, FitsLeaf, FitsSends, FitsState};
 
-use crate::body::{at_site, behind, code_of, slots_of};
+use crate::body::{at_site, behind, code_of};
 use crate::due::due;
 use crate::init::init;
 use crate::moves::transition;
 use dsde_declared::ModelId;
 use dsde_eval::{Env, run_block};
+use dsde_eval_tables::slots_of;
 use dsde_faults::{LeafEnd, Site};
 use dsde_formalism::{Inputs, Leaf, MoveKind};
 use dsde_program::Program;

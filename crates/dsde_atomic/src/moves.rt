@@ -9,9 +9,10 @@ ghost use Rattle.dsde_system.specs.Program.{system};
 ghost use Rattle.dsde_system.specs.Fitting.{FitsArgs, FitsInputs, FitsState};
 ghost use Rattle.dsde_atomic.specs.Steps.{CanMove, HasPhase, Moved, Sees};
 
-use crate::body::{at_site, behind, code_of, slots_of};
+use crate::body::{at_site, behind, code_of};
 use dsde_declared::ModelId;
 use dsde_eval::{Env, run_block};
+use dsde_eval_tables::slots_of;
 use dsde_faults::{EvalEnd, FaultKind, LeafEnd, Site};
 use dsde_formalism::{Inputs, MoveKind};
 use dsde_lists::Memory;

@@ -9,15 +9,12 @@ ghost use Rattle.dsde_eval_tables.specs.Passing.{PassesIn};
 ghost use Rattle.dsde_sound_places.specs.Conditions.{CanEval, Came, CanRun, Ran};
 
 use crate::laws::laws;
-use dsde_eval_tables::Evaluator;
+use dsde_eval_tables::{Evaluator, GREATEST_HEIGHT};
 use dsde_faults::EvalEnd;
 use dsde_program::Program;
 use dsde_program_nodes::{BlockId, ExprId};
 use dsde_values::{Item, Seq, Value, Values};
 use std::alloc::Global;
-
-/// The height that no expression and no block exceeds in which nothing is wrong.
-const GREATEST_HEIGHT: u32 = 512;
 
 /// The values that an expression or a block sees, each in its slot.
 #[derive(Debug, Drop)]

@@ -27,7 +27,7 @@ pub fn translate(
 {
     let code = program.via(via);
     let mut env = Env {
-        slots: slots_of(alloc, key, value)?,
+        slots: via_slots(alloc, key, value)?,
     };
     match eval(alloc, program, code.body, &mut env) {
         Ok(own) => Ok(held(own)),
@@ -37,7 +37,7 @@ pub fn translate(
 }
 
 /// What a translation sees: its value, and its key if it has one.
-fn slots_of(alloc: Global, key: Option<&Value>, value: &Value) -> Result<Values, Memory>
+fn via_slots(alloc: Global, key: Option<&Value>, value: &Value) -> Result<Values, Memory>
     ensures { IfOk result (λ slots. slots ≡ via_values (option_copied key.entry) value.now) }
 {
     let mut slots = Seq::new(alloc);

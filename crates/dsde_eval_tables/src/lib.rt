@@ -2,6 +2,12 @@
 #![tactic(auto)]
 
 mod eval;
+mod slots;
 mod spot;
 
 pub use eval::Evaluator;
+pub use slots::slots_of;
+
+/// The height that no expression and no block exceeds in which nothing is wrong, and so the depth
+/// that evaluating them needs.
+pub const GREATEST_HEIGHT: u32 = 512;

@@ -1,6 +1,6 @@
 //! Structures.
 
-ghost use Rattle.std.specs.Prelude.{◌≡◌, ◌++◌, true, IfOk, OnOk};
+ghost use Rattle.std.specs.Prelude.{◌≡◌, ◌++◌, true, IfOk};
 ghost use Rattle.dsde_sound_functions.specs.Coded.{coded_of};
 ghost use Rattle.dsde_eval_tables.specs.Evaluating as evaluating;
 ghost use Rattle.dsde_executive_planner.specs.declared.planner.Planner.{Planner};
@@ -12,7 +12,7 @@ ghost use Rattle.dsde_system.specs.Fitting.{FitsArgs, FitsState};
 ghost use Rattle.dsde_executive.specs.Structure.{in_structure, IsPlan};
 
 use dsde_declared::ModelId;
-use dsde_eval_tables::Evaluator;
+use dsde_eval_tables::{Evaluator, GREATEST_HEIGHT, slots_of};
 use dsde_executive_planner::Planner;
 use dsde_faults::EvalEnd;
 use dsde_lists::Memory;
@@ -20,11 +20,8 @@ use dsde_program::Program;
 use dsde_sound_places::structures_stand;
 use dsde_sound_structures::structures_agree;
 use dsde_structure::Plan;
-use dsde_values::{Seq, Value, Values, copy_value};
+use dsde_values::{Values, copy_values};
 use std::alloc::Global;
-
-/// The height that no expression of a structure exceeds in which nothing is wrong.
-const GREATEST_HEIGHT: u32 = 512;
 
 /// Laws: the structures of a model in which nothing is wrong stand at their numbers, and give in
 /// tables the plans that they give over names, which fit their networks.
@@ -52,24 +49,12 @@ fn planner<'p>(alloc: Global, program: &'p Program) -> Planner<'p>
     }
 }
 
-/// Appends copies of values.
-fn append(alloc: Global, values: &[Value], slots: &mut Values) -> Result<(), Memory>
-    ensures { OnOk result (slots.new ≡ slots.old ++ values.now) }
-{
-    for value in values {
-        slots.push(copy_value(alloc, value)?)?;
-    }
-    Ok(())
-}
-
-/// What a structure sees: the arguments, and the state behind them.
-fn slots_of(alloc: Global, args: &Values, state: &Values) -> Result<Values, Memory>
+/// What a structure sees: copies of the arguments, and of the state behind them.
+fn seen(alloc: Global, args: &Values, state: &Values) -> Result<Values, Memory>
     ensures { IfOk result (λ slots. slots ≡ args.now ++ state.now) }
 {
-    let mut slots = Seq::new(alloc);
-    append(alloc, args.as_slice(), &mut slots)?;
-    append(alloc, state.as_slice(), &mut slots)?;
-    Ok(slots)
+    let state = copy_values(alloc, state.as_slice())?;
+    slots_of(alloc, args, state)
 }
 
 /// The structure of a network with these arguments in this state of its executive: its components in
@@ -91,7 +76,7 @@ pub fn structure(
 {
     laws();
     program.right();
-    let slots = slots_of(alloc, args, state)?;
+    let slots = seen(alloc, args, state)?;
     let makes = program.makes(model);
     planner(alloc, program).plan(makes.as_slice(), slots)
 }
