@@ -2,7 +2,7 @@
 
 use dsde_bank::Handle;
 use dsde_lists::{Boxed, Memory, Text};
-use dsde_program_nodes::ViaId;
+use dsde_declared::ViaId;
 use dsde_routes_wiring::{Links, WiredKid, Wiring};
 use dsde_structure::{End, Link, Part, Via};
 use dsde_values::{Name, Seq};
