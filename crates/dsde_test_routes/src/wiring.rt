@@ -1,8 +1,8 @@
 //! A small wiring.
 
 use dsde_bank::Handle;
-use dsde_lists::{Boxed, Memory, Text};
 use dsde_declared::ViaId;
+use dsde_lists::{Boxed, Memory, Text};
 use dsde_routes_wiring::{Links, WiredKid, Wiring};
 use dsde_structure::{End, Link, Part, Via};
 use dsde_values::{Name, Seq};
