@@ -1,11 +1,13 @@
 -- What is known of bytes under a name, and where no model was loaded.
-use Rattle.std.proofs.Common.{◌≡◌, ℕ, ◌<◌, ◌⊎◌, inl, inr, List, length, Result, Ok, Err, refl, sym, ap, subst, ◌∙◌}
+use Rattle.std.proofs.Common.{◌≡◌, ℕ, ◌<◌, ◌⊎◌, inl, inr, List, [], length, Result, Ok, Err, refl, sym, ap, subst, ◌∙◌, arith}
 use Rattle.std.specs.Prelude.{Option, Some, None, ⊤, IfSome, IfOk, IsSomeAnd}
 use Rattle.std.proofs.lemmas.List.{append-nil}
 use Rattle.dsde_syntax.specs.declared.decl.Model.{Model}
 use Rattle.dsde_input_records.specs.Records.{Records}
 use Rattle.dsde_run_meaning.specs.Run.{Run}
 use Rattle.dsde_io.specs.Held.{Bytes}
+use Rattle.dsde_trace.specs.declared.pick.Pick.{Pick}
+use Rattle.dsde_run.specs.Reading.{Told, TakesWanted}
 use Rattle.dsde_run.specs.Run.{Running, records_in}
 use Rattle.dsde_cli_verdict.specs.declared.refusal.Refusal.{Refusal}
 use Rattle.dsde_cli_verdict.specs.declared.refusal.ReadModel.{ReadModel}
@@ -115,22 +117,22 @@ answers-cut answer written out (Unwritten writing) is same = absurd is
 answers-cut answer written out (BadSave fault) is same = absurd is
 
 -- a run of a model that is under the name is cut short, and nothing was written
-pub comes-cut : (own : Running) (tells : Records → Run) (input : List ℕ) (left : Option (List ℕ)) (written : List ℕ) (out : Option (List ℕ)) (status : Status) →
-    IsCut status → out ≡ Some written → Comes own tells input left written out status
-comes-cut own tells input left written out (Unread what.Model why.Failed) is same = same
-comes-cut own tells input left written out Memory is same = front-none own (tells (records_in own input)) written out same
-comes-cut own tells input left written out (Unread what.Model why.Absent) is same = absurd is
-comes-cut own tells input left written out (Unread what.Model why.TooLong) is same = absurd is
-comes-cut own tells input left written out (Unread what.Save because) is same = absurd is
-comes-cut own tells input left written out (Unread what.Input because) is same = absurd is
-comes-cut own tells input left written out (Unread what.Output because) is same = absurd is
-comes-cut own tells input left written out (Refused kind line column) is same = absurd is
-comes-cut own tells input left written out Done is same = absurd is
-comes-cut own tells input left written out Usage is same = absurd is
-comes-cut own tells input left written out (BadInput kind line) is same = absurd is
-comes-cut own tells input left written out (ModelFault fault) is same = absurd is
-comes-cut own tells input left written out (Unwritten writing) is same = absurd is
-comes-cut own tells input left written out (BadSave fault) is same = absurd is
+pub comes-cut : (own : Running) (pick : Pick) (tells : Records → Run) (input : List ℕ) (left : Option (List ℕ)) (written : List ℕ) (out : Option (List ℕ)) (status : Status) →
+    IsCut status → out ≡ Some written → Comes own pick tells input left written out status
+comes-cut own pick tells input left written out (Unread what.Model why.Failed) is same = same
+comes-cut own pick tells input left written out Memory is same = front-none own pick (tells (records_in own input)) written out same
+comes-cut own pick tells input left written out (Unread what.Model why.Absent) is same = absurd is
+comes-cut own pick tells input left written out (Unread what.Model why.TooLong) is same = absurd is
+comes-cut own pick tells input left written out (Unread what.Save because) is same = absurd is
+comes-cut own pick tells input left written out (Unread what.Input because) is same = absurd is
+comes-cut own pick tells input left written out (Unread what.Output because) is same = absurd is
+comes-cut own pick tells input left written out (Refused kind line column) is same = absurd is
+comes-cut own pick tells input left written out Done is same = absurd is
+comes-cut own pick tells input left written out Usage is same = absurd is
+comes-cut own pick tells input left written out (BadInput kind line) is same = absurd is
+comes-cut own pick tells input left written out (ModelFault fault) is same = absurd is
+comes-cut own pick tells input left written out (Unwritten writing) is same = absurd is
+comes-cut own pick tells input left written out (BadSave fault) is same = absurd is
 
 -- what the shelf tells, if it tells anything
 pub told_same : (before : Option (List ℕ)) (P : List ℕ → Type 0) → ((written : List ℕ) → before ≡ Some written → P written) → IfSome before P
@@ -224,3 +226,8 @@ run_unrefused one name held kind line column some has =
 pub tells_reported : (kind : Refusal) (line column : ℕ) (status result : Status) → Tells kind line column status → (result ≡ status) ⊎ (result ≡ Memory) → Tells kind line column result
 tells_reported kind line column status result tells (inl same) = subst (Tells kind line column) (sym same) tells
 tells_reported kind line column status result tells (inr ended) = subst (Tells kind line column) (sym ended) tt
+
+-- Where nothing of an input was taken, nothing was taken that was not wanted.
+pub none-taken : (tells : Records → Run) (records : List ℕ → Records) (left : Option (List ℕ)) → Told left left (λ before. TakesWanted tells (records before) [] before)
+none-taken tells records None = tt
+none-taken tells records (Some bytes) = record { needed = []; past = []; split = refl; size = omega arith; wanted = λ some. absurd (some refl) }

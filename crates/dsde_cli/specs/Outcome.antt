@@ -1,11 +1,15 @@
 -- How a call ends that runs a model, and what it leaves.
-use Rattle.std.specs.Prelude.{ℕ, ◌≡◌, ◌⊎◌, ⊤, List, [], ◌++◌, take, Option, Some, IfSome, IsSomeAnd}
+use Rattle.std.specs.Prelude.{ℕ, ◌≡◌, ◌⊎◌, ⊤, List, [], ◌++◌, take, Option, Some, IfSome, IsSomeAnd, Result, Ok, Err}
 use Rattle.dsde_input_records.specs.Records.{Records}
 use Rattle.dsde_sim_events.specs.declared.event.Finish.{Finish}
 use Rattle.dsde_sim_events.specs.declared.event.Finish.TheVariants as how
 use Rattle.dsde_run_meaning.specs.Run.{Run}
+use Rattle.dsde_sim_turns.specs.Engine.{Engine}
+use Rattle.dsde_trace.specs.declared.pick.Pick.{Pick}
+use Rattle.dsde_run.specs.declared.run.Cut.{Cut}
+use Rattle.dsde_run.specs.declared.run.Cut.TheVariants as cut
 use Rattle.dsde_run.specs.Reading.{IsCutShort}
-use Rattle.dsde_run.specs.Run.{Running, records_in, trace_text}
+use Rattle.dsde_run.specs.Run.{Running, records_in, kept_text}
 use Rattle.dsde_cli_status.specs.declared.status.Status.{Status}
 use Rattle.dsde_cli_status.specs.declared.status.Status.TheVariants.{Done, BadInput, ModelFault, Unread, Unwritten, Memory}
 use Rattle.dsde_cli_status.specs.declared.status.What.{What}
@@ -13,14 +17,14 @@ use Rattle.dsde_cli_status.specs.declared.status.What.TheVariants as what
 use Rattle.dsde_cli_status.specs.declared.status.Why.{Why}
 use Rattle.dsde_cli_status.specs.declared.status.Why.TheVariants as why
 
--- The sink gained the whole trace of the run.
-abbrev pub Writes : Running → Run → List ℕ → Option (List ℕ) → Type 0
-Writes own run written out = out ≡ Some (written ++ trace_text own run.events)
+-- The sink gained the whole trace of the run, or those of its lines that are kept.
+abbrev pub Writes : Running → Pick → Run → List ℕ → Option (List ℕ) → Type 0
+Writes own pick run written out = out ≡ Some (written ++ kept_text own pick run.events)
 
--- The sink gained a part of the run's trace, from its front.
-pub record WritesFront (own : Running) (run : Run) (written : List ℕ) (out : Option (List ℕ)) : Type 0 where
+-- The sink gained a part of that text, from its front.
+pub record WritesFront (own : Running) (pick : Pick) (run : Run) (written : List ℕ) (out : Option (List ℕ)) : Type 0 where
   pub count : ℕ
-  pub is : out ≡ Some (written ++ take count (trace_text own run.events))
+  pub is : out ≡ Some (written ++ take count (kept_text own pick run.events))
 
 -- The status says how the run ended: by its bound, or quietly, which is where no byte of the input
 -- was left, or by bad input or a fault.
@@ -31,30 +35,30 @@ SaysEnd end left (ModelFault fault) = end ≡ Some (how.Fault fault)
 SaysEnd end left other = ⊤
 
 -- The whole trace was written, and the status says how the run ended.
-abbrev pub ComesWhole : Running → Run → Option (List ℕ) → List ℕ → Option (List ℕ) → Status → Type 0
-ComesWhole own whole left written out status = Writes own whole written out × SaysEnd whole.end left status
+abbrev pub ComesWhole : Running → Pick → Run → Option (List ℕ) → List ℕ → Option (List ℕ) → Status → Type 0
+ComesWhole own pick whole left written out status = Writes own pick whole written out × SaysEnd whole.end left status
 
 -- What a failed reading leaves: of the input, the lines before the first turn whose head is not
 -- whole in the bytes taken, which are the front of the trace; of the model, what was written before.
-abbrev pub ComesUnread : Running → (Records → Run) → List ℕ → Option (List ℕ) → List ℕ → Option (List ℕ) → What → Why → Type 0
-ComesUnread own tells input left written out what.Input why.Failed =
-    IsSomeAnd left (λ after. IsSomeAnd out (λ new. IsCutShort own tells (records_in own input) written new input after))
-    × WritesFront own (tells (records_in own input)) written out
-ComesUnread own tells input left written out what.Model why.Failed = out ≡ Some written
-ComesUnread own tells input left written out reading because = ⊥
+abbrev pub ComesUnread : Running → Pick → (Records → Run) → List ℕ → Option (List ℕ) → List ℕ → Option (List ℕ) → What → Why → Type 0
+ComesUnread own pick tells input left written out what.Input why.Failed =
+    IsSomeAnd left (λ after. (engine : Engine) × IsCutShort own pick tells (records_in own input) engine (Some written) out [] input after)
+    × WritesFront own pick (tells (records_in own input)) written out
+ComesUnread own pick tells input left written out what.Model why.Failed = out ≡ Some written
+ComesUnread own pick tells input left written out reading because = ⊥
 
 -- A model was run on an input: `tells` says what a run on records tells, `left` what the source has
--- left, and `written` and `out` what the sink had and has. Each status comes exactly where the run
--- ended so, and the whole trace was written. A failed read, a failed write and want of memory cut
+-- left, `written` and `out` what the sink had and has, and `pick` which lines are kept. Each status
+-- comes exactly where the run ended so, and all these lines of the trace were written. A failed read, a failed write and want of memory cut
 -- it short.
-abbrev pub Comes : Running → (Records → Run) → List ℕ → Option (List ℕ) → List ℕ → Option (List ℕ) → Status → Type 0
-Comes own tells input left written out Done = ComesWhole own (tells (records_in own input)) left written out Done
-Comes own tells input left written out (BadInput kind line) = ComesWhole own (tells (records_in own input)) left written out (BadInput kind line)
-Comes own tells input left written out (ModelFault fault) = ComesWhole own (tells (records_in own input)) left written out (ModelFault fault)
-Comes own tells input left written out (Unread reading because) = ComesUnread own tells input left written out reading because
-Comes own tells input left written out (Unwritten what.Output) = WritesFront own (tells (records_in own input)) written out
-Comes own tells input left written out Memory = WritesFront own (tells (records_in own input)) written out
-Comes own tells input left written out other = ⊥
+abbrev pub Comes : Running → Pick → (Records → Run) → List ℕ → Option (List ℕ) → List ℕ → Option (List ℕ) → Status → Type 0
+Comes own pick tells input left written out Done = ComesWhole own pick (tells (records_in own input)) left written out Done
+Comes own pick tells input left written out (BadInput kind line) = ComesWhole own pick (tells (records_in own input)) left written out (BadInput kind line)
+Comes own pick tells input left written out (ModelFault fault) = ComesWhole own pick (tells (records_in own input)) left written out (ModelFault fault)
+Comes own pick tells input left written out (Unread reading because) = ComesUnread own pick tells input left written out reading because
+Comes own pick tells input left written out (Unwritten what.Output) = WritesFront own pick (tells (records_in own input)) written out
+Comes own pick tells input left written out Memory = WritesFront own pick (tells (records_in own input)) written out
+Comes own pick tells input left written out other = ⊥
 
 -- The status of a run that ended so.
 abbrev pub status_of : Finish → Status
@@ -73,3 +77,10 @@ pub record Completes (own : Running) (tells : Records → Run) (input : Option (
 -- A check is done, unless memory ran out.
 abbrev pub CompletesCheck : Status → Type 0
 CompletesCheck status = (status ≡ Done) ⊎ (status ≡ Memory)
+
+-- The status of a run that came to this.
+abbrev pub status_by : Result Finish Cut → Status
+status_by (Ok answer) = status_of answer
+status_by (Err cut.ReadFault) = Unread what.Input why.Failed
+status_by (Err cut.Unwritten) = Unwritten what.Output
+status_by (Err cut.Memory) = Memory

@@ -1,6 +1,6 @@
 //! The top call: it does what the words ask for, and says how it ended.
 
-ghost use Rattle.std.specs.Prelude.{◌≡◌, ◌≢◌, ◌≤◌, ◌⊎◌, ℕ, map, string_bytes, None, IfSome};
+ghost use Rattle.std.specs.Prelude.{◌≡◌, ◌≢◌, ◌≤◌, ◌⊎◌, ℕ, [], map, string_bytes, None, IfSome};
 ghost use Rattle.dsde_io.specs.Fault.{Rose};
 ghost use Rattle.dsde_input_records.specs.Records.{Records};
 ghost use Rattle.dsde_run.specs.Reading.{Told, TakesWanted};
@@ -12,23 +12,26 @@ ghost use Rattle.dsde_cli.specs.Causes.{Cause, CauseCheck, Has, HoldsNone, Holds
 ghost use Rattle.dsde_cli_verdict.specs.declared.refusal.Refusal.{Refusal};
 ghost use Rattle.dsde_cli_verdict.specs.Verdict.{Refuses};
 ghost use Rattle.dsde_cli.specs.Delivered.{IsDelivered};
-ghost use Rattle.dsde_cli.specs.Loaded.{Loaded, tells_of};
+ghost use Rattle.dsde_cli.specs.Loaded.{Loaded, pick_in, pick_of, tells_of};
 ghost use Rattle.dsde_cli.specs.Outcome.{Comes, Completes, CompletesCheck, SaysEnd};
 
 use crate::check::load_and_check;
 use crate::run::load_and_run;
-use dsde_cli_command::{Command, read_command};
+use dsde_cli_command::{Command, Only, read_command};
 use dsde_cli_status::{Status, report};
 use dsde_io::{Shelf, Sink, Source};
 use dsde_run_delivery::runs_are_delivered;
+use dsde_trace::Pick;
 use std::alloc::Global;
 
 /// Does what the words ask for, and says in one line on `notes` how it ended where not all went well.
 ///
 /// `check MODEL [--print]` loads the model from the shelf, and writes to `out` that it is accepted,
 /// or its text. `run MODEL --turns N` loads the model, runs it from its start on the input for at
-/// most N turns, and writes its trace to `out`. Any other words spell no command. A write to `notes`
-/// that failed changes nothing; one that ran out of memory makes the status `Memory`.
+/// most N turns, and writes its trace to `out` as it comes: the lines of a turn before the next record
+/// of the input is wanted. With `--only outputs` or `--only structure` only those lines are written.
+/// Any other words spell no command. A write to `notes` that failed changes nothing; one that ran out
+/// of memory makes the status `Memory`.
 pub fn dsde<F: Shelf, R: Source, W: Sink, E: Sink>(
     alloc: Global,
     words: &[String],
@@ -41,7 +44,7 @@ pub fn dsde<F: Shelf, R: Source, W: Sink, E: Sink>(
     // run ends: where the shelf tells the model, the source its bytes and the sink what it has.
     ensures runs { (loaded : Loaded (map string_bytes words.now) (F.held shelf.old))
         → IfSome (R.left input.old) (λ bytes. IfSome (W.written out.old) (λ written.
-        Comes loaded.own (tells_of loaded) bytes (R.left input.new) written (W.written out.new) result)) }
+        Comes loaded.own (pick_in loaded) (tells_of loaded) bytes (R.left input.new) written (W.written out.new) result)) }
 
     // The status says how that run ends, whatever the sink tells.
     ensures ends { (loaded : Loaded (map string_bytes words.now) (F.held shelf.old))
@@ -59,9 +62,9 @@ pub fn dsde<F: Shelf, R: Source, W: Sink, E: Sink>(
     ensures complete_check { Checked (map string_bytes words.now) (F.held shelf.old)
         → ¬ (Rose (F.faults shelf.old) (F.faults shelf.new)) → ¬ (Rose (W.faults out.old) (W.faults out.new)) → CompletesCheck result }
 
-    // No byte of the input is taken that no turn wants.
+    // No byte of the input is taken that no turn wants, but for at most 4,096 behind the last line wanted.
     ensures taken { (loaded : Loaded (map string_bytes words.now) (F.held shelf.old))
-        → Told (R.left input.old) (R.left input.new) (λ before. TakesWanted (tells_of loaded) (records_in loaded.own before) before) }
+        → Told (R.left input.old) (R.left input.new) (λ before. TakesWanted (tells_of loaded) (records_in loaded.own before) [] before) }
     ensures idle { (asked : Asked (map string_bytes words.now)) → asked.run.turns ≡ 0 → input.new ≡ input.old }
 
     // Of a model that is accepted, a check writes so, or its text, where the shelf tells the model
@@ -108,10 +111,21 @@ pub fn dsde<F: Shelf, R: Source, W: Sink, E: Sink>(
     runs_are_delivered();
     let status = match read_command(words) {
         Some(Command::Check { model, print }) => load_and_check(alloc, model, print, shelf, out),
-        Some(Command::Run { model, turns }) => {
-            load_and_run(alloc, model, turns, shelf, input, out)
+        Some(Command::Run { model, turns, only }) => {
+            load_and_run(alloc, model, pick_of(only), turns, shelf, input, out)
         }
         None => Status::Usage,
     };
     report(alloc, status, notes)
+}
+
+/// The lines that a command keeps: all, where it does not say which.
+fn pick_of(only: Option<Only>) -> Pick
+    ensures { result ≡ pick_of only }
+{
+    match only {
+        None => Pick::All,
+        Some(Only::Outputs) => Pick::Outputs,
+        Some(Only::Structure) => Pick::Structure,
+    }
 }

@@ -7,21 +7,24 @@ use Rattle.std.specs.Str.{bytes_eq}
 use Rattle.std.specs.Str.Parse.{digits_value}
 use Rattle.dsde_cli_command.specs.declared.command.Command.{Command}
 use Rattle.dsde_cli_command.specs.declared.command.Command.TheVariants.{Check, Run}
+use Rattle.dsde_cli_command.specs.declared.command.Only.{Only}
+use Rattle.dsde_cli_command.specs.declared.command.Only.TheVariants.{Outputs, Structure}
 
 -- It takes no more turns than one command may.
 abbrev pub IsBounded : Command → Type 0
 IsBounded (Check model print) = ⊤
-IsBounded (Run model turns) = turns ≤ 1_000_000_000
+IsBounded (Run model turns only) = turns ≤ 1_000_000_000
 
 -- A model is to be checked: the bytes of its name, and whether its text is to be printed.
 pub record CheckCommand : Type 0 where
   pub model : List ℕ
   pub print : Bool
 
--- A model is to be run: the bytes of its name, and the most turns.
+-- A model is to be run: the bytes of its name, the most turns, and which lines are kept, if not all.
 pub record RunCommand : Type 0 where
   pub model : List ℕ
   pub turns : ℕ
+  pub kept : Option Only
 
 -- What is to be done.
 pub data Task : Type 0 where
@@ -31,18 +34,19 @@ pub data Task : Type 0 where
 -- What a command asks for.
 abbrev pub task_of : Command → Task
 task_of (Check model print) = checks (record { model = model.now; print = print })
-task_of (Run model turns) = runs (record { model = model.now; turns = turns })
+task_of (Run model turns only) = runs (record { model = model.now; turns = turns; kept = only })
 
 -- What the words after the command give, each from left to right: the positional words, the values
--- of `--turns`, and each `--print`.
+-- of `--turns` and of `--only`, and each `--print`.
 pub record Line : Type 0 where
   pub positional : List (List ℕ)
   pub turns : List (List ℕ)
+  pub onlys : List (List ℕ)
   pub prints : List (List ℕ)
 
 -- A line of no words.
 abbrev pub no_words : Line
-no_words = record { positional = []; turns = []; prints = [] }
+no_words = record { positional = []; turns = []; onlys = []; prints = [] }
 
 -- A line with one positional word more, before the others.
 abbrev pub with_positional : List ℕ → Line → Line
@@ -51,6 +55,10 @@ with_positional word line = record line { positional = word ∷ line.positional 
 -- A line with one value of `--turns` more, before the others.
 abbrev pub with_turns : List ℕ → Line → Line
 with_turns value line = record line { turns = value ∷ line.turns }
+
+-- A line with one value of `--only` more, before the others.
+abbrev pub with_only : List ℕ → Line → Line
+with_only value line = record line { onlys = value ∷ line.onlys }
 
 -- A line with one `--print` more.
 abbrev pub with_print : Line → Line
@@ -66,13 +74,14 @@ with_word word line =
     if bytes_eq word (codes "--print") then option_map with_print line
     else (if is_option word then None else option_map (with_positional word) line)
 
--- The line of words: `--turns` takes the next word as its value.
+-- The line of words: `--turns` and `--only` take the next word as their value.
 abbrev pub line_of : List (List ℕ) → Option Line
 line_of [] = Some no_words
 line_of (word ∷ []) = with_word word (Some no_words)
 line_of (word ∷ next ∷ words) =
     if bytes_eq word (codes "--turns") then option_map (with_turns next) (line_of words)
-    else with_word word (line_of (next ∷ words))
+    else (if bytes_eq word (codes "--only") then option_map (with_only next) (line_of words)
+    else with_word word (line_of (next ∷ words)))
 
 -- The one item of a list that has one.
 abbrev pub only : {A : Type 0} → List A → Option A
@@ -99,26 +108,38 @@ is_number word = nat_le 1 (length word) && nat_le (length word) 10 && list_all i
 abbrev pub turns_of : List ℕ → Option ℕ
 turns_of word = if is_number word && nat_le (digits_value 10 word) 1_000_000_000 then Some (digits_value 10 word) else None
 
+-- The selection of lines that a word names.
+abbrev pub only_of : List ℕ → Option Only
+only_of word =
+    if bytes_eq word (codes "outputs") then Some Outputs else (if bytes_eq word (codes "structure") then Some Structure else None)
+
+-- The selection of lines of a run: none where no word asks for one.
+abbrev pub kept_of : List (List ℕ) → Option (Option Only)
+kept_of [] = Some None
+kept_of (word ∷ []) = option_map Some (only_of word)
+kept_of (word ∷ next ∷ words) = None
+
 infixl 10 ◌>>=◌
 abbrev pub ◌>>=◌ : {A B : Type 0} → Option A → (A → Option B) → Option B
 found >>= next = option_and_then next found
 
 -- The check of a line: its one positional word is the model's name, `--print` stands in it at most
--- once, and `--turns` nowhere.
+-- once, and `--turns` and `--only` nowhere.
 abbrev pub check_of : Line → Option Task
-check_of line = without line.turns (do
+check_of line = without line.turns (without line.onlys (do
   model ← only line.positional
   print ← is_given line.prints
-  Some (checks (record { model = model; print = print })))
+  Some (checks (record { model = model; print = print }))))
 
--- The run of a line: its one positional word is the model's name, `--turns` stands in it once, and
--- `--print` nowhere.
+-- The run of a line: its one positional word is the model's name, `--turns` stands in it once,
+-- `--only` at most once, and `--print` nowhere.
 abbrev pub run_of : Line → Option Task
 run_of line = without line.prints (do
   model ← only line.positional
   value ← only line.turns
   turns ← turns_of value
-  Some (runs (record { model = model; turns = turns })))
+  kept ← kept_of line.onlys
+  Some (runs (record { model = model; turns = turns; kept = kept })))
 
 -- The command that words spell: the first word names it.
 abbrev pub command_of : List (List ℕ) → Option Task

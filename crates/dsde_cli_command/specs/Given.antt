@@ -19,6 +19,7 @@ abbrev pub joined : Given → Line → Line
 joined given line = record {
   positional = words_of given.model ++ line.positional;
   turns = words_of given.turns ++ line.turns;
+  onlys = words_of given.only ++ line.onlys;
   prints = prints_of given.print ++ line.prints;
 }
 
@@ -34,7 +35,7 @@ is_single (item ∷ next ∷ items) = false
 
 -- A line, where each of its words stands at most once.
 abbrev pub read_of : Line → Option Line
-read_of line = if is_single line.positional && is_single line.turns && is_single line.prints then Some line else None
+read_of line = if is_single line.positional && is_single line.turns && is_single line.onlys && is_single line.prints then Some line else None
 
 -- What words give, where each stands at most once.
 abbrev pub read_words_of : List (List ℕ) → Option Line

@@ -10,18 +10,34 @@ use crate::given::read_words;
 #[derive(Clone, Copy, Debug, PartialEq, Eq)]
 pub enum Command<'w> {
     /// `check MODEL [--print]`
-    Check { model: &'w str, print: bool },
-    /// `run MODEL --turns N`
-    Run { model: &'w str, turns: u64 },
+    Check {
+        model: &'w str,
+        print: bool,
+    },
+    /// `run MODEL --turns N [--only outputs|structure]`
+    Run {
+        model: &'w str,
+        turns: u64,
+        only: Option<Only>,
+    },
+}
+
+/// Which lines of a trace are kept, where not all are.
+#[derive(Clone, Copy, Debug, PartialEq, Eq)]
+pub enum Only {
+    Outputs,
+    Structure,
 }
 
 /// The command that the words spell; `None` exactly where they spell none.
 ///
 /// The first word names the command. The words after it are read from left to right: `--turns`
 /// stands at most once and takes the next word as its value, which is 1 to 10 decimal digits that
-/// spell at most a billion; `--print` stands at most once and takes none; any other word that
-/// begins with `--` spells no command; and the one word that is left is the model's name, which
-/// may be empty. `run` wants `--turns` and has no `--print`, and `check` has no `--turns`.
+/// spell at most a billion; `--only` stands at most once and takes the next word too, which is
+/// `outputs` or `structure`; `--print` stands at most once and takes none; any other word that
+/// begins with `--` spells no command; and the one word that is left is the model's name, which may
+/// be empty. `run` wants `--turns` and has no `--print`, and `check` has neither `--turns` nor
+/// `--only`.
 pub fn read_command(words: &[String]) -> Option<Command<'_>>
     ensures spelled { option_map task_of result ≡ command_of (map string_bytes words.now) }
     ensures bounded { IfSome result IsBounded }

@@ -7,15 +7,17 @@ ghost use Rattle.dsde_cli_command.specs.Commands.{
   Line,
   with_positional,
   with_turns,
+  with_only,
   with_print,
   is_option,
   task_of,
+  only_of,
   check_of,
   run_of,
 };
 ghost use Rattle.dsde_cli_command.specs.Given.{line_given, joined, given_after, read_of, read_words_of};
 
-use crate::command::Command;
+use crate::command::{Command, Only};
 use crate::number::read_turns;
 
 /// The words after the command, as far as they have been read.
@@ -23,6 +25,7 @@ use crate::number::read_turns;
 pub(crate) struct Given<'w> {
     model: Option<&'w str>,
     turns: Option<&'w str>,
+    only: Option<&'w str>,
     print: bool,
 }
 
@@ -38,6 +41,7 @@ impl<'w> Given<'w> {
         Some(Given {
             model: Some(word),
             turns: self.turns,
+            only: self.only,
             print: self.print,
         })
     }
@@ -53,6 +57,23 @@ impl<'w> Given<'w> {
         Some(Given {
             model: self.model,
             turns: Some(value),
+            only: self.only,
+            print: self.print,
+        })
+    }
+
+    /// Takes the value of `--only`; `None` where one was given before.
+    fn keeping(self, value: &'w str) -> Option<Given<'w>>
+        ensures { (line : Line) → given_after result line
+            ≡ read_of (joined self.entry (with_only value.now line)) }
+    {
+        if self.only.is_some() {
+            return None;
+        }
+        Some(Given {
+            model: self.model,
+            turns: self.turns,
+            only: Some(value),
             print: self.print,
         })
     }
@@ -68,16 +89,17 @@ impl<'w> Given<'w> {
         Some(Given {
             model: self.model,
             turns: self.turns,
+            only: self.only,
             print: true,
         })
     }
 
-    /// The check of a model, where it was named and no turns were given.
+    /// The check of a model, where it was named, and neither turns nor a selection were given.
     pub fn check(self) -> Option<Command<'w>>
         ensures spelled { option_map task_of result ≡ check_of (line_given self.entry) }
         ensures bounded { IfSome result IsBounded }
     {
-        if self.turns.is_some() {
+        if self.turns.is_some() || self.only.is_some() {
             return None;
         }
         Some(Command::Check {
@@ -97,7 +119,22 @@ impl<'w> Given<'w> {
         Some(Command::Run {
             model: self.model?,
             turns: read_turns(self.turns?)?,
+            only: match self.only {
+                Some(word) => Some(read_only(word)?),
+                None => None,
+            },
         })
+    }
+}
+
+/// The selection of lines that a word names.
+fn read_only(word: &str) -> Option<Only>
+    ensures { result ≡ only_of word.now }
+{
+    match word {
+        "outputs" => Some(Only::Outputs),
+        "structure" => Some(Only::Structure),
+        _ => None,
     }
 }
 
@@ -108,6 +145,7 @@ pub(crate) fn read_words(words: &[String]) -> Option<Given<'_>>
     let mut given = Given {
         model: None,
         turns: None,
+        only: None,
         print: false,
     };
     let mut left = words;
@@ -117,6 +155,10 @@ pub(crate) fn read_words(words: &[String]) -> Option<Given<'_>>
             let (value, rest) = left.split_first()?;
             left = rest;
             given = given.bound(value.as_str())?;
+        } else if word.as_str() == "--only" {
+            let (value, rest) = left.split_first()?;
+            left = rest;
+            given = given.keeping(value.as_str())?;
         } else if word.as_str() == "--print" {
             given = given.printing()?;
         } else if is_option(word.as_str()) {

@@ -1,22 +1,18 @@
 -- The first of the lines to come, where all of it is held that is needed.
-use Rattle.std.proofs.Common.{◌≡◌, ◌≢◌, ℕ, ◌+◌, ◌-◌, ◌<◌, ◌≤◌, Bool, true, false, ◌||◌, cond, ◌==◌, nat_lt, List, [], ◌∷◌, ◌++◌, length, get_or, take, refl, sym, ◌∙◌, ap, subst, arith, append_assoc, length-append, inl, inr, ◌⊎◌, ⊎_elim}
-use Rattle.std.specs.Prelude.{Option, Some, None, unwrap_or, max, Result, Ok, Err}
-use Rattle.std.proofs.Math.Seq.{take-length, take-append_seam}
-use Rattle.std.proofs.lemmas.List.{take_more}
+use Rattle.std.proofs.Common.{◌≡◌, ◌≢◌, ℕ, ◌<◌, Bool, true, false, ◌||◌, cond, nat_lt, List, [], ◌∷◌, ◌++◌, length, refl, sym, ◌∙◌, ap, subst, arith, append_assoc, length-append, inl, inr, ◌⊎◌, ⊎_elim}
+use Rattle.std.specs.Prelude.{Option, Some, None, is_some, unwrap_or, max, Result, Ok, Err}
 use Rattle.std.proofs.lemmas.Bool.Decides.{nat_tests}
 use Rattle.dsde_values.specs.declared.arrival.Arrival.{Arrival}
 use Rattle.dsde_values.specs.declared.types.Field.{Field}
 use Rattle.dsde_values.specs.declared.types.Types.{Types}
 use Rattle.dsde_input_records.specs.declared.end.InputEnd.{InputEnd}
 use Rattle.dsde_input_records.specs.declared.end.InputEnd.TheVariants as end_of
-use Rattle.dsde_input_records.specs.Lines.{Lacks, begin, lines, behind_line, without_last}
+use Rattle.dsde_input_records.specs.Lines.{Lacks, begin, lines, behind_line}
+use Rattle.dsde_input_records.specs.Lines.{without_last}
 use Rattle.dsde_input_records.specs.Record.{record_of}
 use Rattle.dsde_input_records.specs.Records.{Records, bad, one, next_number, judged, line_record, before, records_of}
-use Rattle.dsde_input.specs.Reader.{Reader, IsOffence, Tells, records, to_come, has_line, given, Holds}
-use Rattle.dsde_input.proofs.Cuts.{Lacks-append}
-
-no_feed : (byte : ℕ) → byte ≢ 10 → (byte == 10) ≡ false
-no_feed byte apart = grind (arith, nat_tests)
+use Rattle.dsde_input.specs.Reader.{Reader, IsOffence, Tells, records, to_come, has_feed, has_line, given, IsLineOf, Opens}
+use Rattle.dsde_input.proofs.Feeds.{no_feed, position-none}
 
 -- a line, its line feed, and the rest
 lines-line : (line rest : List ℕ) → Lacks 10 line → lines (line ++ 10 ∷ rest) ≡ line ∷ lines rest
@@ -29,23 +25,23 @@ lines-last byte [] lacks = rw (no_feed byte lacks.0) refl
 lines-last byte (next ∷ line) lacks = rw (no_feed byte lacks.0, lines-last next line lacks.1) refl
 
 -- The first of some lines begins with these bytes.
-record Opens (front : List ℕ) (all : List (List ℕ)) : Type 0 where
+record Begins (front : List ℕ) (all : List (List ℕ)) : Type 0 where
   more : List ℕ
   others : List (List ℕ)
   is : all ≡ (front ++ more) ∷ others
 
-opens_begin : (byte : ℕ) (all : List (List ℕ)) → Opens (byte ∷ []) (begin byte all)
+opens_begin : (byte : ℕ) (all : List (List ℕ)) → Begins (byte ∷ []) (begin byte all)
 opens_begin byte [] = record { more = []; others = []; is = refl }
 opens_begin byte (line ∷ all) = record { more = line; others = all; is = refl }
 
 -- a line that goes on
-lines-long : (byte : ℕ) (line left : List ℕ) → Lacks 10 (byte ∷ line) → Opens (byte ∷ line) (lines ((byte ∷ line) ++ left))
+lines-long : (byte : ℕ) (line left : List ℕ) → Lacks 10 (byte ∷ line) → Begins (byte ∷ line) (lines ((byte ∷ line) ++ left))
 lines-long byte [] left lacks = rw (no_feed byte lacks.0) (opens_begin byte (lines left))
 lines-long byte (next ∷ line) left lacks =
     let opens = lines-long next line left lacks.1 in
     rw (no_feed byte lacks.0) (record { more = opens.more; others = opens.others; is = ap (begin byte) opens.is })
 
-behind_line-line : (line rest : List ℕ) → Lacks 10 line → behind_line (line ++ 10 ∷ rest) ≡ rest
+pub behind_line-line : (line rest : List ℕ) → Lacks 10 line → behind_line (line ++ 10 ∷ rest) ≡ rest
 behind_line-line [] rest lacks = refl
 behind_line-line (byte ∷ line) rest lacks = rw (no_feed byte lacks.0) (behind_line-line line rest lacks.1)
 
@@ -53,98 +49,63 @@ pub behind_line-last : (line : List ℕ) → Lacks 10 line → behind_line line 
 behind_line-last [] lacks = refl
 behind_line-last (byte ∷ line) lacks = rw (no_feed byte lacks.0) (behind_line-last line lacks.1)
 
--- all but the last, and the last
-with_last : (held : List ℕ) → 0 < length held → held ≡ take (length held - 1) held ++ get_or held (length held - 1) 0 ∷ []
-with_last held some =
-    let whole : length held - 1 + 1 ≡ length held = omega arith in
-    sym (take-length held) ∙ ap (λ n. take n held) (sym whole) ∙ take_more held (length held - 1) 0 (omega arith)
-
--- Bytes of which only the last may be a line feed, and it is none.
-pub Lacks-held : (held : List ℕ) → Lacks 10 (take (length held - 1) held) → (get_or held (length held - 1) 0 == 10) ≡ false → Lacks 10 held
-Lacks-held [] lacks none = tt
-Lacks-held (byte ∷ held) lacks none =
-    let all = byte ∷ held in
-    let last : get_or (byte ∷ held) (length (byte ∷ held) - 1) 0 ≢ 10 = λ same. grind (arith, nat_tests) in
-    subst (Lacks 10) (sym (with_last (byte ∷ held) (omega arith)))
-    (Lacks-append 10 (take (length (byte ∷ held) - 1) (byte ∷ held)) (get_or (byte ∷ held) (length (byte ∷ held) - 1) 0 ∷ []) lacks (last, tt))
-
--- A line with its line feed.
-pub record Fed (held : List ℕ) : Type 0 where
-  pub line : List ℕ
-  pub is : held ≡ line ++ 10 ∷ []
-  pub lacks : Lacks 10 line
-
--- Bytes of which only the last may be a line feed end with one, unless they lack one.
-pub fed_by : (fed : Bool) (held : List ℕ) → (get_or held (length held - 1) 0 == 10) ≡ fed → Lacks 10 (take (length held - 1) held) → (Lacks 10 held → ⊥) → Fed held
-fed_by fed [] is lacks never = absurd (never tt)
-fed_by true (byte ∷ held) is lacks never =
-    let feed : get_or (byte ∷ held) (length (byte ∷ held) - 1) 0 ≡ 10 = grind (arith, nat_tests) in record {
-      line = take (length (byte ∷ held) - 1) (byte ∷ held);
-      is = with_last (byte ∷ held) (omega arith) ∙ ap (λ last. take (length (byte ∷ held) - 1) (byte ∷ held) ++ last ∷ []) feed;
-      lacks = lacks;
-    }
-fed_by false (byte ∷ held) is lacks never = absurd (never (Lacks-held (byte ∷ held) lacks is))
-
--- what is to come, and what is to come behind a line that is held
+-- what is to come
 abbrev come : Bool → List ℕ → List ℕ → List ℕ
 come ended held left = cond ended held (held ++ left)
 
-abbrev behind : Bool → List ℕ → List ℕ
-behind ended left = cond ended [] left
+come_line : (ended : Bool) (line rest left : List ℕ) → come ended (line ++ 10 ∷ rest) left ≡ line ++ 10 ∷ come ended rest left
+come_line true line rest left = refl
+come_line false line rest left = append_assoc line (10 ∷ rest) left
 
--- the first line to come, which is the one that is held, or too long as that is
-record FirstLine (ended : Bool) (held left : List ℕ) : Type 0 where
+-- The first line to come is the one that is held, or too long as that is.
+record FirstLine (ended : Bool) (held line rest left : List ℕ) : Type 0 where
   first : List ℕ
   others : List (List ℕ)
   cut : lines (come ended held left) ≡ first ∷ others
-  same : ((first ≡ without_last 10 held) × (others ≡ lines (behind ended left)) × (behind_line (come ended held left) ≡ behind ended left))
-      ⊎ ((65536 < length first) × (65536 < length (without_last 10 held)))
-
-come_line : (ended : Bool) (line left : List ℕ) → come ended (line ++ 10 ∷ []) left ≡ line ++ 10 ∷ behind ended left
-come_line true line left = refl
-come_line false line left = append_assoc line (10 ∷ []) left
+  same : ((first ≡ line) × (others ≡ lines (come ended rest left)) × (behind_line (come ended held left) ≡ come ended rest left))
+      ⊎ ((65536 < length first) × (65536 < length line))
 
 -- a line with its line feed
-first_fed : (ended : Bool) (held left : List ℕ) → 0 < length held → Lacks 10 (take (length held - 1) held) → (get_or held (length held - 1) 0 == 10) ≡ true → FirstLine ended held left
-first_fed ended held left some lacks fed =
-    let line = take (length held - 1) held in
-    let feed : get_or held (length held - 1) 0 ≡ 10 = grind (arith, nat_tests) in
-    let is : held ≡ take (length held - 1) held ++ 10 ∷ [] = with_last held some ∙ ap (λ byte. take (length held - 1) held ++ byte ∷ []) feed in
-    let all : come ended held left ≡ take (length held - 1) held ++ 10 ∷ behind ended left =
-    ap (λ bytes. come ended bytes left) is ∙ come_line ended (take (length held - 1) held) left in
+first_fed : (ended : Bool) (held line rest left : List ℕ) → Lacks 10 line → held ≡ line ++ 10 ∷ rest → FirstLine ended held line rest left
+first_fed ended held line rest left lacks is =
+    let all : come ended held left ≡ line ++ 10 ∷ come ended rest left = ap (λ bytes. come ended bytes left) is ∙ come_line ended line rest left in
     record {
-      first = take (length held - 1) held;
-      others = lines (behind ended left);
-      cut = ap lines all ∙ lines-line (take (length held - 1) held) (behind ended left) lacks;
-      same = inl (rw fed refl, refl, ap behind_line all ∙ behind_line-line (take (length held - 1) held) (behind ended left) lacks);
+      first = line;
+      others = lines (come ended rest left);
+      cut = ap lines all ∙ lines-line line (come ended rest left) lacks;
+      same = inl (refl, refl, ap behind_line all ∙ behind_line-line line (come ended rest left) lacks);
     }
 
 -- a line without a line feed: the last, or one that is too long
-first_open : (ended : Bool) (held left : List ℕ) → 0 < length held → Lacks 10 held → (get_or held (length held - 1) 0 == 10) ≡ false → (ended || nat_lt 65536 (length held) || false) ≡ true → FirstLine ended held left
-first_open ended [] left some lacks unfed has = absurd (omega arith)
-first_open true (byte ∷ held) left some lacks unfed has = record {
-  first = byte ∷ held;
+first_open : (ended : Bool) (line left : List ℕ) → Lacks 10 line → line ≢ [] → (ended || nat_lt 65536 (length line) || false) ≡ true → FirstLine ended line line [] left
+first_open ended [] left lacks some has = absurd (some refl)
+first_open true (byte ∷ line) left lacks some has = record {
+  first = byte ∷ line;
   others = [];
-  cut = lines-last byte held lacks;
-  same = inl (rw unfed refl, refl, behind_line-last (byte ∷ held) lacks);
+  cut = lines-last byte line lacks;
+  same = inl (refl, refl, behind_line-last (byte ∷ line) lacks);
 }
-first_open false (byte ∷ held) left some lacks unfed has =
-    let opens = lines-long byte held left lacks in
-    let long : 65536 < length (byte ∷ held) = grind (arith, nat_tests) in record {
-      first = (byte ∷ held) ++ opens.more;
+first_open false (byte ∷ line) left lacks some has =
+    let opens = lines-long byte line left lacks in
+    let long : 65536 < length (byte ∷ line) = grind (arith, nat_tests) in record {
+      first = (byte ∷ line) ++ opens.more;
       others = opens.others;
       cut = opens.is;
-      same = inr (omega (arith, long, length-append (byte ∷ held) opens.more), rw unfed long);
+      same = inr (omega (arith, long, length-append (byte ∷ line) opens.more), long);
     }
 
-first_by : (fed : Bool) (ended : Bool) (held left : List ℕ) → (get_or held (length held - 1) 0 == 10) ≡ fed → 0 < length held → Lacks 10 (take (length held - 1) held) → (ended || nat_lt 65536 (length held) || fed) ≡ true → FirstLine ended held left
-first_by true ended held left is some lacks has = first_fed ended held left some lacks is
-first_by false ended held left is some lacks has = first_open ended held left some (Lacks-held held lacks is) is has
-
 -- the first line to come
-first_line : (reader : Reader) (left : List ℕ) → has_line reader ≡ true → 0 < length reader.held → Lacks 10 (take (length reader.held - 1) reader.held) → FirstLine reader.ended reader.held left
-first_line reader left has some lacks =
-    first_by (get_or reader.held (length reader.held - 1) 0 == 10) reader.ended reader.held left refl some lacks has
+first_line : (reader : Reader) (line rest left : List ℕ) → has_line reader ≡ true → Opens reader.held line rest → FirstLine reader.ended reader.held line rest left
+first_line reader line rest left has cut = ⊎_elim
+    (λ fed. first_fed reader.ended reader.held line rest left cut.lacks fed)
+    (λ whole.
+    let none : has_feed reader.held ≡ false = ap has_feed whole.0 ∙ ap is_some (position-none line cut.lacks) in
+    let here : (reader.ended || nat_lt 65536 (length line) || false) ≡ true =
+    ap (λ feed. reader.ended || nat_lt 65536 (length line) || feed) (sym none)
+    ∙ ap (λ held. reader.ended || nat_lt 65536 (length held) || has_feed reader.held) (sym whole.0) ∙ has in
+    subst (λ rest. FirstLine reader.ended reader.held line rest left) (sym whole.1)
+    (subst (λ held. FirstLine reader.ended held line [] left) (sym whole.0) (first_open reader.ended line left cut.lacks whole.2 here)))
+    cut.cut
 
 -- A line that is too long has that offence.
 long_record : (ports : List Field) (types : Types) (number least : ℕ) (line : List ℕ) → 65536 < length line → line_record ports types number least line ≡ Err (end_of.LineTooLong number)
@@ -175,65 +136,91 @@ Tells-bad old new (end_of.LineTooLong number) is before after = (before, after)
 Tells-bad old new end_of.ReadFault is before after = absurd is
 Tells-bad old new end_of.Memory is before after = absurd is
 
--- what the held line is
-abbrev pub held_record : List Field → Types → Reader → Result Arrival InputEnd
-held_record ports types reader = line_record ports types (next_number reader.number) (max (unwrap_or reader.last 0) reader.floor) (without_last 10 reader.held)
+-- what a line is, behind the last that was given
+abbrev pub held_record : List Field → Types → Reader → List ℕ → Result Arrival InputEnd
+held_record ports types reader line = line_record ports types (next_number reader.number) (max (unwrap_or reader.last 0) reader.floor) line
 
 -- the records to come, where no offence was answered
 records_lawful : (ports : List Field) (types : Types) (reader : Reader) (bytes : List ℕ) → reader.offence ≡ None → records ports types reader bytes ≡ records_of ports types reader.floor (lines bytes) reader.number reader.last
 records_lawful ports types reader bytes lawful = rw lawful refl
 
-module _ (ports : List Field) (types : Types) (reader : Reader) (lawful : reader.offence ≡ None) (has : has_line reader ≡ true) (some : 0 < length reader.held)
-    (lacks : Lacks 10 (take (length reader.held - 1) reader.held)) where
-  same_record : (left : List ℕ) → line_record ports types (next_number reader.number) (max (unwrap_or reader.last 0) reader.floor) (first_line reader left has some lacks).first ≡ held_record ports types reader
-  same_record left = ⊎_elim
-      (λ p. ap (line_record ports types (next_number reader.number) (max (unwrap_or reader.last 0) reader.floor)) p.0)
-      (λ p. long_record ports types (next_number reader.number) (max (unwrap_or reader.last 0) reader.floor) (first_line reader left has some lacks).first p.0
-      ∙ sym (long_record ports types (next_number reader.number) (max (unwrap_or reader.last 0) reader.floor) (without_last 10 reader.held) p.1))
-      (first_line reader left has some lacks).same
+-- behind the line that is held stands the rest
+pub rest_is : (reader : Reader) (line rest : List ℕ) → Opens reader.held line rest → behind_line reader.held ≡ rest
+rest_is reader line rest cut = ⊎_elim
+    (λ fed. ap behind_line fed ∙ behind_line-line line rest cut.lacks)
+    (λ whole. ap behind_line whole.0 ∙ behind_line-last line cut.lacks ∙ sym whole.1)
+    cut.cut
 
-  -- the records to come begin with what the held line is
+module _ (ports : List Field) (types : Types) (reader : Reader) (lawful : reader.offence ≡ None) (has : has_line reader ≡ true) (line rest : List ℕ) (cut : Opens reader.held line rest) where
+  same_record : (left : List ℕ) → held_record ports types reader (first_line reader line rest left has cut).first ≡ held_record ports types reader line
+  same_record left = ⊎_elim
+      (λ p. ap (held_record ports types reader) p.0)
+      (λ p. long_record ports types (next_number reader.number) (max (unwrap_or reader.last 0) reader.floor) (first_line reader line rest left has cut).first p.0
+      ∙ sym (long_record ports types (next_number reader.number) (max (unwrap_or reader.last 0) reader.floor) line p.1))
+      (first_line reader line rest left has cut).same
+
+  -- the records to come begin with what the line is
   first_records : (left : List ℕ) → records ports types reader (to_come reader left)
-      ≡ before (held_record ports types reader) (λ arrival. records_of ports types reader.floor (first_line reader left has some lacks).others (next_number reader.number) (Some arrival.time))
+      ≡ before (held_record ports types reader line) (λ arrival. records_of ports types reader.floor (first_line reader line rest left has cut).others (next_number reader.number) (Some arrival.time))
   first_records left =
       records_lawful ports types reader (to_come reader left) lawful
-      ∙ ap (λ all. records_of ports types reader.floor all reader.number reader.last) (first_line reader left has some lacks).cut
-      ∙ (ap (λ r. before r (λ arrival. records_of ports types reader.floor (first_line reader left has some lacks).others (next_number reader.number) (Some arrival.time))) (same_record left))
+      ∙ ap (λ all. records_of ports types reader.floor all reader.number reader.last) (first_line reader line rest left has cut).cut
+      ∙ (ap (λ r. before r (λ arrival. records_of ports types reader.floor (first_line reader line rest left has cut).others (next_number reader.number) (Some arrival.time))) (same_record left))
 
   -- an offence
-  pub records-bad : (offence : InputEnd) (left : List ℕ) → held_record ports types reader ≡ Err offence → records ports types reader (to_come reader left) ≡ bad offence
+  pub records-bad : (offence : InputEnd) (left : List ℕ) → held_record ports types reader line ≡ Err offence → records ports types reader (to_come reader left) ≡ bad offence
   records-bad offence left is =
-      first_records left ∙ ap (λ r. before r (λ arrival. records_of ports types reader.floor (first_line reader left has some lacks).others (next_number reader.number) (Some arrival.time))) is
+      first_records left ∙ ap (λ r. before r (λ arrival. records_of ports types reader.floor (first_line reader line rest left has cut).others (next_number reader.number) (Some arrival.time))) is
 
   -- The line is whole where it is a record.
-  whole_line : (arrival : Arrival) (left : List ℕ) → held_record ports types reader ≡ Ok arrival →
-      ((first_line reader left has some lacks).others ≡ lines (behind reader.ended left)) × (behind_line (to_come reader left) ≡ behind reader.ended left)
+  whole_line : (arrival : Arrival) (left : List ℕ) → held_record ports types reader line ≡ Ok arrival →
+      ((first_line reader line rest left has cut).others ≡ lines (come reader.ended rest left)) × (behind_line (to_come reader left) ≡ come reader.ended rest left)
   whole_line arrival left is = ⊎_elim
       (λ p. (p.1, p.2))
-      (λ p. absurd (let long = long_record ports types (next_number reader.number) (max (unwrap_or reader.last 0) reader.floor) (without_last 10 reader.held) p.1 in cc))
-      (first_line reader left has some lacks).same
+      (λ p. absurd (let long = long_record ports types (next_number reader.number) (max (unwrap_or reader.last 0) reader.floor) line p.1 in cc))
+      (first_line reader line rest left has cut).same
+
+  rest_given : (arrival : Arrival) (left : List ℕ) → come reader.ended rest left ≡ to_come (given reader arrival) left
+  rest_given arrival left = ap (λ held. come reader.ended held left) (sym (rest_is reader line rest cut))
 
   -- a record
-  pub records-one : (arrival : Arrival) (left : List ℕ) → held_record ports types reader ≡ Ok arrival →
+  pub records-one : (arrival : Arrival) (left : List ℕ) → held_record ports types reader line ≡ Ok arrival →
       records ports types reader (to_come reader left) ≡ one arrival (records ports types (given reader arrival) (to_come (given reader arrival) left))
   records-one arrival left is =
       first_records left
-      ∙ ap (λ r. before r (λ a. records_of ports types reader.floor (first_line reader left has some lacks).others (next_number reader.number) (Some a.time))) is
-      ∙ ap (λ all. one arrival (records_of ports types reader.floor all (next_number reader.number) (Some arrival.time))) (whole_line arrival left is).0
+      ∙ ap (λ r. before r (λ a. records_of ports types reader.floor (first_line reader line rest left has cut).others (next_number reader.number) (Some a.time))) is
+      ∙ ap (λ all. one arrival (records_of ports types reader.floor all (next_number reader.number) (Some arrival.time))) ((whole_line arrival left is).0 ∙ ap lines (rest_given arrival left))
       ∙ ap (one arrival) (sym (records_lawful ports types (given reader arrival) (to_come (given reader arrival) left) lawful))
 
-  pub taken : (arrival : Arrival) (left : List ℕ) → held_record ports types reader ≡ Ok arrival → to_come (given reader arrival) left ≡ behind_line (to_come reader left)
-  taken arrival left is = sym (whole_line arrival left is).1
+  pub taken : (arrival : Arrival) (left : List ℕ) → held_record ports types reader line ≡ Ok arrival → to_come (given reader arrival) left ≡ behind_line (to_come reader left)
+  taken arrival left is = sym ((whole_line arrival left is).1 ∙ rest_given arrival left)
+
+  -- It is whole with its line feed where the input's end was not seen.
+  pub line-given : (arrival : Arrival) → held_record ports types reader line ≡ Ok arrival → reader.ended ≡ false → IsLineOf reader.held rest
+  line-given arrival is unended = ⊎_elim
+      (λ fed. record { line = line; is = fed; lacks = cut.lacks })
+      (λ whole.
+      let none : has_feed reader.held ≡ false = ap has_feed whole.0 ∙ ap is_some (position-none line cut.lacks) in
+      let test : nat_lt 65536 (length line) ≡ true = long_by (nat_lt 65536 (length line)) (
+      ap (λ feed. nat_lt 65536 (length line) || feed) (sym none)
+      ∙ ap (λ held. nat_lt 65536 (length held) || has_feed reader.held) (sym whole.0)
+      ∙ ap (λ ended. ended || nat_lt 65536 (length reader.held) || has_feed reader.held) (sym unended) ∙ has) in
+      let long : 65536 < length line = grind (arith, nat_tests) in
+      absurd (let bad = long_record ports types (next_number reader.number) (max (unwrap_or reader.last 0) reader.floor) line long in cc))
+      cut.cut
+    where
+      long_by : (long : Bool) → (long || false) ≡ true → long ≡ true
+      long_by true is = refl
+      long_by false is = is
 
 -- the reader after a record, field by field
-pub given_is : (reader : Reader) (arrival : Arrival) (held : List ℕ) (number : ℕ) → held ≡ [] → number ≡ next_number reader.number →
+pub given_is : (reader : Reader) (line rest : List ℕ) → Opens reader.held line rest → (arrival : Arrival) (held : List ℕ) (number : ℕ) → held ≡ rest → number ≡ next_number reader.number →
     (let new : Reader = record reader { held = held; number = number; last = Some arrival.time } in new) ≡ given reader arrival
-given_is reader arrival held number none next =
-    ap (λ h. let new : Reader = record reader { held = h; number = number; last = Some arrival.time } in new) none
-    ∙ ap (λ n. let new : Reader = record reader { held = []; number = n; last = Some arrival.time } in new) next
+given_is reader line rest cut arrival held number is next =
+    ap (λ h. let new : Reader = record reader { held = h; number = number; last = Some arrival.time } in new) (is ∙ sym (rest_is reader line rest cut))
+    ∙ ap (λ n. let new : Reader = record reader { held = behind_line reader.held; number = n; last = Some arrival.time } in new) next
 
-module _ (ports : List Field) (types : Types) (reader old : Reader) (is_old : reader ≡ old) (lawful : old.offence ≡ None) (has : has_line old ≡ true) (some : 0 < length reader.held)
-    (lacks : Lacks 10 (take (length reader.held - 1) reader.held)) where
+module _ (ports : List Field) (types : Types) (reader old : Reader) (is_old : reader ≡ old) (lawful : old.offence ≡ None) (has : has_line old ≡ true) (line rest : List ℕ) (cut : Opens reader.held line rest) where
   inside_lawful : reader.offence ≡ None
   inside_lawful = ap (λ r. r.offence) is_old ∙ lawful
 
@@ -241,42 +228,30 @@ module _ (ports : List Field) (types : Types) (reader old : Reader) (is_old : re
   inside_has = ap has_line is_old ∙ has
 
   -- what a call says that gives a record
-  pub gives_one : (new : Reader) (arrival : Arrival) (left : List ℕ) → new ≡ given reader arrival → held_record ports types reader ≡ Ok arrival →
+  pub gives_one : (new : Reader) (arrival : Arrival) (left : List ℕ) → new ≡ given reader arrival → held_record ports types reader line ≡ Ok arrival →
       records ports types old (to_come old left) ≡ one arrival (records ports types new (to_come new left))
   gives_one new arrival left is_new is =
       ap (λ r. records ports types r (to_come r left)) (sym is_old)
-      ∙ records-one ports types reader inside_lawful inside_has some lacks arrival left is
+      ∙ records-one ports types reader inside_lawful inside_has line rest cut arrival left is
       ∙ ap (λ r. one arrival (records ports types r (to_come r left))) (sym is_new)
 
-  pub gives_taken : (new : Reader) (arrival : Arrival) (left : List ℕ) → new ≡ given reader arrival → held_record ports types reader ≡ Ok arrival →
+  pub gives_taken : (new : Reader) (arrival : Arrival) (left : List ℕ) → new ≡ given reader arrival → held_record ports types reader line ≡ Ok arrival →
       to_come new left ≡ behind_line (to_come old left)
   gives_taken new arrival left is_new is =
-      ap (λ r. to_come r left) is_new ∙ taken ports types reader inside_lawful inside_has some lacks arrival left is
+      ap (λ r. to_come r left) is_new ∙ taken ports types reader inside_lawful inside_has line rest cut arrival left is
       ∙ ap (λ r. behind_line (to_come r left)) is_old
 
+  pub gives_line : (new : Reader) (arrival : Arrival) → new ≡ given reader arrival → held_record ports types reader line ≡ Ok arrival → old.ended ≡ false →
+      IsLineOf old.held new.held
+  gives_line new arrival is_new is unended =
+      subst (λ r. IsLineOf r.held new.held) is_old
+      (subst (λ rest. IsLineOf reader.held rest) (sym (rest_is reader line rest cut) ∙ ap (λ r. r.held) (sym is_new))
+      (line-given ports types reader inside_lawful inside_has line rest cut arrival is (ap (λ r. r.ended) is_old ∙ unended)))
+
   -- what a call says that answers an offence
-  pub gives_bad : (offence : InputEnd) (left : List ℕ) → held_record ports types reader ≡ Err offence → Tells (records ports types old (to_come old left)) (bad offence) (Err offence)
+  pub gives_bad : (offence : InputEnd) (left : List ℕ) → held_record ports types reader line ≡ Err offence → Tells (records ports types old (to_come old left)) (bad offence) (Err offence)
   gives_bad offence left is =
       Tells-bad (records ports types old (to_come old left)) (bad offence) offence
-      (line_record-offence ports types (next_number reader.number) (max (unwrap_or reader.last 0) reader.floor) (without_last 10 reader.held) offence is)
-      (ap (λ r. records ports types r (to_come r left)) (sym is_old) ∙ records-bad ports types reader inside_lawful inside_has some lacks offence left is)
+      (line_record-offence ports types (next_number reader.number) (max (unwrap_or reader.last 0) reader.floor) line offence is)
+      (ap (λ r. records ports types r (to_come r left)) (sym is_old) ∙ records-bad ports types reader inside_lawful inside_has line rest cut offence left is)
       refl
-
-no_line_parts : (one two three : Bool) → (one || two || three) ≡ false → (two ≡ false) × (three ≡ false)
-no_line_parts true two three none = absurd (cc)
-no_line_parts false true three none = absurd (cc)
-no_line_parts false false three none = (refl, none)
-
--- one byte more of a line that is not whole
-pub Holds-push : (reader : Reader) (room more : ℕ) (byte : ℕ) → has_line reader ≡ false → Holds reader.held room → room ≤ more → Holds (reader.held ++ byte ∷ []) more
-Holds-push reader room more byte has holds grows =
-    let parts = no_line_parts reader.ended (nat_lt 65536 (length reader.held)) (get_or reader.held (length reader.held - 1) 0 == 10) has in
-    let short : length reader.held ≤ 65536 = grind (arith, nat_tests) in
-    let size : length (reader.held ++ byte ∷ []) ≡ length reader.held + 1 = length-append reader.held (byte ∷ []) in
-    let less : length (reader.held ++ byte ∷ []) - 1 ≡ length reader.held = omega arith in
-    record {
-      roomy = omega (arith, holds.roomy, grows);
-      short = omega arith;
-      one = subst (Lacks 10) (sym (ap (λ n. take n (reader.held ++ byte ∷ [])) less ∙ take-append_seam reader.held (byte ∷ [])))
-          (Lacks-held reader.held holds.one parts.1);
-    }

@@ -1,7 +1,4 @@
-pub mod Cuts
+pub mod Feeds
 pub mod FirstLine
-pub mod ItemLists
-pub mod Items
 pub mod Moving
-pub mod RecordLines
-pub mod Times
+pub mod Views

@@ -1,29 +1,25 @@
 -- Bytes that move from a source to a reader.
-use Rattle.std.proofs.Common.{◌≡◌, ℕ, ◌-◌, false, ◌==◌, List, [], ◌∷◌, ◌++◌, ◌≤◌, length, get_or, take, drop, refl, sym, ◌∙◌, ap, subst, arith, append_assoc, length-append}
+use Rattle.std.proofs.Common.{◌≡◌, ℕ, ◌+◌, Bool, false, List, [], ◌∷◌, ◌++◌, ◌≤◌, length, take, drop, refl, sym, ◌∙◌, ap, subst, arith, append_assoc, length-append}
 use Rattle.std.specs.Prelude.{true, Option, Some, None, Result, Ok, Err, IfOk, IfSome, OnSome, IsSomeAnd, MatchOption}
 use Rattle.std.proofs.Math.Seq.{take-length, drop-append_seam}
-use Rattle.std.proofs.lemmas.List.{take-take, length-take, append-nil, take-append-drop, drop-append-le}
+use Rattle.std.proofs.lemmas.List.{take-take, length-take, length-drop, take-append-drop, drop-append-le}
 use Rattle.dsde_values.specs.declared.arrival.Arrival.{Arrival}
 use Rattle.dsde_values.specs.declared.types.Field.{Field}
 use Rattle.dsde_values.specs.declared.types.Types.{Types}
 use Rattle.dsde_input_records.specs.declared.end.InputEnd.{InputEnd}
-use Rattle.dsde_input.specs.Reader.{Reader, Moves, to_come, records, Tells, given, IsOneLine, TakesOfLine, TakesLine, SeesEnd}
-use Rattle.dsde_input_records.specs.Lines.{behind_line}
-use Rattle.dsde_input.proofs.Cuts.{Lacks-append}
-use Rattle.dsde_input.proofs.FirstLine.{behind_line-last, Fed, fed_by}
-
--- Nothing stands behind the last.
-drop_whole : (bytes : List ℕ) → drop (length bytes) bytes ≡ []
-drop_whole bytes = ap (drop (length bytes)) (sym (append-nil bytes)) ∙ drop-append_seam bytes []
+use Rattle.dsde_io.specs.Bytes as io
+use Rattle.dsde_input.specs.Reader.{Reader, Moves, to_come, records, Tells, has_line, with_more, given, IsLineOf, TakesOfLine, TakesLine, SeesEnd}
+use Rattle.dsde_input.proofs.Feeds.{drop_whole}
 
 -- Nothing moved.
 pub Moves-none : (reader : Reader) (left : Option (List ℕ)) → Moves reader reader left left
-Moves-none reader None = record { others = refl; front = take-length reader.held; told = tt; taken = tt }
+Moves-none reader None = record { others = refl; front = take-length reader.held; told = tt; taken = tt; unended = λ is. is }
 Moves-none reader (Some bytes) = record {
   others = refl;
   front = take-length reader.held;
   told = refl;
   taken = sym (ap (λ none. none ++ bytes) (drop_whole reader.held));
+  unended = λ is. is;
 }
 
 grown : (first second third : List ℕ) → take (length first) second ≡ first → take (length second) third ≡ second → take (length first) third ≡ first
@@ -46,6 +42,7 @@ Moves-then old mid new None between rest first second = record {
   front = grown old.held mid.held new.held first.front second.front;
   told = tt;
   taken = tt;
+  unended = λ is. first.unended (second.unended is);
 }
 Moves-then old mid new (Some before) None rest first second = absurd first.told
 Moves-then old mid new (Some before) (Some between) None first second = absurd second.told
@@ -58,6 +55,7 @@ Moves-then old mid new (Some before) (Some between) (Some after) first second = 
       ∙ ap (λ bytes. drop (length old.held) mid.held ++ bytes) second.taken
       ∙ sym (append_assoc (drop (length old.held) mid.held) (drop (length mid.held) new.held) after)
       ∙ ap (λ bytes. bytes ++ after) (sym (more_held old.held mid.held new.held first.front second.front));
+  unended = λ is. first.unended (second.unended is);
 }
 
 -- what is held is what was held, and then what was taken
@@ -65,48 +63,81 @@ held_more : (old mid : Reader) (left rest : Option (List ℕ)) → Moves old mid
 held_more old mid left rest moves =
     ap (λ front. front ++ drop (length old.held) mid.held) (sym moves.front) ∙ take-append-drop (length old.held) mid.held
 
--- What moved is of one line.
-pub TakesOfLine-moved : (old mid : Reader) (left rest : Option (List ℕ)) → Moves old mid left rest → IsOneLine mid.held → length mid.held ≤ 65537 →
-    IfSome left (λ before. IsSomeAnd rest (λ after. TakesOfLine old.held before after))
-TakesOfLine-moved old mid None rest moves one short = tt
-TakesOfLine-moved old mid (Some before) None moves one short = absurd moves.told
-TakesOfLine-moved old mid (Some before) (Some after) moves one short =
-    let held = held_more old mid (Some before) (Some after) moves in
-    record {
-      piece = drop (length old.held) mid.held;
-      split = moves.taken;
-      one = subst IsOneLine (sym held) one;
-      short = omega (arith, ap length held);
-    }
-
--- the bytes of one line, behind which nothing is missing
-line_whole : (held : List ℕ) → IsOneLine held → ((left : List ℕ) → left ≡ behind_line (held ++ left)) → Fed held
-line_whole held one rest = fed_by (get_or held (length held - 1) 0 == 10) held refl one (λ lacks.
-    let all : 1 ∷ [] ≡ [] = rest (1 ∷ []) ∙ behind_line-last (held ++ 1 ∷ []) (Lacks-append 10 held (1 ∷ []) lacks (λ same. absurd (cc), tt)) in absurd (cc))
-
 held_left : (reader : Reader) (left : List ℕ) → reader.ended ≡ false → to_come reader left ≡ reader.held ++ left
 held_left reader left unended = rw unended refl
 
--- What moved ends its line, where a record is given and the input's end was not seen.
-pub TakesLine-moved : (old mid new : Reader) (left rest : Option (List ℕ)) (arrival : Arrival) → Moves old mid left rest → IsOneLine mid.held → new ≡ given mid arrival →
-    ((left : List ℕ) → to_come new left ≡ behind_line (to_come mid left)) → new.ended ≡ false →
-    IfSome left (λ before. IsSomeAnd rest (λ after. TakesLine old.held before after))
-TakesLine-moved old mid new None rest arrival moves one is_given behind unended = tt
-TakesLine-moved old mid new (Some before) None arrival moves one is_given behind unended = absurd moves.told
-TakesLine-moved old mid new (Some before) (Some after) arrival moves one is_given behind unended =
-    let mid_open : mid.ended ≡ false = ap (λ r. r.ended) (sym is_given) ∙ unended in
-    let empty : new.held ≡ [] = ap (λ r. r.held) is_given in
-    let fed = line_whole mid.held one (λ left.
-    sym (held_left new left unended ∙ ap (λ held. held ++ left) empty) ∙ behind left ∙ ap behind_line (held_left mid left mid_open)) in
+-- A piece was read.
+pub Moves-piece : (old new : Reader) (left rest : Option (List ℕ)) → old.ended ≡ false → new ≡ (let r : Reader = record old { held = new.held } in r) → take (length old.held) new.held ≡ old.held →
+    io.Takes left rest (drop (length old.held) new.held) → Moves old new left rest
+Moves-piece old new None rest unended others front takes = record {
+  others = others ∙ ap (λ ended. let r : Reader = record old { held = new.held; ended = ended } in r) (ap (λ r. r.ended) (sym others));
+  front = front;
+  told = tt;
+  taken = tt;
+  unended = λ is. unended;
+}
+Moves-piece old new (Some before) None unended others front takes = absurd takes
+Moves-piece old new (Some before) (Some after) unended others front takes = record {
+  others = others ∙ ap (λ ended. let r : Reader = record old { held = new.held; ended = ended } in r) (ap (λ r. r.ended) (sym others));
+  front = front;
+  told =
+      held_left new after (ap (λ r. r.ended) others ∙ unended)
+      ∙ ap (λ held. held ++ after) (sym (take-append-drop (length old.held) new.held) ∙ ap (λ l. l ++ drop (length old.held) new.held) front)
+      ∙ append_assoc old.held (drop (length old.held) new.held) after
+      ∙ ap (λ l. old.held ++ l) (sym takes)
+      ∙ sym (held_left old before unended);
+  taken = takes;
+  unended = λ is. unended;
+}
+
+-- Nothing is taken of a line.
+pub TakesOfLine-none : (reader : Reader) (left : Option (List ℕ)) → IfSome left (λ before. IsSomeAnd left (λ after. TakesOfLine reader before after))
+TakesOfLine-none reader None = tt
+TakesOfLine-none reader (Some bytes) = record { of_line = []; piece = []; split = refl; size = omega arith; wanted = λ some. absurd (some refl) }
+
+-- what is not there yet
+pub lacking : (ended : Bool) (reader : Reader) → reader.ended ≡ ended → has_line reader ≡ false → reader.ended ≡ false
+lacking false reader is none = is
+lacking true reader is none = absurd (let has : has_line reader ≡ true = rw is refl in cc)
+
+-- A piece more is taken where the wanted line was not there.
+pub TakesOfLine-piece : (old mid new : Reader) (left between rest : Option (List ℕ)) → Moves old mid left between → Moves mid new between rest → has_line mid ≡ false →
+    length new.held ≤ length mid.held + 4096 → IfSome left (λ before. IsSomeAnd rest (λ after. TakesOfLine old before after))
+TakesOfLine-piece old mid new None between rest first second none size = tt
+TakesOfLine-piece old mid new (Some before) None rest first second none size = absurd first.told
+TakesOfLine-piece old mid new (Some before) (Some between) None first second none size = absurd second.told
+TakesOfLine-piece old mid new (Some before) (Some between) (Some after) first second none size =
+    let open_mid : mid.ended ≡ false = lacking mid.ended mid refl none in
+    let same : with_more old (drop (length old.held) mid.held) ≡ mid =
+    ap (λ held. let r : Reader = record old { held = held } in r) (held_more old mid (Some before) (Some between) first)
+    ∙ ap (λ ended. let r : Reader = record old { held = mid.held; ended = ended } in r) (first.unended open_mid ∙ sym open_mid)
+    ∙ sym first.others in
     record {
-      line = fed.line;
+      of_line = drop (length old.held) mid.held;
+      piece = drop (length mid.held) new.held;
       split =
-          ap (λ bytes. old.held ++ bytes) moves.taken
-          ∙ sym (append_assoc old.held (drop (length old.held) mid.held) after)
-          ∙ ap (λ bytes. bytes ++ after) (held_more old mid (Some before) (Some after) moves ∙ fed.is)
-          ∙ append_assoc fed.line (10 ∷ []) after;
-      lacks = fed.lacks;
+          first.taken ∙ ap (λ l. drop (length old.held) mid.held ++ l) second.taken
+          ∙ sym (append_assoc (drop (length old.held) mid.held) (drop (length mid.held) new.held) after);
+      size = omega (arith, size, length-drop (length mid.held) new.held);
+      wanted = λ some. ap has_line same ∙ none;
     }
+
+-- What moved ends its line, where a record is given and the input's end was not seen.
+pub TakesLine-moved : (old mid new : Reader) (left rest : Option (List ℕ)) → Moves old mid left rest → IsLineOf mid.held new.held → mid.ended ≡ false →
+    IfSome left (λ before. IsSomeAnd rest (λ after. TakesLine old new before after))
+TakesLine-moved old mid new None rest moves line unended = tt
+TakesLine-moved old mid new (Some before) None moves line unended = absurd moves.told
+TakesLine-moved old mid new (Some before) (Some after) moves line unended = record {
+  line = record {
+    line = line.line;
+    is =
+        ap (λ l. old.held ++ l) moves.taken ∙ sym (append_assoc old.held (drop (length old.held) mid.held) after)
+        ∙ ap (λ l. l ++ after) (held_more old mid (Some before) (Some after) moves ∙ line.is)
+        ∙ append_assoc line.line (10 ∷ new.held) after;
+    lacks = line.lacks;
+  };
+  unended = moves.unended unended;
+}
 
 -- The records to come stay the same, of the same bytes.
 moved_records : (ports : List Field) (types : Types) (old new : Reader) (bytes : List ℕ) → new ≡ (let r : Reader = record old { held = new.held; ended = new.ended } in r) → records ports types new bytes ≡ records ports types old bytes
@@ -123,14 +154,14 @@ Tells-moved ports types old mid new (Some before) (Some after) answer moves tell
     (moved_records ports types old mid (to_come mid after) moves.others ∙ ap (records ports types old) moves.told) (tells after)
 
 -- What an answer says of the bytes taken, where it is a record.
-pub line_answer : (old mid new : Reader) (left rest : Option (List ℕ)) (answer : Result (Option Arrival) InputEnd) → Moves old mid left rest → IsOneLine mid.held →
+pub line_answer : (old mid new : Reader) (left rest : Option (List ℕ)) (answer : Result (Option Arrival) InputEnd) → Moves old mid left rest →
     IfOk answer (λ found. MatchOption found ((new ≡ mid) × (mid.held ≡ []) × (mid.ended ≡ true)) (λ arrival. new ≡ given mid arrival)) →
-    IfOk answer (λ found. OnSome found ((bytes : List ℕ) → to_come new bytes ≡ behind_line (to_come mid bytes))) →
-    IfOk answer (λ found. OnSome found (new.ended ≡ false → IfSome left (λ before. IsSomeAnd rest (λ after. TakesLine old.held before after))))
-line_answer old mid new left rest (Ok (Some arrival)) moves one is_given behind =
-    TakesLine-moved old mid new left rest arrival moves one is_given behind
-line_answer old mid new left rest (Ok None) moves one is_given behind = tt
-line_answer old mid new left rest (Err end) moves one is_given behind = tt
+    IfOk answer (λ found. OnSome found (mid.ended ≡ false → IsLineOf mid.held new.held)) →
+    IfOk answer (λ found. OnSome found (new.ended ≡ false → IfSome left (λ before. IsSomeAnd rest (λ after. TakesLine old new before after))))
+line_answer old mid new left rest (Ok (Some arrival)) moves is_given line = λ unended.
+    let still : mid.ended ≡ false = sym (ap (λ r. r.ended) is_given) ∙ unended in TakesLine-moved old mid new left rest moves (line still) still
+line_answer old mid new left rest (Ok None) moves is_given line = tt
+line_answer old mid new left rest (Err end) moves is_given line = tt
 
 nothing : (bytes : List ℕ) → length bytes ≡ 0 → bytes ≡ []
 nothing [] size = refl

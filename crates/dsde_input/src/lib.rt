@@ -1,8 +1,8 @@
 //! The records of a run's input, read one after the other from a source.
 #![tactic(auto)]
 
-mod line;
-mod read_record;
+mod feed;
+mod held;
 mod reader;
 
 pub use dsde_input_records::InputEnd;

@@ -1,15 +1,17 @@
 //! The records of an input, one a call.
 
-ghost use Rattle.std.specs.Prelude.{◌≡◌, ◌<◌, ◌≤◌, true, false, List, ℕ, Some, None, [], length, IfOk, IfErr, OnOk, OnErr, IsErrOf, IfSome, IsSomeAnd, OnSome, MatchOption};
+ghost use Rattle.std.specs.Prelude.{◌≡◌, ◌<◌, ◌≤◌, ◌+◌, max, true, false, List, ℕ, Some, None, [], length, IfOk, IfErr, OnOk, OnErr, IsErrOf, IfSome, IsSomeAnd, OnSome, MatchOption};
 ghost use Rattle.dsde_values.specs.Value.{IsLawful};
 ghost use Rattle.dsde_values.specs.When.{IsMoment};
 ghost use Rattle.dsde_io.specs.Fault.{Rose};
 ghost use Rattle.dsde_input_records.specs.Lines.{behind_line};
 ghost use Rattle.dsde_input_records.specs.Record.{ArePorts, AreItems};
-ghost use Rattle.dsde_input.specs.Reader.{fresh, to_come, records, Tells, has_line, reads_left, IsOffence, Moves, given, IsOneLine, TakesOfLine, TakesLine, SeesEnd};
+ghost use Rattle.dsde_input.specs.Reader.{fresh, to_come, records, least_time, Tells, has_line, reads_left, IsOffence, Moves, given, IsLineOf, TakesOfLine, TakesLine, SeesEnd};
 
 use crate::InputEnd;
-use crate::line::{LONGEST_LINE, line_record, without_last};
+use crate::feed::{feed_at, line_sizes};
+use crate::held::Held;
+use dsde_input_parser::{LONGEST_LINE, line_record};
 use dsde_io::{Failed, Source};
 use dsde_values::{Arrival, Field, Memory, Seq, Types};
 use std::alloc::Global;
@@ -19,8 +21,10 @@ use std::marker::Model;
 #[derive(Debug, Drop)]
 pub struct InputReader {
     alloc: Global,
-    /// What was read of the wanted line; there is room for the longest, and one byte more.
-    held: Vec<u8>,
+    /// What was read and not given: bytes of the wanted line, and what came behind it.
+    held: Held,
+    /// So many of these bytes, from the front, have no line feed.
+    searched: usize,
     /// The number of the last line that was given.
     number: u64,
     /// The time of its record.
@@ -34,14 +38,15 @@ pub struct InputReader {
 }
 
 impl Model for InputReader {
-    ghost use Rattle.std.specs.Prelude.{◌≡◌, IfSome, vec_capacity};
-    ghost use Rattle.dsde_input.specs.Reader.{Reader, Holds, IsOffence};
+    ghost use Rattle.std.specs.Prelude.{◌≤◌, IfSome, length, take};
+    ghost use Rattle.dsde_input_records.specs.Lines.{Lacks};
+    ghost use Rattle.dsde_input.specs.Reader.{Reader, IsOffence};
 
     ghost Value = { Reader };
 
-    ghost view = { λ reader. record { held = reader.held.items; number = reader.number; last = reader.last; floor = reader.floor; ended = reader.ended; offence = reader.offence } };
+    ghost view = { λ reader. record { held = reader.held; number = reader.number; last = reader.last; floor = reader.floor; ended = reader.ended; offence = reader.offence } };
 
-    ghost invariant = { λ reader. Holds reader.held.items (vec_capacity reader.held) × IfSome reader.offence IsOffence };
+    ghost invariant = { λ reader. (reader.searched ≤ length reader.held) × Lacks 10 (take reader.searched reader.held) × IfSome reader.offence IsOffence };
 }
 
 impl InputReader {
@@ -51,7 +56,8 @@ impl InputReader {
     {
         Ok(InputReader {
             alloc,
-            held: Vec::with_capacity(alloc, LONGEST_LINE + 1)?,
+            held: Held::new(alloc)?,
+            searched: 0,
             number: 0,
             last: None,
             floor: 0,
@@ -79,8 +85,8 @@ impl InputReader {
             Tells (records ports.now types.now self.old (to_come self.old before))
             (records ports.now types.now self.new (to_come self.new after)) result)) }
 
-        // After a record no byte is held, and those of its line, with its line feed, are gone.
-        ensures given { IfOk result (λ found. IfSome found (λ arrival. self.new ≡ record (given self.old arrival) { ended = self.new.ended })) }
+        // After a record those bytes are gone that are of its line, with its line feed.
+        ensures given { IfOk result (λ found. IfSome found (λ arrival. self.new ≡ record (given self.old arrival) { held = self.new.held; ended = self.new.ended })) }
         ensures taken { IfOk result (λ found. OnSome found (IfSome (R.left source.old) (λ before. IsSomeAnd (R.left source.new) (λ after.
             to_come self.new after ≡ behind_line (to_come self.old before))))) }
         ensures end { result ≡ Ok None → self.new ≡ record self.old { held = []; ended = true } }
@@ -89,15 +95,16 @@ impl InputReader {
         ensures stays { IfErr result (λ end. IsOffence end → self.new.offence ≡ Some end) }
         ensures again { IfSome self.old.offence (λ offence. (result ≡ Err offence) × (self.new ≡ self.old) × (source.new ≡ source.old)) }
 
-        // A record's time is one of a run, and its items come by the ports.
+        // A record's time is one of a run, and not before that of the last record or the floor; its items come by the ports.
         ensures early { IfOk result (λ found. IfSome found (λ arrival. IsMoment arrival.time)) }
+        ensures late { IfOk result (λ found. IfSome found (λ arrival. least_time self.old ≤ arrival.time)) }
         ensures fits { IfOk result (λ found. IfSome found (λ arrival. AreItems ports.now types.now arrival.items)) }
 
-        // No byte is taken that the wanted line does not need: a line that is too long is refused
-        // as soon as 65,537 of its bytes were seen.
-        ensures of_line { IfSome (R.left source.old) (λ before. IsSomeAnd (R.left source.new) (λ after. TakesOfLine self.old.held before after)) }
+        // One read asks for at most 4,096 bytes, and none is made where the wanted line is there:
+        // a line that is too long is refused as soon as 65,537 of its bytes were seen.
+        ensures of_line { IfSome (R.left source.old) (λ before. IsSomeAnd (R.left source.new) (λ after. TakesOfLine self.old before after)) }
         ensures line { IfOk result (λ found. OnSome found (self.new.ended ≡ false
-            → IfSome (R.left source.old) (λ before. IsSomeAnd (R.left source.new) (λ after. TakesLine self.old.held before after)))) }
+            → IfSome (R.left source.old) (λ before. IsSomeAnd (R.left source.new) (λ after. TakesLine self.old self.new before after)))) }
 
         // The end of the input is seen only where no byte is left.
         ensures over { IfOk result (λ _. SeesEnd self.old self.new (R.left source.old) (R.left source.new)) }
@@ -119,47 +126,59 @@ impl InputReader {
         self.give(ports, types)
     }
 
+    /// Lets no record come before this time.
+    pub fn raise_floor(&mut self, time: u64)
+        ensures { self.new ≡ record self.old { floor = max self.old.floor time } }
+    {
+        self.floor = self.floor.max(time);
+    }
+
     /// Reads until all is there that the wanted line needs.
     fn fill<R: Source>(&mut self, source: &mut R) -> Result<(), Failed>
         ensures moves { Moves self.old self.new (R.left source.old) (R.left source.new) }
         ensures whole { OnOk result (has_line self.new ≡ true) }
         ensures wanted { OnErr result ((has_line self.old ≡ false) × (has_line self.new ≡ false)) }
-        ensures one { IsOneLine self.new.held }
-        ensures short { length self.new.held ≤ 65537 }
+        ensures of_line { IfSome (R.left source.old) (λ before. IsSomeAnd (R.left source.new) (λ after. TakesOfLine self.old before after)) }
         ensures cause { OnErr result (Rose (R.faults source.old) (R.faults source.new)) }
         ensures counted { R.faults source.old ≤ R.faults source.new }
         ensures idle { has_line self.old ≡ true → (self.new ≡ self.old) × (source.new ≡ source.old) }
     {
-        while !self.has_line() {
-            self.read_byte(source)?;
+        while !self.look() {
+            self.read_piece(source)?;
         }
         Ok(())
     }
 
-    /// Whether all is there that the wanted line needs.
-    fn has_line(&self) -> bool
-        ensures answer { result ≡ has_line self.now }
-        ensures one { IsOneLine self.now.held }
-        ensures short { length self.now.held ≤ 65537 }
+    /// Whether all is there that the wanted line needs. What was searched is not searched again.
+    fn look(&mut self) -> bool
+        ensures answer { result ≡ has_line self.old }
+        ensures same { self.new ≡ self.old }
     {
-        self.ended || self.held.len() > LONGEST_LINE || self.held.last() == Some(&b'\n')
+        let held = self.held.as_slice();
+        match feed_at(held, self.searched) {
+            Some(at) => {
+                self.searched = at;
+                true
+            }
+            None => {
+                self.searched = held.len();
+                self.ended || held.len() > LONGEST_LINE
+            }
+        }
     }
 
-    /// Reads a byte of the wanted line, or sees the end of the input.
-    fn read_byte<R: Source>(&mut self, source: &mut R) -> Result<(), Failed>
+    /// Reads a piece behind what is held, or sees the end of the input.
+    fn read_piece<R: Source>(&mut self, source: &mut R) -> Result<(), Failed>
         requires { has_line self.old ≡ false }
         ensures moves { Moves self.old self.new (R.left source.old) (R.left source.new) }
+        ensures piece { length self.new.held ≤ length self.old.held + 4096 }
         ensures fewer { OnOk result (reads_left self.new < reads_left self.old) }
         ensures kept { OnErr result (self.new ≡ self.old) }
         ensures cause { OnErr result (Rose (R.faults source.old) (R.faults source.new)) }
         ensures counted { R.faults source.old ≤ R.faults source.new }
     {
-        let mut piece = [0];
-        let count = source.read(&mut piece)?;
-        if count == 0 {
+        if self.held.read(source)? == 0 {
             self.ended = true;
-        } else {
-            self.held.push(piece[0]).unwrap();
         }
         Ok(())
     }
@@ -175,21 +194,25 @@ impl InputReader {
             (records ports.now types.now self.new (to_come self.new left)) result }
         ensures given { IfOk result (λ found. MatchOption found ((self.new ≡ self.old) × (self.old.held ≡ []) × (self.old.ended ≡ true)) (λ arrival. self.new ≡ given self.old arrival)) }
         ensures taken { IfOk result (λ found. OnSome found ((left : List ℕ) → to_come self.new left ≡ behind_line (to_come self.old left))) }
+        ensures line { IfOk result (λ found. OnSome found (self.old.ended ≡ false → IsLineOf self.old.held self.new.held)) }
         ensures early { IfOk result (λ found. IfSome found (λ arrival. IsMoment arrival.time)) }
+        ensures late { IfOk result (λ found. IfSome found (λ arrival. least_time self.old ≤ arrival.time)) }
         ensures fits { IfOk result (λ found. IfSome found (λ arrival. AreItems ports.now types.now arrival.items)) }
         ensures stays { IfErr result (λ end. IsOffence end → self.new.offence ≡ Some end) }
         ensures memory { IsErrOf result InputEnd.Memory → self.new ≡ self.old }
         ensures no_fault { ¬ (IsErrOf result InputEnd.ReadFault) }
     {
-        if self.held.is_empty() {
+        let held = self.held.as_slice();
+        if held.is_empty() {
             return Ok(None);
         }
+        let (size, whole) = line_sizes(held, self.searched);
         let number = self.number.saturating_add(1);
         let least = self.last.unwrap_or(0).max(self.floor);
-        let line = without_last(self.held.as_slice(), b'\n');
-        match line_record(self.alloc, line, number, least, ports, types)? {
+        match line_record(self.alloc, &held[..size], number, least, ports, types)? {
             Ok(arrival) => {
-                self.held.clear();
+                self.held.pass(whole);
+                self.searched = 0;
                 self.number = number;
                 self.last = Some(arrival.time);
                 Ok(Some(arrival))

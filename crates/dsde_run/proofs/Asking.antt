@@ -1,105 +1,72 @@
 -- What asking for the head of an input does, from what the reader says of it.
-use Rattle.std.proofs.Common.{◌≡◌, ◌≢◌, ◌==◌, ◌||◌, ◌-◌, ◌+◌, ℕ, Bool, true, false, nat_lt, List, [], ◌∷◌, ◌++◌, length, get_or, drop, refl, sym, ◌∙◌, ap, subst, arith, append_assoc, length-append}
-use Rattle.std.specs.Prelude.{Option, Some, None, Ok, Err, IfSome, IsSomeAnd, OnSome, is_some}
-use Rattle.std.proofs.lemmas.List.{append_cancel_right}
+use Rattle.std.proofs.Common.{◌≡◌, ◌≢◌, ℕ, ◌+◌, Bool, true, false, List, [], ◌∷◌, ◌++◌, length, take, drop, refl, sym, ◌∙◌, ap, subst, arith, append_assoc}
+use Rattle.std.specs.Prelude.{Option, Some, None, Result, Ok, Err, IfSome, IsSomeAnd}
+use Rattle.std.proofs.lemmas.List.{append_cancel_right, take-append-drop}
 use Rattle.dsde_values.specs.declared.arrival.Arrival.{Arrival}
+use Rattle.dsde_values.specs.declared.types.Field.{Field}
+use Rattle.dsde_values.specs.declared.types.Types.{Types}
 use Rattle.dsde_input_records.specs.declared.end.InputEnd.{InputEnd}
 use Rattle.dsde_input_records.specs.declared.end.InputEnd.TheVariants as input_end
 use Rattle.dsde_input_records.specs.Records.{Records, end, bad, one}
-use Rattle.dsde_input.specs.Reader.{Reader, to_come, records, has_line, IsOffence, IsOneLine, Moves, TakesOfLine, TakesLine, SeesEnd}
+use Rattle.dsde_input.specs.Reader.{Reader, to_come, records, has_line, IsOffence, Moves, TakesOfLine, TakesLine, SeesEnd}
 use Rattle.dsde_input.specs.Reader as input
-use Rattle.dsde_run.specs.Heads.{Heads}
-use Rattle.dsde_run.specs.Heads.{IsReady, Takes, Gives, Asked, Refused, behind_head}
-use Rattle.dsde_run.specs.Reading.{Told, feeds, front}
-use Rattle.dsde_run.proofs.Feeds.{feeds-append, feeds-lacks, feeds-unended}
-
--- a list that another does not lengthen is empty
-nothing_before : (piece bytes : List ℕ) → bytes ≡ piece ++ bytes → piece ≡ []
-nothing_before [] bytes same = refl
-nothing_before (byte ∷ piece) bytes same =
-    let size = ap length same in absurd (omega (arith, size, length-append (byte ∷ piece) bytes))
-
--- there is none where none is there
-pub none_of : (head : Option Arrival) → is_some head ≡ false → head ≡ None
-none_of None is = refl
-none_of (Some arrival) is = absurd (cc)
-
--- whether the end was seen, the wanted line is there
-seen_line : (reader : Reader) → reader.ended ≡ true → has_line reader ≡ true
-seen_line reader seen = rw seen refl
+use Rattle.dsde_run.specs.declared.run.Head.{Head}
+use Rattle.dsde_run.specs.declared.run.Head.TheVariants.{Wanted, Over, Is}
+use Rattle.dsde_declared.specs.Models.{top_ins, types_of}
+use Rattle.dsde_run.specs.Run.{Running}
+use Rattle.dsde_run.specs.Steps.{Asked, Refused, to_give}
+use Rattle.dsde_run.specs.Reading.{Told, feeds}
+use Rattle.dsde_run.proofs.Feeds.{feeds-append, feeds-lacks, feeds-none, line_parts, seen_line}
 
 some_same : (first second : List ℕ) → Some first ≡ Some second → first ≡ second
 some_same first second same = cc same
 
--- nothing is taken where the end was seen
-none_seen : (ended : Bool) (reader : Reader) (piece before after : List ℕ) → reader.ended ≡ ended → before ≡ piece ++ after →
-    (has_line reader ≡ true → Some after ≡ Some before) → piece ≢ [] → reader.ended ≡ false
-none_seen false reader piece before after is split idle some = is
-none_seen true reader piece before after is split idle some =
-    let same : after ≡ before = some_same after before (idle (seen_line reader is)) in
-    absurd (some (nothing_before piece after (same ∙ split)))
+-- where the end is seen nothing is left
+read_out_by : (ended : Bool) (old new : Reader) (before after : List ℕ) → old.ended ≡ ended → (has_line old ≡ true → Some after ≡ Some before) → SeesEnd old new (Some before) (Some after) →
+    (old.ended ≡ true → before ≡ []) → new.ended ≡ true → after ≡ []
+read_out_by false old new before after is idle sees empty over = sees is over
+read_out_by true old new before after is idle sees empty over = some_same after before (idle (seen_line old is)) ∙ empty is
 
--- the bytes of one line that were taken
-abbrev takes : (reader : Reader) (before after : List ℕ) → IsReady reader → TakesOfLine reader.held before after → (has_line reader ≡ true → Some after ≡ Some before) → Takes reader before after
-takes reader before after ready line idle =
-    let single : IsOneLine line.piece = subst (λ held. IsOneLine (held ++ line.piece)) ready.empty line.one in
-    record {
-      piece = line.piece;
-      split = line.split;
-      one_line = feeds-lacks (front line.piece) single;
-      unended = none_seen reader.ended reader line.piece before after refl line.split idle;
-    }
-
--- at the end of the input there is no record to come
-pub none_to_come : (heads : Heads) (left : List ℕ) → IsReady heads.reader → heads.reader.ended ≡ true → behind_head heads left ≡ end
-none_to_come heads left ready seen = rw (seen, ready.lawful, ready.empty) refl
-
--- where something is to come, the end was not seen
-unended_by : (ended : Bool) (heads : Heads) (left : List ℕ) → heads.reader.ended ≡ ended → IsReady heads.reader → behind_head heads left ≢ end → heads.reader.ended ≡ false
-unended_by false heads left is ready some = is
-unended_by true heads left is ready some = absurd (some (none_to_come heads left ready is))
-
-abbrev pub asked_heads : Heads → Reader → Option Arrival → Heads
-asked_heads heads reader found = record heads { reader = reader; head = found }
+-- how many line feeds are taken with a line
+line-counted : (old new : Reader) (before after : List ℕ) → (takes : TakesOfLine old before after) → (line : TakesLine old new before after) →
+    feeds (old.held ++ (takes.of_line ++ takes.piece)) ≡ 1 + feeds new.held
+line-counted old new before after takes line =
+    let is : old.held ++ (takes.of_line ++ takes.piece) ≡ line.line.line ++ 10 ∷ new.held =
+    append_cancel_right (old.held ++ (takes.of_line ++ takes.piece)) (line.line.line ++ 10 ∷ new.held) after
+    (append_assoc old.held (takes.of_line ++ takes.piece) after ∙ ap (λ l. old.held ++ l) (sym takes.split) ∙ line.line.is ∙ sym (append_assoc line.line.line (10 ∷ new.held) after)) in
+    ap feeds is ∙ feeds-append line.line.line (10 ∷ new.held) ∙ ap (λ n. n + (1 + feeds new.held)) (feeds-lacks line.line.line line.line.lacks) ∙ omega arith
 
 -- A record came.
-gives : (heads : Heads) (reader : Reader) (arrival : Arrival) (before after : List ℕ) → IsReady heads.reader →
-    behind_head heads before ≡ one arrival (behind_head (asked_heads heads reader (Some arrival)) after) →
-    TakesOfLine heads.reader.held before after → (reader.ended ≡ false → TakesLine heads.reader.held before after) →
-    (has_line heads.reader ≡ true → Some after ≡ Some before) → (heads.reader.ended ≡ false → reader.ended ≡ true → after ≡ []) →
-    Gives heads (asked_heads heads reader (Some arrival)) arrival before after
-gives heads reader arrival before after ready first of_line line idle over = record {
-  takes = takes heads.reader before after ready of_line idle;
-  first = first;
-  unended = unended_by heads.reader.ended heads before refl ready (λ none. let both = sym first ∙ none in absurd (cc both));
-  last = over (unended_by heads.reader.ended heads before refl ready (λ none. let both = sym first ∙ none in absurd (cc both)));
-  whole = λ unended.
-      let all = line unended in
-      let is_all : of_line.piece ≡ all.line ++ 10 ∷ [] = append_cancel_right of_line.piece (all.line ++ 10 ∷ []) after
-      (sym of_line.split ∙ subst (λ held. held ++ before ≡ all.line ++ 10 ∷ after) ready.empty all.split ∙ sym (append_assoc all.line (10 ∷ []) after)) in
-      ap feeds is_all ∙ feeds-append all.line (10 ∷ []) ∙ ap (λ count. count + 1) (feeds-lacks all.line all.lacks);
+pub asked-one : (own : Running) (old new : Reader) (arrival : Arrival) (left rest : Option (List ℕ)) →
+    IfSome left (λ before. IsSomeAnd rest (λ after. input.Tells (to_give own old before) (to_give own new after) (Ok (Some arrival)))) →
+    IfSome left (λ before. IsSomeAnd rest (λ after. TakesOfLine old before after)) →
+    (new.ended ≡ false → IfSome left (λ before. IsSomeAnd rest (λ after. TakesLine old new before after))) →
+    (has_line old ≡ true → rest ≡ left) → SeesEnd old new left rest → Told left rest (Asked own old new (Is arrival))
+asked-one own old new arrival None rest tells of_line line idle sees = tt
+asked-one own old new arrival (Some before) None tells of_line line idle sees = absurd tells
+asked-one own old new arrival (Some before) (Some after) tells of_line line idle sees = record {
+  takes = of_line;
+  is = λ same. absurd (cc same);
+  first = tells;
+  counted = λ other same unended. ((line unended).unended, line-counted old new before after of_line (line unended));
+  over = λ same. absurd (cc same);
+  read_out = read_out_by old.ended old new before after refl idle sees;
 }
 
--- What asking does where there was no head.
-pub asked : (heads : Heads) (reader : Reader) (found : Option Arrival) (left rest : Option (List ℕ)) → IsReady heads.reader →
-    IfSome left (λ before. IsSomeAnd rest (λ after.
-    input.Tells (records heads.ports heads.types heads.reader (to_come heads.reader before)) (records heads.ports heads.types reader (to_come reader after)) (Ok found))) →
-    IfSome left (λ before. IsSomeAnd rest (λ after. TakesOfLine heads.reader.held before after)) →
-    OnSome found (reader.ended ≡ false → IfSome left (λ before. IsSomeAnd rest (λ after. TakesLine heads.reader.held before after))) →
-    (found ≡ None → reader.ended ≡ true) →
-    (has_line heads.reader ≡ true → rest ≡ left) →
-    SeesEnd heads.reader reader left rest →
-    Told left rest (Asked None found heads (asked_heads heads reader found))
-asked heads reader found None rest ready tells of_line line over idle sees = tt
-asked heads reader found (Some before) None ready tells of_line line over idle sees = absurd of_line
-asked heads reader (Some arrival) (Some before) (Some after) ready tells of_line line over idle sees =
-    gives heads reader arrival before after ready tells of_line line idle sees
-asked heads reader None (Some before) (Some after) ready tells of_line line over idle sees = record {
-  takes = takes heads.reader before after ready of_line idle;
-  before_end = tells.0;
-  at_end = tells.1;
-  over = over refl;
-  read_out = λ unended. sees unended (over refl);
+-- The input is at its end.
+pub asked-over : (own : Running) (old new : Reader) (left rest : Option (List ℕ)) →
+    IfSome left (λ before. IsSomeAnd rest (λ after. input.Tells (to_give own old before) (to_give own new after) (Ok None))) →
+    IfSome left (λ before. IsSomeAnd rest (λ after. TakesOfLine old before after)) →
+    new.ended ≡ true → (has_line old ≡ true → rest ≡ left) → SeesEnd old new left rest → Told left rest (Asked own old new Over)
+asked-over own old new None rest tells of_line ended idle sees = tt
+asked-over own old new (Some before) None tells of_line ended idle sees = absurd tells
+asked-over own old new (Some before) (Some after) tells of_line ended idle sees = record {
+  takes = of_line;
+  is = λ same. absurd (cc same);
+  first = tells.0 ∙ sym tells.1;
+  counted = λ other same unended. absurd (cc same);
+  over = λ same. (tells.1, ended);
+  read_out = read_out_by old.ended old new before after refl idle sees;
 }
 
 -- an offence is the first of what is to come
@@ -110,40 +77,34 @@ told_bad (input_end.LineTooLong line) old new is tells = tells.0
 told_bad input_end.ReadFault old new is tells = absurd is
 told_bad input_end.Memory old new is tells = absurd is
 
-no_line_parts : (first second third : Bool) → (first || second || third) ≡ false → (first ≡ false) × (third ≡ false)
-no_line_parts true second third none = absurd (cc)
-no_line_parts false true third none = absurd (cc)
-no_line_parts false false third none = (refl, none)
-
-line_parts : (reader : Reader) → has_line reader ≡ false → (reader.ended ≡ false) × ((get_or reader.held (length reader.held - 1) 0 == 10) ≡ false)
-line_parts reader none = no_line_parts reader.ended (nat_lt 65536 (length reader.held)) (get_or reader.held (length reader.held - 1) 0 == 10) none
-
 -- what was taken of a line that is not whole has no line feed
-unread : (old new : Reader) (before after : List ℕ) → IsReady old → (line : TakesOfLine old.held before after) → Moves old new (Some before) (Some after) → has_line new ≡ false → feeds line.piece ≡ 0
-unread old new before after ready line moves none =
-    let held : before ≡ new.held ++ after = subst (λ bytes. before ≡ drop (length bytes) new.held ++ after) ready.empty moves.taken in
-    let is : line.piece ≡ new.held = append_cancel_right line.piece new.held after (sym line.split ∙ held) in
-    let single : IsOneLine new.held = subst IsOneLine is (subst (λ bytes. IsOneLine (bytes ++ line.piece)) ready.empty line.one) in
-    ap feeds is ∙ feeds-unended new.held single (line_parts new none).1
+unread : (old new : Reader) (before after : List ℕ) → (takes : TakesOfLine old before after) → Moves old new (Some before) (Some after) → has_line new ≡ false →
+    feeds (old.held ++ (takes.of_line ++ takes.piece)) ≡ 0
+unread old new before after takes moves none =
+    let piece : takes.of_line ++ takes.piece ≡ drop (length old.held) new.held =
+    append_cancel_right (takes.of_line ++ takes.piece) (drop (length old.held) new.held) after (sym takes.split ∙ moves.taken) in
+    let held : old.held ++ (takes.of_line ++ takes.piece) ≡ new.held =
+    ap (λ l. old.held ++ l) piece ∙ ap (λ l. l ++ drop (length old.held) new.held) (sym moves.front) ∙ take-append-drop (length old.held) new.held in
+    ap feeds held ∙ feeds-none new.held (line_parts new none).1
 
 -- What asking answers where it is refused.
-pub refused : (heads : Heads) (reader : Reader) (why : InputEnd) (left rest : Option (List ℕ)) → heads.head ≡ None → IsReady heads.reader →
-    IfSome left (λ before. IsSomeAnd rest (λ after.
-    input.Tells (records heads.ports heads.types heads.reader (to_come heads.reader before)) (records heads.ports heads.types reader (to_come reader after)) (Err why))) →
-    IfSome left (λ before. IsSomeAnd rest (λ after. TakesOfLine heads.reader.held before after)) →
-    (why ≡ input_end.ReadFault → Moves heads.reader reader left rest) →
-    (why ≡ input_end.ReadFault → (has_line heads.reader ≡ false) × (has_line reader ≡ false)) →
-    (has_line heads.reader ≡ true → rest ≡ left) →
-    Told left rest (Refused heads why)
-refused heads reader why None rest none ready tells of_line moves unread_line idle = tt
-refused heads reader why (Some before) None none ready tells of_line moves unread_line idle = absurd of_line
-refused heads reader why (Some before) (Some after) none ready tells of_line moves unread_line idle = record {
-  takes = takes heads.reader before after ready of_line idle;
-  none = none;
-  offence = λ is.
-      let first = told_bad why (behind_head heads before) (records heads.ports heads.types reader (to_come reader after)) is tells in
-      (unended_by heads.reader.ended heads before refl ready (λ nothing. let both = sym first ∙ nothing in absurd (cc both)), first);
-  unread = λ is.
-      let parts = unread_line is in
-      ((line_parts heads.reader parts.0).0, unread heads.reader reader before after ready of_line (moves is) parts.1);
+pub refused : (own : Running) (old new : Reader) (why : InputEnd) (left rest : Option (List ℕ)) →
+    IfSome left (λ before. IsSomeAnd rest (λ after. input.Tells (to_give own old before) (to_give own new after) (Err why))) →
+    IfSome left (λ before. IsSomeAnd rest (λ after. TakesOfLine old before after)) →
+    (why ≡ input_end.ReadFault → Moves old new left rest) → (why ≡ input_end.ReadFault → (has_line old ≡ false) × (has_line new ≡ false)) →
+    Told left rest (Refused own old why)
+refused own old new why None rest tells of_line moves unread_line = tt
+refused own old new why (Some before) None tells of_line moves unread_line = absurd of_line
+refused own old new why (Some before) (Some after) tells of_line moves unread_line = record {
+  takes = of_line;
+  offence = λ is. told_bad why (to_give own old before) (to_give own new after) is tells;
+  unread = λ is. ((line_parts old (unread_line is).0).0, unread old new before after of_line (moves is) (unread_line is).1);
 }
+
+-- The ports and the types are those of the model that runs.
+pub of_model : (own : Running) (old new : Reader) (ports : List Field) (types : Types) (answer : Result (Option Arrival) InputEnd) (left rest : Option (List ℕ)) → ports ≡ (top_ins own.model) → types ≡ types_of own.model →
+    IfSome left (λ before. IsSomeAnd rest (λ after. input.Tells (records ports types old (to_come old before)) (records ports types new (to_come new after)) answer)) →
+    IfSome left (λ before. IsSomeAnd rest (λ after. input.Tells (to_give own old before) (to_give own new after) answer))
+of_model own old new ports types answer left rest is_ports is_types tells =
+    subst (λ (ports : List Field). IfSome left (λ before. IsSomeAnd rest (λ after. input.Tells (records ports (types_of own.model) old (to_come old before)) (records ports (types_of own.model) new (to_come new after)) answer))) is_ports
+    (subst (λ (types : Types). IfSome left (λ before. IsSomeAnd rest (λ after. input.Tells (records ports types old (to_come old before)) (records ports types new (to_come new after)) answer))) is_types tells)

@@ -1,5 +1,5 @@
 -- What comes by the in ports of a model comes to the root of its tree.
-use Rattle.std.proofs.Common.{◌≡◌, ℕ, false, List, [], ◌∷◌, Option, Some, None, slice_get, ap, subst, ◌∙◌, arith}
+use Rattle.std.proofs.Common.{◌≡◌, ℕ, false, List, [], ◌∷◌, Option, Some, None, slice_get, ap, sym, subst, ◌∙◌, arith}
 use Rattle.std.specs.Prelude.{All, IfSome, suc}
 use Rattle.std.specs.Option.{option_map_or}
 use Rattle.dsde_values.specs.declared.arrival.Arrival.{Arrival}
@@ -18,9 +18,10 @@ use Rattle.dsde_sound_places.specs.Laws.{BodiesStand}
 use Rattle.dsde_system.specs.Plans.{ways}
 use Rattle.dsde_sim_tree.specs.declared.sim.Sim.{Sim}
 use Rattle.dsde_sim_tree.specs.Tree.{model_of}
-use Rattle.dsde_run.specs.Heads.{Comes}
 use Rattle.dsde_run.specs.Run.{Running}
-use Rattle.dsde_run.specs.Steps.{ItemsCome}
+use Rattle.dsde_run.specs.Steps.{ComesBy, IsRoot, ItemsCome}
+use Rattle.dsde_syntax.specs.declared.decl.Model.{Model}
+use Rattle.dsde_sim_turns.specs.Engine.{Engine}
 
 -- items with values of their ports' types
 all-sent : (ports : List Field) (types : Types) (items : List Item) → All (IsItem ports types) items → AllSent types ports items
@@ -32,7 +33,7 @@ all-sent ports types (item ∷ items) all =
     )
 
 module _ (bodies : BodiesStand) (declared : TopIsDeclared) (own : Running) (right : IsRight own.model) where
-  comes-root : (root : ModelId) (head : Arrival) → root ≡ top_number own.model → Comes (top_ins own.model) (types_of own.model) head → sim.Comes own.model root head
+  comes-root : (root : ModelId) (head : Arrival) → root ≡ top_number own.model → ComesBy own head → sim.Comes own.model root head
   comes-root root head is_root comes =
       let number : ℕ = (top_number own.model).0 in
       let has = bodies own.model number right (declared own.model right) in
@@ -47,10 +48,17 @@ module _ (bodies : BodiesStand) (declared : TopIsDeclared) (own : Running) (righ
       }
 
   comes-tree : (tree : Option Sim) (head : Option Arrival) → IfSome tree (λ tree. model_of tree ≡ top_number own.model) →
-      IfSome head (Comes (top_ins own.model) (types_of own.model)) → IfSome tree (λ tree. IfSome head (sim.Comes own.model (model_of tree)))
+      IfSome head (ComesBy own) → IfSome tree (λ tree. IfSome head (sim.Comes own.model (model_of tree)))
   comes-tree None head root comes = tt
   comes-tree (Some tree) None root comes = tt
   comes-tree (Some tree) (Some head) root comes = comes-root (model_of tree) head root comes
 
   pub items-come : ItemsCome own
   items-come engine head root comes = comes-tree engine.tree head root comes
+
+-- what comes to the root comes to the engine of the program
+pub head-comes : (own : Running) (program : Model) (engine : Engine) (found head : Option Arrival) → ItemsCome own → program ≡ own.model → found ≡ head →
+    IsRoot own engine → IfSome head (ComesBy own) → sim.HeadComes (sim.working program engine) found
+head-comes own program engine found head come is_program is_head root comes =
+    subst (λ (program : Model). sim.HeadComes (sim.working program engine) found) (sym is_program)
+    (subst (λ (found : Option Arrival). sim.HeadComes (sim.working own.model engine) found) (sym is_head) (come engine head root comes))

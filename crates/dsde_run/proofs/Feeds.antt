@@ -1,11 +1,12 @@
 -- Counting line feeds.
-use Rattle.std.proofs.Common.{◌≡◌, ℕ, ◌+◌, ◌-◌, ◌<◌, false, ◌==◌, List, [], ◌∷◌, ◌++◌, length, get_or, take, refl, sym, ◌∙◌, ap, arith, length-append}
-use Rattle.std.proofs.lemmas.List.{take_more}
+use Rattle.std.proofs.Common.{◌≡◌, ℕ, ◌+◌, Bool, true, false, ◌==◌, ◌||◌, nat_lt, List, [], ◌∷◌, ◌++◌, length, refl, sym, ◌∙◌, ap, arith, Option, Some, None}
+use Rattle.std.specs.Prelude.{is_some}
+use Rattle.std.specs.List.{position}
 use Rattle.std.proofs.lemmas.Bool.Decides.{nat_tests}
-use Rattle.std.proofs.Math.Seq.{take-length, take-append-add}
 use Rattle.dsde_input_records.specs.Lines.{Lacks}
-use Rattle.dsde_input.specs.Reader.{IsOneLine}
-use Rattle.dsde_run.specs.Reading.{feeds, front}
+use Rattle.dsde_input.specs.Reader.{Reader, has_feed, has_line}
+use Rattle.dsde_input_parser.specs.lemmas.Cuts.{lacks_from_position}
+use Rattle.dsde_run.specs.Reading.{feeds}
 
 pub feeds-append : (one other : List ℕ) → feeds (one ++ other) ≡ feeds one + feeds other
 feeds-append [] other = omega arith
@@ -17,24 +18,23 @@ feeds-lacks [] lacks = refl
 feeds-lacks (byte ∷ bytes) lacks =
     let apart : (byte == 10) ≡ false = grind (arith, nat_tests) in rw (apart, feeds-lacks bytes lacks.1) refl
 
--- all but the last, and the last
-pub with_last : (bytes : List ℕ) → 0 < length bytes → bytes ≡ front bytes ++ get_or bytes (length bytes - 1) 0 ∷ []
-with_last bytes some =
-    let whole : length bytes - 1 + 1 ≡ length bytes = omega arith in
-    sym (take-length bytes) ∙ ap (λ n. take n bytes) (sym whole) ∙ take_more bytes (length bytes - 1) 0 (omega arith)
+none_by : (found : Option ℕ) → is_some found ≡ false → found ≡ None
+none_by None is = refl
+none_by (Some place) is = absurd (cc)
 
--- one line that does not end with a line feed has none
-pub feeds-unended : (bytes : List ℕ) → IsOneLine bytes → (get_or bytes (length bytes - 1) 0 == 10) ≡ false → feeds bytes ≡ 0
-feeds-unended [] one none = refl
-feeds-unended (byte ∷ bytes) one none =
-    let all = byte ∷ bytes in
-    let last : feeds (get_or (byte ∷ bytes) (length (byte ∷ bytes) - 1) 0 ∷ []) ≡ 0 = rw none refl in
-    ap feeds (with_last (byte ∷ bytes) (omega arith))
-    ∙ feeds-append (front (byte ∷ bytes)) (get_or (byte ∷ bytes) (length (byte ∷ bytes) - 1) 0 ∷ [])
-    ∙ omega (arith, last, feeds-lacks (front (byte ∷ bytes)) one)
+-- no line feed was found
+pub feeds-none : (bytes : List ℕ) → has_feed bytes ≡ false → feeds bytes ≡ 0
+feeds-none bytes none = feeds-lacks bytes (lacks_from_position 10 bytes (none_by (position (λ byte. byte == 10) bytes) none))
 
--- all but the last of two lists is the first and all but the last of the second
-pub front-append : (one : List ℕ) (byte : ℕ) (other : List ℕ) → front (one ++ byte ∷ other) ≡ one ++ front (byte ∷ other)
-front-append one byte other =
-    let size : length (one ++ byte ∷ other) - 1 ≡ length one + (length (byte ∷ other) - 1) = omega (arith, length-append one (byte ∷ other)) in
-    ap (λ n. take n (one ++ byte ∷ other)) size ∙ take-append-add one (byte ∷ other) (length (byte ∷ other) - 1)
+no_line_parts : (first second third : Bool) → (first || second || third) ≡ false → (first ≡ false) × (third ≡ false)
+no_line_parts true second third none = absurd (cc)
+no_line_parts false true third none = absurd (cc)
+no_line_parts false false third none = (refl, none)
+
+-- where the wanted line is not there
+pub line_parts : (reader : Reader) → has_line reader ≡ false → (reader.ended ≡ false) × (has_feed reader.held ≡ false)
+line_parts reader none = no_line_parts reader.ended (nat_lt 65536 (length reader.held)) (has_feed reader.held) none
+
+-- where the end was seen, the wanted line is there
+pub seen_line : (reader : Reader) → reader.ended ≡ true → has_line reader ≡ true
+seen_line reader seen = rw seen refl

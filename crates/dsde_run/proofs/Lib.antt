@@ -1,9 +1,10 @@
-pub mod Coming
 pub mod Asking
-pub mod Cutting
+pub mod Coming
+pub mod Ending
 pub mod Feeds
-pub mod Fronts
-pub mod Quiet
-pub mod RunLemmas
+pub mod Handing
 pub mod Standing
 pub mod Starting
+pub mod Timing
+pub mod Tolds
+pub mod Turning

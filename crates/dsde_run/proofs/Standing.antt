@@ -1,26 +1,30 @@
 -- A run before a turn, and what each step does to it.
-use Rattle.std.proofs.Common.{◌≡◌, ◌≢◌, ℕ, suc, Bool, true, false, cond, List, [], ◌∷◌, ◌++◌, length, refl, sym, subst, ◌∙◌, ap, arith, append_assoc, length-append}
-use Rattle.std.specs.Prelude.{Option, Some, None, IfSome}
+use Rattle.std.proofs.Common.{◌≡◌, ◌≢◌, ℕ, ◌+◌, ◌≤◌, suc, Bool, true, false, cond, List, [], ◌∷◌, ◌++◌, length, refl, sym, subst, ◌∙◌, ap, arith, append_assoc, length-append}
+use Rattle.std.specs.Prelude.{Option, Some, None, Result, Ok, Err}
 use Rattle.std.proofs.lemmas.List.{append-nil}
-use Rattle.dsde_run.specs.Run.{Running}
+use Rattle.dsde_io.specs.Bytes.{Gains, GainsFront}
 use Rattle.dsde_values.specs.declared.arrival.Arrival.{Arrival}
 use Rattle.dsde_input_records.specs.declared.end.InputEnd.{InputEnd}
+use Rattle.dsde_input_records.specs.declared.end.InputEnd.TheVariants as input_end
 use Rattle.dsde_input_records.specs.declared.end.InputEnd.TheVariants.{ReadFault}
 use Rattle.dsde_input_records.specs.Records.{Records, end, bad, one}
+use Rattle.dsde_sim_events.specs.declared.event.Event.TheVariants as event
 use Rattle.dsde_sim_events.specs.declared.event.Finish.{Finish}
+use Rattle.dsde_sim_events.specs.declared.event.Finish.TheVariants as how
 use Rattle.dsde_sim_turns.specs.Engine.{Engine}
-use Rattle.dsde_run.specs.Run.{trace_text}
-use Rattle.dsde_run.specs.Heads.{Heads}
+use Rattle.dsde_input.specs.Reader.{Reader, IsOffence, has_line, with_more, TakesOfLine}
+use Rattle.dsde_trace.specs.declared.pick.Pick.{Pick}
+use Rattle.dsde_trace.specs.declared.pick.Pick.TheVariants.{Outputs}
+use Rattle.dsde_run.specs.declared.run.Head.{Head}
+use Rattle.dsde_run.specs.declared.run.Head.TheVariants.{Wanted, Over, Is}
 use Rattle.dsde_run.specs.declared.run.After.TheVariants.{Turned, Ended}
-use Rattle.dsde_run.specs.Heads.{IsReady, Gives, Ends, Asked, Refused, with_head, behind_head, passed}
-use Rattle.dsde_run.specs.Reading.{Told, feeds, front, cut_after, TakesWanted, IsCutShort, IsFront}
-use Rattle.dsde_run_meaning.specs.Run.{Run, offended}
-use Rattle.dsde_run.specs.Run.{go, turn_on}
-use Rattle.dsde_run.specs.Steps.{Tells, GoesOn, Turns, Stops, ahead, Stands}
-use Rattle.dsde_run.proofs.Asking.{none_to_come}
-use Rattle.dsde_run.proofs.Feeds.{feeds-append, front-append}
-use Rattle.dsde_run.proofs.Fronts.{IsFront-gone, IsFront-behind}
-use Rattle.dsde_run.proofs.RunLemmas.{GoesOn-text, GoesOn-then, Tells-behind, Tells-ended}
+use Rattle.dsde_run.specs.Run.{Running, event_text, go, turn_on, kept_text}
+use Rattle.dsde_run_meaning.specs.Run.{Run, ended, cut, offended}
+use Rattle.dsde_run.specs.Reading.{feeds, cut_after, IsWhole, TakesWanted, Tells, IsCutShort, IsFront}
+use Rattle.dsde_run.specs.Steps.{HandsOn, GoesOn, EndsIn, Turns, Stops, line_of, record_of, with_head, passed, to_give, ahead, Asked, Refused, IsReady, Stands}
+use Rattle.dsde_run.proofs.Feeds.{feeds-append, feeds-none, line_parts}
+use Rattle.dsde_run.proofs.Handing.{GoesOn-none, GoesOn-turned, GoesOn-handed, Tells-all, Tells-ended, front-gone, front-failed, IsFront-failed}
+use Rattle.dsde_run.proofs.Turning.{kept-ended}
 
 -- one record more
 ahead-more : (given : List Arrival) (arrival : Arrival) (later : Records) → ahead (given ++ arrival ∷ []) later ≡ ahead given (one arrival later)
@@ -32,243 +36,326 @@ cut_after-ahead : (given : List Arrival) (later : Records) → cut_after (length
 cut_after-ahead [] later = refl
 cut_after-ahead (first ∷ given) later = ap (one first) (cut_after-ahead given later)
 
--- What holds of two calls, one after the other.
-pub Told-then : (left between rest : Option (List ℕ)) {P Q R : List ℕ → List ℕ → Type 0} → Told left between P → Told between rest Q →
-    ((before mid after : List ℕ) → P before mid → Q mid after → R before after) → Told left rest R
-Told-then None between rest first second both = tt
-Told-then (Some before) None rest first second both = absurd first
-Told-then (Some before) (Some mid) None first second both = absurd second
-Told-then (Some before) (Some mid) (Some after) first second both = both before mid after first second
+-- What was taken, and bytes of a line more.
+record More {tells : Records → Run} {all : Records} {held before mid : List ℕ} (takes : TakesWanted tells all held before mid) (bytes after : List ℕ) : Type 0 where
+  more : TakesWanted tells all held before after
+  is : more.needed ++ more.past ≡ (takes.needed ++ takes.past) ++ bytes
 
-pub Told-weaker : (left rest : Option (List ℕ)) {P Q : List ℕ → List ℕ → Type 0} → Told left rest P → ((before after : List ℕ) → P before after → Q before after) → Told left rest Q
-Told-weaker None rest first weaker = tt
-Told-weaker (Some before) None first weaker = absurd first
-Told-weaker (Some before) (Some after) first weaker = weaker before after first
-
-pub Told-both : (left rest : Option (List ℕ)) {P Q R : List ℕ → List ℕ → Type 0} → Told left rest P → Told left rest Q →
-    ((before after : List ℕ) → P before after → Q before after → R before after) → Told left rest R
-Told-both None rest first second both = tt
-Told-both (Some before) None first second both = absurd first
-Told-both (Some before) (Some after) first second both = both before after first second
-
--- What holds where nothing was taken.
-pub Told-same : (left : Option (List ℕ)) (P : List ℕ → List ℕ → Type 0) → ((bytes : List ℕ) → P bytes bytes) → Told left left P
-Told-same None P same = tt
-Told-same (Some bytes) P same = same bytes
-
--- the head that is left is as early
-pub early-passed : (took_input : Bool) (head : Option Arrival) (P : Arrival → Type 0) → IfSome head P → IfSome (cond took_input None head) P
-early-passed true head P early = tt
-early-passed false head P early = early
-
-module _ (model : Running) (tells : Records → Run) where
+module _ (own : Running) (pick : Pick) (tells : Records → Run) where
   -- at the start nothing is taken
-  pub stands-first : (heads : Heads) (text : List ℕ) (bytes : List ℕ) → heads.head ≡ None → Stands model tells tells (behind_head heads bytes) heads text text bytes bytes
-  stands-first heads text bytes none = record {
+  pub stands-first : (reader : Reader) (sink : Option (List ℕ)) (bytes : List ℕ) → Stands own pick tells tells (to_give own reader bytes) reader reader Wanted sink sink [] bytes bytes
+  stands-first reader sink bytes = record {
     given = [];
-    taken = [];
-    split = refl;
     known = refl;
-    whole = λ unended. refl;
-    wanted = λ some. absurd (some refl);
-    goes = λ later over. rw none (record { piece = []; gained = sym (append-nil text); text = refl; end = refl });
+    takes = record { needed = []; past = []; split = refl; size = omega arith; wanted = λ some. absurd (some refl) };
+    counted = λ unended. ap feeds (append-nil reader.held) ∙ omega arith;
+    over = λ same. absurd (cc same);
+    read_out = λ unended ended. absurd (let two = sym unended ∙ ended in cc two);
+    goes = λ later over. GoesOn-none own pick (tells later) sink;
   }
 
-  module _ (rest : Records → Run) (cuts : (rest (bad ReadFault)).end ≡ None) (all : Records) (heads : Heads) (old text before mid : List ℕ)
-      (stands : Stands model tells rest all heads old text before mid) where
-    -- the run over the records given wants more
-    wants : heads.head ≡ None → heads.reader.ended ≡ false → (tells (cut_after (length stands.given) all)).end ≡ None
-    wants none unended =
-        ap (λ records. (tells (cut_after (length stands.given) records)).end) stands.known
-        ∙ ap (λ records. (tells records).end) (cut_after-ahead stands.given (behind_head heads mid))
-        ∙ (stands.goes (bad ReadFault) (λ ended. absurd (cc))).end
-        ∙ ap (λ head. (rest (with_head head (bad ReadFault))).end) none
-        ∙ cuts
-
-    -- what was taken, with a piece more, is wanted
-    wanted_more : (piece : List ℕ) → heads.head ≡ None → feeds (front piece) ≡ 0 → (piece ≢ [] → heads.reader.ended ≡ false) → stands.taken ++ piece ≢ [] →
-        (tells (cut_after (feeds (front (stands.taken ++ piece))) all)).end ≡ None
-    wanted_more [] none one_line unended some =
-        ap (λ taken. (tells (cut_after (feeds (front taken)) all)).end) (append-nil stands.taken)
-        ∙ stands.wanted (λ nothing. some (append-nil stands.taken ∙ nothing))
-    wanted_more (byte ∷ piece) none one_line unended some =
-        let still = unended (λ nothing. absurd (cc)) in
-        let count : feeds (front (stands.taken ++ byte ∷ piece)) ≡ length stands.given =
-        ap feeds (front-append stands.taken byte piece) ∙ feeds-append stands.taken (front (byte ∷ piece)) ∙ omega (arith, one_line, stands.whole still) in
-        ap (λ count. (tells (cut_after count all)).end) count ∙ wants none still
-
-    -- what is taken so far, with a piece more
-    split_more : (piece after : List ℕ) → mid ≡ piece ++ after → before ≡ (stands.taken ++ piece) ++ after
-    split_more piece after split = stands.split ∙ ap (λ bytes. stands.taken ++ bytes) split ∙ sym (append_assoc stands.taken piece after)
-
-    -- a record came
-    stands-gives : (new : Heads) (arrival : Arrival) (after : List ℕ) → heads.head ≡ None → new.head ≡ Some arrival → Gives heads new arrival mid after →
-        Stands model tells rest all new old text before after
-    stands-gives new arrival after none is gives = record {
-      given = stands.given ++ arrival ∷ [];
-      taken = stands.taken ++ gives.takes.piece;
-      split = split_more gives.takes.piece after gives.takes.split;
-      known = stands.known ∙ ap (ahead stands.given) gives.first ∙ sym (ahead-more stands.given arrival (behind_head new after));
-      whole = λ unended.
-          omega (arith, feeds-append stands.taken gives.takes.piece, stands.whole gives.unended, gives.whole unended, length-append stands.given (arrival ∷ []));
-      wanted = wanted_more gives.takes.piece none gives.takes.one_line gives.takes.unended;
-      goes = λ later over.
-          let goes = stands.goes (one arrival later) (λ ended. absurd (let never = gives.unended in cc)) in
-          rw (ahead-more stands.given arrival later, is) (rw none at goes);
-    }
-
-    -- the input is at its end
-    stands-ends : (new : Heads) (after : List ℕ) → heads.head ≡ None → new.head ≡ None → Ends heads new mid after → Stands model tells rest all new old text before after
-    stands-ends new after none is ends = record {
-      given = stands.given;
-      taken = stands.taken ++ ends.takes.piece;
-      split = split_more ends.takes.piece after ends.takes.split;
-      known = stands.known ∙ ap (ahead stands.given) (ends.before_end ∙ sym ends.at_end);
-      whole = λ unended. absurd (let over = ends.over in cc);
-      wanted = wanted_more ends.takes.piece none ends.takes.one_line ends.takes.unended;
-      goes = λ later over.
-          let goes = stands.goes later (λ ended. over ends.over) in rw is (rw none at goes);
-    }
-
-    stands-asked_by : (head found : Option Arrival) (new : Heads) (after : List ℕ) → heads.head ≡ head → new.head ≡ found → Asked head found heads new mid after →
-        Stands model tells rest all new old text before after × (new.head ≡ None → new.reader.ended ≡ true)
-    stands-asked_by (Some head) found new after is_old is_new asked =
-        let same : mid ≡ after = sym asked.1 in
-        let here : Stands model tells rest all heads old text before after = rw same at stands in
-        (rw asked.0 here, λ none. absurd (let two = sym is_old ∙ ap (λ heads. heads.head) (sym asked.0) ∙ none in cc two))
-    stands-asked_by None (Some arrival) new after is_old is_new asked =
-        (stands-gives new arrival after is_old is_new asked, λ none. absurd (let two = sym is_new ∙ none in cc two))
-    stands-asked_by None None new after is_old is_new asked = (stands-ends new after is_old is_new asked, λ none. asked.over)
-
-    -- The head was asked for.
-    pub stands-asked : (new : Heads) (after : List ℕ) → Asked heads.head new.head heads new mid after →
-        Stands model tells rest all new old text before after × (new.head ≡ None → new.reader.ended ≡ true)
-    stands-asked new after asked = stands-asked_by heads.head new.head new after refl refl asked
-
-    -- It was refused: what was taken is wanted.
-    pub taken-refused : (why : InputEnd) (after : List ℕ) → Refused heads why mid after → TakesWanted tells all before after
-    taken-refused why after refused = record {
-      taken = stands.taken ++ refused.takes.piece;
-      split = split_more refused.takes.piece after refused.takes.split;
-      wanted = wanted_more refused.takes.piece refused.none refused.takes.one_line refused.takes.unended;
-    }
-
-    -- It is no record: so the run ends.
-    pub tells-refused : (why : InputEnd) (how : Finish) (turns time : ℕ) (new after : List ℕ) → rest (bad why) ≡ offended why turns time → Refused heads why mid after →
-        Stops why turns time text new how → Tells model (tells all) old new how
-    tells-refused why how turns time new after is refused stops =
-        let bad_line = refused.offence stops.is in
-        let goes = stands.goes (bad why) (λ ended. absurd (let never = bad_line.0 in cc)) in
-        let whole : all ≡ ahead stands.given (bad why) = stands.known ∙ ap (ahead stands.given) bad_line.1 in
-        let last = Tells-ended model (rest (bad why)) how turns time text new (is ∙ stops.end) stops.text in
-        rw (← whole) at (Tells-behind model (tells (ahead stands.given (bad why))) (rest (bad why)) how old text new (rw refused.none at goes) last)
-
-    -- It could not be read: so the run is cut short.
-    pub cut-refused : (new after : List ℕ) → (rest (bad ReadFault)).events ≡ [] → Refused heads ReadFault mid after → new ≡ text → IsCutShort model tells all old new before after
-    cut-refused new after nothing refused same =
-        let fault = refused.unread refl in
-        let count : feeds (stands.taken ++ refused.takes.piece) ≡ length stands.given = omega (arith, feeds-append stands.taken refused.takes.piece, fault.1, stands.whole fault.0) in
-        let whole : cut_after (feeds (stands.taken ++ refused.takes.piece)) all ≡ ahead stands.given (bad ReadFault) =
-        ap (λ count. cut_after count all) count ∙ ap (cut_after (length stands.given)) stands.known ∙ cut_after-ahead stands.given (behind_head heads mid) in
-        let goes = rw refused.none at (stands.goes (bad ReadFault) (λ ended. absurd (let never = fault.0 in cc))) in
-        record {
-          taken = stands.taken ++ refused.takes.piece;
-          split = split_more refused.takes.piece after refused.takes.split;
-          text =
-              same ∙ sym (append-nil text) ∙ ap (λ events. text ++ trace_text model events) (sym nothing) ∙ sym (GoesOn-text goes)
-              ∙ ap (λ records. old ++ trace_text model (tells records).events) (sym whole);
-          cut = ap (λ records. (tells records).end) whole ∙ goes.end ∙ cuts;
-        }
-
-  -- Asking for the head, where the source tells its bytes.
-  pub told-asked : (rest : Records → Run) → (rest (bad ReadFault)).end ≡ None → (all : List ℕ → Records) (heads new : Heads) (old text : List ℕ) (left between left_after : Option (List ℕ)) →
-      Told left between (λ before. Stands model tells rest (all before) heads old text before) → Told between left_after (Asked heads.head new.head heads new) →
-      Told left left_after (λ before after. Stands model tells rest (all before) new old text before after × (new.head ≡ None → new.reader.ended ≡ true))
-  told-asked rest cuts all heads new old text left between left_after stands asked =
-      Told-then left between left_after stands asked (λ before mid after stands asked.
-      stands-asked rest cuts (all before) heads old text before mid stands new after asked)
-
-  -- what was taken is wanted
-  pub taken-stands : (rest : Records → Run) (all : Records) (heads : Heads) (old text before after : List ℕ) → Stands model tells rest all heads old text before after → TakesWanted tells all before after
-  taken-stands rest all heads old text before after stands = record { taken = stands.taken; split = stands.split; wanted = stands.wanted }
+  -- Some of what was kept is handed on.
+  pub stands-handed : (rest : Records → Run) (all : Records) (from reader : Reader) (head : Head) (old sink after_sink : Option (List ℕ)) (text after_text before after : List ℕ) →
+      Stands own pick tells rest all from reader head old sink text before after → HandsOn sink after_sink text after_text → Stands own pick tells rest all from reader head old after_sink after_text before after
+  stands-handed rest all from reader head old sink after_sink text after_text before after stands hands = record {
+    given = stands.given;
+    known = stands.known;
+    takes = stands.takes;
+    counted = stands.counted;
+    over = stands.over;
+    read_out = stands.read_out;
+    goes = λ later over. GoesOn-handed own pick (tells (ahead stands.given later)) (rest (with_head head later)) old sink after_sink text after_text (stands.goes later over) hands;
+  }
 
   -- all its records, those given and those to come
-  all-stands : (rest : Records → Run) (all : Records) (heads : Heads) (old text before after : List ℕ) → (stands : Stands model tells rest all heads old text before after) → IsReady heads.reader →
-      GoesOn model (tells all) (rest (with_head heads.head (behind_head heads after))) old text
-  all-stands rest all heads old text before after stands ready =
-      rw (← stands.known) at (stands.goes (behind_head heads after) (none_to_come heads after ready))
+  all-stands : (rest : Records → Run) (all : Records) (from reader : Reader) (head : Head) (old sink : Option (List ℕ)) (text before after : List ℕ) →
+      Stands own pick tells rest all from reader head old sink text before after → GoesOn own pick (tells all) (rest (with_head head (to_give own reader after))) old sink text
+  all-stands rest all from reader head old sink text before after stands =
+      rw (← stands.known) at (stands.goes (to_give own reader after) (λ same. (stands.over same).0))
 
-  -- What was written is a front of what the run tells.
-  pub front-stands : (rest : Records → Run) (all : Records) (heads : Heads) (old text new before after : List ℕ) → Stands model tells rest all heads old text before after → IsReady heads.reader →
-      new ≡ text → IsFront old new (trace_text model (tells all).events)
-  front-stands rest all heads old text new before after stands ready same =
-      subst (λ new. IsFront old new (trace_text model (tells all).events)) (sym same)
-      (IsFront-gone model (tells all) (rest (with_head heads.head (behind_head heads after))) old text
-      (all-stands rest all heads old text before after stands ready))
+  -- What the sink has is a front of what the run tells.
+  pub front-stands : (rest : Records → Run) (all : Records) (from reader : Reader) (head : Head) (old sink : Option (List ℕ)) (text before after : List ℕ) →
+      Stands own pick tells rest all from reader head old sink text before after → IsFront old sink (kept_text own pick (tells all).events)
+  front-stands rest all from reader head old sink text before after stands =
+      front-gone own pick (tells all) (rest (with_head head (to_give own reader after))) old sink text (all-stands rest all from reader head old sink text before after stands)
 
-  -- It ends at its bound.
-  pub tells-bound : (rest : Records → Run) (all : Records) (heads : Heads) (how : Finish) (old text new before after : List ℕ) → Stands model tells rest all heads old text before after → IsReady heads.reader →
-      ((records : Records) → Tells model (rest records) text new how) → Tells model (tells all) old new how
-  tells-bound rest all heads how old text new before after stands ready last =
-      Tells-behind model (tells all) (rest (with_head heads.head (behind_head heads after))) how old text new
-      (all-stands rest all heads old text before after stands ready) (last (with_head heads.head (behind_head heads after)))
+  module _ (rest : Records → Run) (cuts : (rest (bad ReadFault)).end ≡ None) (all : Records) (from reader : Reader) (old sink : Option (List ℕ)) (text before mid : List ℕ)
+      (stands : Stands own pick tells rest all from reader Wanted old sink text before mid) where
+    -- the run over the records given wants more
+    wants : (tells (cut_after (length stands.given) all)).end ≡ None
+    wants =
+        ap (λ records. (tells (cut_after (length stands.given) records)).end) stands.known
+        ∙ ap (λ records. (tells records).end) (cut_after-ahead stands.given (to_give own reader mid))
+        ∙ (stands.goes (bad ReadFault) (λ same. absurd (cc same))).end
+        ∙ cuts
 
-  module _ (turns : ℕ) (engine : Engine) (heads : Heads) where
-    -- what comes behind a turn on the head and these records
-    abbrev later_on : Option Arrival → Records → Bool → Engine → Run
-    later_on None later took_input after = go model turns end after
-    later_on (Some head) later took_input after = go model turns (cond took_input later (one head later)) after
+    -- some bytes more are taken
+    take_some : (of_line piece after : List ℕ) → mid ≡ (of_line ++ piece) ++ after → length piece ≤ 4096 → has_line (with_more reader of_line) ≡ false → More stands.takes (of_line ++ piece) after
+    take_some of_line piece after split size lacks =
+        let parts = line_parts (with_more reader of_line) lacks in
+        let none : feeds (reader.held ++ of_line) ≡ 0 = feeds-none (reader.held ++ of_line) parts.1 in
+        let count : feeds (from.held ++ ((stands.takes.needed ++ stands.takes.past) ++ of_line)) ≡ length stands.given =
+        ap feeds (sym (append_assoc from.held (stands.takes.needed ++ stands.takes.past) of_line))
+        ∙ omega (arith, feeds-append (from.held ++ (stands.takes.needed ++ stands.takes.past)) of_line, stands.counted parts.0, feeds-append reader.held of_line, none) in
+        record {
+          more = record {
+            needed = (stands.takes.needed ++ stands.takes.past) ++ of_line;
+            past = piece;
+            split =
+                stands.takes.split ∙ ap (λ l. (stands.takes.needed ++ stands.takes.past) ++ l) (split ∙ append_assoc of_line piece after)
+                ∙ sym (append_assoc (stands.takes.needed ++ stands.takes.past) of_line (piece ++ after))
+                ∙ sym (append_assoc ((stands.takes.needed ++ stands.takes.past) ++ of_line) piece after);
+            size = size;
+            wanted = λ some. ap (λ n. (tells (cut_after n all)).end) count ∙ wants;
+          };
+          is = append_assoc (stands.takes.needed ++ stands.takes.past) of_line piece;
+        }
 
-    -- a turn is on its head
-    go-turn_on : (head : Option Arrival) (later : Records) → (head ≡ None → later ≡ end) → go model (suc turns) (with_head head later) engine ≡ turn_on model engine head (later_on head later)
-    go-turn_on (Some head) later over = refl
-    go-turn_on None later over = rw (over refl) refl
+    take_by : (of_line piece after : List ℕ) → mid ≡ (of_line ++ piece) ++ after → length piece ≤ 4096 → (of_line ++ piece ≢ [] → has_line (with_more reader of_line) ≡ false) →
+        More stands.takes (of_line ++ piece) after
+    take_by [] [] after split size lacks = record {
+      more = record {
+        needed = stands.takes.needed;
+        past = stands.takes.past;
+        split = stands.takes.split ∙ ap (λ l. (stands.takes.needed ++ stands.takes.past) ++ l) split;
+        size = stands.takes.size;
+        wanted = stands.takes.wanted;
+      };
+      is = sym (append-nil (stands.takes.needed ++ stands.takes.past));
+    }
+    take_by [] (byte ∷ piece) after split size lacks = take_some [] (byte ∷ piece) after split size (lacks (λ none. absurd (cc none)))
+    take_by (byte ∷ of_line) piece after split size lacks = take_some (byte ∷ of_line) piece after split size (lacks (λ none. absurd (cc none)))
 
-    -- behind it the records are those behind the head that is left
-    later_on-passed : (head : Option Arrival) (later : Records) (took_input : Bool) (after : Engine) → (head ≡ None → later ≡ end) →
-        later_on head later took_input after ≡ go model turns (with_head (cond took_input None head) later) after
-    later_on-passed (Some head) later true after over = refl
-    later_on-passed (Some head) later false after over = refl
-    later_on-passed None later true after over = rw (over refl) refl
-    later_on-passed None later false after over = rw (over refl) refl
+    take_more : (after : List ℕ) → (takes : TakesOfLine reader mid after) → More stands.takes (takes.of_line ++ takes.piece) after
+    take_more after takes = take_by takes.of_line takes.piece after takes.split takes.size takes.wanted
 
-    -- One turn is done.
-    pub stands-turned : (all : Records) (after_engine : Engine) (took_input : Bool) (old text new before after : List ℕ) →
-        Stands model tells (λ records. go model (suc turns) records engine) all heads old text before after → (heads.head ≡ None → heads.reader.ended ≡ true) →
-        Turns model engine heads.head after_engine text new (Turned took_input) →
-        Stands model tells (λ records. go model turns records after_engine) all (passed heads took_input) old new before after
-    stands-turned all after_engine took_input old text new before after stands over turned = record {
+    stands-asked_by : (head : Head) (new : Reader) (after : List ℕ) → Asked own reader new head mid after → Stands own pick tells rest all from new head old sink text before after
+    stands-asked_by Wanted new after asked = absurd (asked.is refl)
+    stands-asked_by Over new after asked = record {
       given = stands.given;
-      taken = stands.taken;
-      split = stands.split;
-      known = stands.known;
-      whole = stands.whole;
-      wanted = stands.wanted;
-      goes = λ later ended.
-          let none : heads.head ≡ None → later ≡ end = λ none. ended (over none) in
-          let first = rw (go-turn_on heads.head later none) at (stands.goes later ended) in
-          let second = rw (later_on-passed heads.head later took_input after_engine none) at (turned (later_on heads.head later)) in
-          GoesOn-then model (tells (ahead stands.given later)) (turn_on model engine heads.head (later_on heads.head later))
-          (go model turns (with_head (cond took_input None heads.head) later) after_engine) old text new first second;
+      known = stands.known ∙ ap (ahead stands.given) asked.first;
+      takes = (take_more after asked.takes).more;
+      counted = λ unended. absurd (let two = sym unended ∙ (asked.over refl).1 in cc two);
+      over = asked.over;
+      read_out = λ unended. asked.read_out (stands.read_out unended);
+      goes = λ later over. stands.goes later (λ same. absurd (cc same));
+    }
+    stands-asked_by (Is arrival) new after asked = record {
+      given = stands.given ++ arrival ∷ [];
+      known = stands.known ∙ ap (ahead stands.given) asked.first ∙ sym (ahead-more stands.given arrival (to_give own new after));
+      takes = (take_more after asked.takes).more;
+      counted = λ unended.
+          let line = asked.counted arrival refl unended in
+          ap (λ l. feeds (from.held ++ l)) (take_more after asked.takes).is
+          ∙ ap feeds (sym (append_assoc from.held (stands.takes.needed ++ stands.takes.past) (asked.takes.of_line ++ asked.takes.piece)))
+          ∙ omega (
+            arith,
+            feeds-append (from.held ++ (stands.takes.needed ++ stands.takes.past)) (asked.takes.of_line ++ asked.takes.piece),
+            stands.counted line.0,
+            line.1,
+            feeds-append reader.held (asked.takes.of_line ++ asked.takes.piece),
+            length-append stands.given (arrival ∷ []),
+          );
+      over = λ same. absurd (cc same);
+      read_out = λ unended. asked.read_out (stands.read_out unended);
+      goes = λ later over. rw (ahead-more stands.given arrival later) (stands.goes (one arrival later) (λ same. absurd (cc same)));
     }
 
-    -- Memory ran out in a turn.
-    pub front-turned : (all : Records) (old text new before after : List ℕ) →
-        Stands model tells (λ records. go model (suc turns) records engine) all heads old text before after → IsReady heads.reader → (heads.head ≡ None → heads.reader.ended ≡ true) →
-        ((later : Bool → Engine → Run) → IsFront text new (trace_text model (turn_on model engine heads.head later).events)) → IsFront old new (trace_text model (tells all).events)
-    front-turned all old text new before after stands ready over front =
-        let none : heads.head ≡ None → behind_head heads after ≡ end = λ none. none_to_come heads after ready (over none) in
-        let first = rw (go-turn_on heads.head (behind_head heads after) none) at (all-stands (λ records. go model (suc turns) records engine) all heads old text before after stands ready) in
-        IsFront-behind model (tells all) (turn_on model engine heads.head (later_on heads.head (behind_head heads after))) old text new first
-        (front (later_on heads.head (behind_head heads after)))
+    -- It was refused: what was taken is wanted.
+    pub taken-refused : (why : InputEnd) (after : List ℕ) → Refused own reader why mid after → TakesWanted tells all from.held before after
+    taken-refused why after refused = (take_more after refused.takes).more
 
-    -- The run ended with a turn.
-    pub tells-ended : (all : Records) (after_engine : Engine) (how : Finish) (old text new before after : List ℕ) →
-        Stands model tells (λ records. go model (suc turns) records engine) all heads old text before after → IsReady heads.reader → (heads.head ≡ None → heads.reader.ended ≡ true) →
-        Turns model engine heads.head after_engine text new (Ended how) → Tells model (tells all) old new how
-    tells-ended all after_engine how old text new before after stands ready over ended =
-        let later = behind_head heads after in
-        let none : heads.head ≡ None → behind_head heads after ≡ end = λ none. none_to_come heads after ready (over none) in
-        let first = rw (go-turn_on heads.head (behind_head heads after) none) at (all-stands (λ records. go model (suc turns) records engine) all heads old text before after stands ready) in
-        Tells-behind model (tells all) (turn_on model engine heads.head (later_on heads.head (behind_head heads after))) how old text new first
-        (ended (later_on heads.head (behind_head heads after)))
+    -- It is no record: so the run ends.
+    pub tells-refused : (why : InputEnd) (how : Finish) (engine : Engine) (new : Option (List ℕ)) (after : List ℕ) → rest (bad why) ≡ offended why engine → Refused own reader why mid after →
+        Stops own why engine.turn engine.time text sink new how → Tells own pick (tells all) engine old new how
+    tells-refused why how engine new after is refused stops =
+        let first = refused.offence stops.is in
+        let whole : all ≡ ahead stands.given (bad why) = stands.known ∙ ap (ahead stands.given) first in
+        let line : rest (bad why) ≡ ended how engine.turn engine.time engine = is ∙ stops.end engine refl refl in
+        rw (← whole) at (
+        Tells-all own pick (tells (ahead stands.given (bad why))) (ended how engine.turn engine.time engine) engine how old sink new text
+        (subst (λ run. GoesOn own pick (tells (ahead stands.given (bad why))) run old sink text) line (stands.goes (bad why) (λ same. absurd (cc same))))
+        (subst (λ line. Gains sink new (text ++ line)) (sym (kept-ended own pick how engine.turn engine.time engine)) stops.gained) refl (λ is. refl))
+
+    -- It could not be read: so the run is cut short.
+    pub cut-refused : (engine : Engine) (new : Option (List ℕ)) (after : List ℕ) → rest (bad ReadFault) ≡ cut engine → Refused own reader ReadFault mid after → text ≡ [] → new ≡ sink →
+        IsCutShort own pick tells all engine old new from.held before after
+    cut-refused engine new after is refused empty same =
+        let fault = refused.unread refl in
+        let more = take_more after refused.takes in
+        let count : feeds (from.held ++ (more.more.needed ++ more.more.past)) ≡ length stands.given =
+        ap (λ l. feeds (from.held ++ l)) more.is
+        ∙ ap feeds (sym (append_assoc from.held (stands.takes.needed ++ stands.takes.past) (refused.takes.of_line ++ refused.takes.piece)))
+        ∙ omega (
+          arith,
+          feeds-append (from.held ++ (stands.takes.needed ++ stands.takes.past)) (refused.takes.of_line ++ refused.takes.piece),
+          stands.counted fault.0,
+          fault.1,
+          feeds-append reader.held (refused.takes.of_line ++ refused.takes.piece),
+        ) in
+        let whole : cut_after (feeds (from.held ++ (more.more.needed ++ more.more.past))) all ≡ ahead stands.given (bad ReadFault) =
+        ap (λ count. cut_after count all) count ∙ ap (cut_after (length stands.given)) stands.known ∙ cut_after-ahead stands.given (to_give own reader mid) in
+        let goes : GoesOn own pick (tells (ahead stands.given (bad ReadFault))) (cut engine) old sink [] =
+        subst (λ run. GoesOn own pick (tells (ahead stands.given (bad ReadFault))) run old sink []) is
+        (subst (GoesOn own pick (tells (ahead stands.given (bad ReadFault))) (rest (bad ReadFault)) old sink) empty (stands.goes (bad ReadFault) (λ same. absurd (cc same)))) in
+        let text_is : goes.piece ≡ kept_text own pick (tells (ahead stands.given (bad ReadFault))).events = sym (goes.text ∙ append-nil (goes.piece ++ []) ∙ append-nil goes.piece) in
+        record {
+          taken = more.more.needed ++ more.more.past;
+          split = more.more.split;
+          text = subst (λ records. Gains old new (kept_text own pick (tells records).events)) (sym whole)
+              (subst (λ new. Gains old new (kept_text own pick (tells (ahead stands.given (bad ReadFault))).events)) (sym same) (subst (Gains old sink) text_is goes.gained));
+          cut = ap (λ records. (tells records).end) whole ∙ goes.end;
+          front = subst (λ new. IsFront old new (kept_text own pick (tells all).events)) (sym same) (front-stands rest all from reader Wanted old sink text before mid stands);
+          stands = sym (ap (λ records. (tells records).state) whole ∙ goes.state);
+        }
+
+  -- The head was asked for.
+  pub stands-ready : (rest : Records → Run) → (rest (bad ReadFault)).end ≡ None → (all : Records) (from reader new : Reader) (head found : Head) (old sink after_sink : Option (List ℕ)) (text after_text before mid after : List ℕ) →
+      Stands own pick tells rest all from reader head old sink text before mid → IsReady own reader new head found sink after_sink text after_text mid after →
+      Stands own pick tells rest all from new found old after_sink after_text before after
+  stands-ready rest cuts all from reader new Wanted found old sink after_sink text after_text before mid after stands ready =
+      stands-asked_by rest cuts all from reader old after_sink after_text before mid
+      (stands-handed rest all from reader Wanted old sink after_sink text after_text before mid stands ready.0) found new after ready.1
+  stands-ready rest cuts all from reader new Over found old sink after_sink text after_text before mid after stands ready =
+      rw (ready.same_reader, ready.same_head, ready.same_sink, ready.same_text, ready.same_source) stands
+  stands-ready rest cuts all from reader new (Is arrival) found old sink after_sink text after_text before mid after stands ready =
+      rw (ready.same_reader, ready.same_head, ready.same_sink, ready.same_text, ready.same_source) stands
+
+  -- What was kept could not be handed on.
+  pub front-unwritten : (rest : Records → Run) (all : Records) (from reader : Reader) (head : Head) (old sink new : Option (List ℕ)) (text before after : List ℕ) →
+      Stands own pick tells rest all from reader head old sink text before after → GainsFront sink new text → IsFront old new (kept_text own pick (tells all).events)
+  front-unwritten rest all from reader head old sink new text before after stands failed =
+      front-failed own pick (tells all) (rest (with_head head (to_give own reader after))) old sink new text text (all-stands rest all from reader head old sink text before after stands)
+      (kept_text own pick (rest (with_head head (to_give own reader after))).events) refl (IsFront-failed sink new text failed)
+
+  -- The run ends at its bound.
+  pub tells-bound : (rest : Records → Run) (all : Records) (from reader : Reader) (head : Head) (engine : Engine) (turns time : ℕ) (old sink new : Option (List ℕ)) (text before after : List ℕ) →
+      Stands own pick tells rest all from reader head old sink text before after → ((records : Records) → rest records ≡ ended how.Bound engine.turn engine.time engine) → turns ≡ engine.turn → time ≡ engine.time →
+      Gains sink new (text ++ event_text own (event.Finish how.Bound turns time)) → Tells own pick (tells all) engine old new how.Bound
+  tells-bound rest all from reader head engine turns time old sink new text before after stands is is_turns is_time gains =
+      let line : event_text own (event.Finish how.Bound turns time) ≡ kept_text own pick (ended how.Bound engine.turn engine.time engine).events =
+      ap (λ n. event_text own (event.Finish how.Bound n time)) is_turns ∙ ap (λ t. event_text own (event.Finish how.Bound engine.turn t)) is_time
+      ∙ sym (kept-ended own pick how.Bound engine.turn engine.time engine) in
+      Tells-all own pick (tells all) (ended how.Bound engine.turn engine.time engine) engine how.Bound old sink new text
+      (subst (λ run. GoesOn own pick (tells all) run old sink text) (is (with_head head (to_give own reader after))) (all-stands rest all from reader head old sink text before after stands))
+      (subst (λ line. Gains sink new (text ++ line)) line gains) refl (λ is. refl)
+
+  -- Its last line could not be written.
+  pub front-bound : (rest : Records → Run) (all : Records) (from reader : Reader) (head : Head) (engine : Engine) (turns time : ℕ) (old sink new : Option (List ℕ)) (text before after : List ℕ) →
+      Stands own pick tells rest all from reader head old sink text before after → ((records : Records) → rest records ≡ ended how.Bound engine.turn engine.time engine) → turns ≡ engine.turn → time ≡ engine.time →
+      IsFront sink new (text ++ event_text own (event.Finish how.Bound turns time)) → IsFront old new (kept_text own pick (tells all).events)
+  front-bound rest all from reader head engine turns time old sink new text before after stands is is_turns is_time front =
+      let line : event_text own (event.Finish how.Bound turns time) ≡ kept_text own pick (ended how.Bound engine.turn engine.time engine).events =
+      ap (λ n. event_text own (event.Finish how.Bound n time)) is_turns ∙ ap (λ t. event_text own (event.Finish how.Bound engine.turn t)) is_time
+      ∙ sym (kept-ended own pick how.Bound engine.turn engine.time engine) in
+      front-failed own pick (tells all) (ended how.Bound engine.turn engine.time engine) old sink new text (text ++ event_text own (event.Finish how.Bound turns time))
+      (subst (λ run. GoesOn own pick (tells all) run old sink text) (is (with_head head (to_give own reader after))) (all-stands rest all from reader head old sink text before after stands))
+      [] (ap (λ line. text ++ line) (sym line) ∙ sym (append-nil (text ++ event_text own (event.Finish how.Bound turns time)))) front
+
+  -- The last line of a run that wants a line which is no record could not be written, or memory ran out.
+  pub front-refused : (rest : Records → Run) (all : Records) (from reader : Reader) (old sink new : Option (List ℕ)) (text before mid after : List ℕ) (engine : Engine) (why : InputEnd) →
+      Stands own pick tells rest all from reader Wanted old sink text before mid → rest (bad why) ≡ offended why engine → Refused own reader why mid after →
+      IsFront sink new (text ++ line_of own (offended why engine)) → IsFront old new (kept_text own pick (tells all).events)
+  front-refused rest all from reader old sink new text before mid after engine why stands is refused front = by why stands is refused.offence front
+    where
+      offence : (why : InputEnd) → IsOffence why → kept_text own pick (offended why engine).events ≡ line_of own (offended why engine)
+      offence (input_end.BadLine line) is = refl
+      offence (input_end.Backwards line) is = refl
+      offence (input_end.LineTooLong line) is = refl
+      offence input_end.ReadFault is = refl
+      offence input_end.Memory is = refl
+
+      bad_line : (why : InputEnd) → IsOffence why → Stands own pick tells rest all from reader Wanted old sink text before mid → rest (bad why) ≡ offended why engine → (IsOffence why → to_give own reader mid ≡ bad why) →
+          IsFront sink new (text ++ line_of own (offended why engine)) → IsFront old new (kept_text own pick (tells all).events)
+      bad_line why are stands is refused front =
+          front-failed own pick (tells all) (offended why engine) old sink new text (text ++ line_of own (offended why engine))
+          (subst (λ run. GoesOn own pick (tells all) run old sink text) (ap rest (refused are) ∙ is) (all-stands rest all from reader Wanted old sink text before mid stands))
+          [] (ap (λ line. text ++ line) (offence why are) ∙ sym (append-nil (text ++ line_of own (offended why engine)))) front
+
+      nothing : Stands own pick tells rest all from reader Wanted old sink text before mid → IsFront sink new (text ++ []) → IsFront old new (kept_text own pick (tells all).events)
+      nothing stands front =
+          front-failed own pick (tells all) (rest (to_give own reader mid)) old sink new text (text ++ [])
+          (all-stands rest all from reader Wanted old sink text before mid stands) (kept_text own pick (rest (to_give own reader mid)).events) (ap (λ l. l ++ kept_text own pick (rest (to_give own reader mid)).events) (sym (append-nil text))) front
+
+      by : (why : InputEnd) → Stands own pick tells rest all from reader Wanted old sink text before mid → rest (bad why) ≡ offended why engine → (IsOffence why → to_give own reader mid ≡ bad why) →
+          IsFront sink new (text ++ line_of own (offended why engine)) → IsFront old new (kept_text own pick (tells all).events)
+      by (input_end.BadLine line) stands is refused front = bad_line (input_end.BadLine line) tt stands is refused front
+      by (input_end.Backwards line) stands is refused front = bad_line (input_end.Backwards line) tt stands is refused front
+      by (input_end.LineTooLong line) stands is refused front = bad_line (input_end.LineTooLong line) tt stands is refused front
+      by input_end.ReadFault stands is refused front = nothing stands front
+      by input_end.Memory stands is refused front = nothing stands front
+
+  module _ (turns : ℕ) (engine : Engine) (from reader : Reader) where
+    abbrev later_on : Head → Records → Bool → Engine → Run
+    later_on Wanted later took_input after = go own turns later after
+    later_on Over later took_input after = go own turns end after
+    later_on (Is head) later took_input after = go own turns (cond took_input later (one head later)) after
+
+    -- a turn is on its head
+    go-turn_on : (head : Head) (later : Records) → head ≢ Wanted → (head ≡ Over → later ≡ end) → go own (suc turns) (with_head head later) engine ≡ turn_on own engine (record_of head) (later_on head later)
+    go-turn_on Wanted later known over = absurd (known refl)
+    go-turn_on Over later known over = rw (over refl) refl
+    go-turn_on (Is head) later known over = refl
+
+    -- behind it the records are those behind the head that is left
+    later_on-passed : (head : Head) (later : Records) (took_input : Bool) (after : Engine) → head ≢ Wanted → (head ≡ Over → later ≡ end) →
+        later_on head later took_input after ≡ go own turns (with_head (passed head took_input) later) after
+    later_on-passed Wanted later took_input after known over = absurd (known refl)
+    later_on-passed Over later took_input after known over = rw (over refl) refl
+    later_on-passed (Is head) later true after known over = refl
+    later_on-passed (Is head) later false after known over = refl
+
+    still_over : (head : Head) (took_input : Bool) → head ≡ Over → passed head took_input ≡ Over
+    still_over Wanted took_input same = absurd (cc same)
+    still_over Over took_input same = refl
+    still_over (Is head) took_input same = absurd (cc same)
+
+    was_over : (head : Head) (took_input : Bool) → passed head took_input ≡ Over → head ≡ Over
+    was_over Wanted took_input same = absurd (cc same)
+    was_over Over took_input same = refl
+    was_over (Is head) true same = absurd (cc same)
+    was_over (Is head) false same = absurd (cc same)
+
+    -- One turn is done.
+    pub stands-turned : (all : Records) (head : Head) (after_engine : Engine) (took_input : Bool) (old sink : Option (List ℕ)) (text more before after : List ℕ) →
+        Stands own pick tells (λ records. go own (suc turns) records engine) all from reader head old sink text before after → head ≢ Wanted →
+        Turns own pick engine (record_of head) after_engine text more (Turned took_input) →
+        Stands own pick tells (λ records. go own turns records after_engine) all from reader (passed head took_input) old sink more before after
+    stands-turned all head after_engine took_input old sink text more before after stands known turned = record {
+      given = stands.given;
+      known = stands.known;
+      takes = stands.takes;
+      counted = stands.counted;
+      over = λ same. stands.over (was_over head took_input same);
+      read_out = stands.read_out;
+      goes = λ later over.
+          let none : head ≡ Over → later ≡ end = λ same. over (still_over head took_input same) in
+          let first = rw (go-turn_on head later known none) at (stands.goes later none) in
+          let second = rw (later_on-passed head later took_input after_engine known none) at (turned (later_on head later)) in
+          GoesOn-turned own pick (tells (ahead stands.given later)) (turn_on own engine (record_of head) (later_on head later))
+          (go own turns (with_head (passed head took_input) later) after_engine) old sink text more first second;
+    }
+
+    on_head : (all : Records) (head : Head) (old sink : Option (List ℕ)) (text before after : List ℕ) →
+        Stands own pick tells (λ records. go own (suc turns) records engine) all from reader head old sink text before after → head ≢ Wanted →
+        GoesOn own pick (tells all) (turn_on own engine (record_of head) (later_on head (to_give own reader after))) old sink text
+    on_head all head old sink text before after stands known =
+        rw (go-turn_on head (to_give own reader after) known (λ same. (stands.over same).0)) at
+        (all-stands (λ records. go own (suc turns) records engine) all from reader head old sink text before after stands)
+
+    -- The run ended with a turn, and all is written.
+    pub tells-ended : (all : Records) (head : Head) (after_engine : Engine) (how : Finish) (old sink new : Option (List ℕ)) (text more left before after : List ℕ) →
+        Stands own pick tells (λ records. go own (suc turns) records engine) all from reader head old sink text before after → head ≢ Wanted →
+        Turns own pick engine (record_of head) after_engine text more (Ended how) → HandsOn sink new more left → left ≡ [] → Tells own pick (tells all) after_engine old new how
+    tells-ended all head after_engine how old sink new text more left before after stands known ended hands empty =
+        Tells-ended own pick (tells all) (turn_on own engine (record_of head) (later_on head (to_give own reader after))) after_engine how old sink new text more
+        (on_head all head old sink text before after stands known) (ended (later_on head (to_give own reader after))) (subst (HandsOn sink new more) empty hands)
+
+    -- The run ended with a turn, and not all could be written.
+    pub front-ended : (all : Records) (head : Head) (after_engine : Engine) (how : Finish) (old sink new : Option (List ℕ)) (text more before after : List ℕ) →
+        Stands own pick tells (λ records. go own (suc turns) records engine) all from reader head old sink text before after → head ≢ Wanted →
+        Turns own pick engine (record_of head) after_engine text more (Ended how) → GainsFront sink new more → IsFront old new (kept_text own pick (tells all).events)
+    front-ended all head after_engine how old sink new text more before after stands known ended failed =
+        let run = turn_on own engine (record_of head) (later_on head (to_give own reader after)) in
+        front-failed own pick (tells all) run old sink new text more (on_head all head old sink text before after stands known) []
+        (sym (ended (later_on head (to_give own reader after))).text ∙ sym (append-nil more)) (IsFront-failed sink new more failed)

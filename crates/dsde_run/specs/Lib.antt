@@ -1,4 +1,4 @@
-pub mod Heads
+pub mod Ends
 pub mod Reading
 pub mod Run
 pub mod Steps

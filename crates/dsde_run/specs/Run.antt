@@ -13,7 +13,9 @@ use Rattle.dsde_sim_events.specs.Told.{Told}
 use Rattle.dsde_sim_turns.specs.Turn as turn
 use Rattle.dsde_run_meaning.specs.Run as runs
 use Rattle.dsde_run_meaning.specs.Run.{Run, Spots}
+use Rattle.dsde_trace.specs.Pick as pick
 use Rattle.dsde_trace.specs.Text as text
+use Rattle.dsde_trace.specs.declared.pick.Pick.{Pick}
 
 -- A model that runs, and the line and the column of each place of its text.
 pub record Running : Type 0 where
@@ -30,7 +32,7 @@ start own = turn.start (system own.model)
 abbrev pub advance : Running → Engine → Option Arrival → Told (Step × Engine)
 advance own engine head = turn.advance (system own.model) engine head
 
-abbrev pub faulted : Running → TurnEnd → ℕ → ℕ → Run
+abbrev pub faulted : Running → TurnEnd → ℕ → ℕ → Engine → Run
 faulted own = runs.faulted own.spots
 
 abbrev pub turn_on : Running → Engine → Option Arrival → (Bool → Engine → Run) → Run
@@ -46,9 +48,12 @@ run own = runs.run (system own.model) own.spots
 abbrev pub records_in : Running → List ℕ → Records
 records_in own bytes = runs.records_in (top_ins own.model) (types_of own.model) bytes
 
--- the line of an event of it, and the text of its trace
+-- the line of an event of it; that line where a selection keeps it; and the lines of its trace that are kept
 abbrev pub event_text : Running → Event → List ℕ
 event_text own = text.event_text own.model
 
-abbrev pub trace_text : Running → List Event → List ℕ
-trace_text own = text.trace_text own.model
+abbrev pub kept_line : Running → Pick → Event → List ℕ
+kept_line own = pick.kept_line own.model
+
+abbrev pub kept_text : Running → Pick → List Event → List ℕ
+kept_text own = pick.kept_text own.model

@@ -1,10 +1,15 @@
 //! A whole run of a program: the turns of its engine on the records of an input, one after the other,
-//! and the text of their trace.
+//! and the lines of their trace, which are handed on as they come.
 #![tactic(auto)]
 
-mod heads;
+mod ends;
 mod run;
 mod running;
+mod whole;
 
-pub use run::{Cut, run_model};
+pub use dsde_io::write_all;
+pub use dsde_run_big::big_model;
+pub use ends::{RunEnd, run_turns};
+pub use run::Cut;
 pub use running::Running;
+pub use whole::run_model;

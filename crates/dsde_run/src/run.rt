@@ -1,33 +1,37 @@
-//! A whole run: the turns of an engine on the records of an input.
+//! The turns of an engine on the records of an input.
 
-ghost use Rattle.std.specs.Prelude.{ℕ, ◌≡◌, ◌+◌, ◌<◌, ◌≤◌, ◌^◌, [], ◌++◌, Bool, true, false, is_some, unwrap_or, OnOk, IfOk, OnErr, IfSome, IsErrOf};
+ghost use Rattle.std.specs.Prelude.{ℕ, ◌≡◌, ◌≢◌, ◌⊎◌, ◌+◌, ◌<◌, ◌≤◌, ◌^◌, [], ◌++◌, Bool, true, false, is_some, OnOk, IfOk, OnErr, IfErr, IfSome, IsErrOf};
 ghost use Rattle.std.specs.Option.{option_copied};
 ghost use Rattle.dsde_io.specs.Fault.{Rose};
-ghost use Rattle.dsde_sim.specs.Working.{HeadComes};
-ghost use Rattle.dsde_trace.specs.Text.{end_text};
+ghost use Rattle.dsde_io.specs.Bytes.{Gains, GainsFront};
+ghost use Rattle.dsde_sim_events.specs.declared.event.Event.TheVariants as event;
 ghost use Rattle.dsde_sim_turns.specs.Engine.{Engine};
-ghost use Rattle.dsde_run_meaning.specs.Run.{Run, ended};
-ghost use Rattle.dsde_run.specs.Heads.{IsInput, IsReady, behind_head};
-ghost use Rattle.dsde_run.specs.Reading.{Told, TakesWanted, IsCutShort, IsFront};
-ghost use Rattle.dsde_run.specs.Run.{run, go, turn_on, faulted, records_in, trace_text};
-ghost use Rattle.dsde_run.specs.Steps.{IsRoot, Tells, Turns, Readies, Stops};
+ghost use Rattle.dsde_input.specs.Reader.{IsOffence, least_time};
+ghost use Rattle.dsde_run_meaning.specs.Run.{Run, ended, offended};
+ghost use Rattle.dsde_run.specs.Run.{go, turn_on, faulted, kept_text, event_text};
+ghost use Rattle.dsde_run.specs.Reading.{Told, IsWhole, TakesWanted, Comes, IsFront};
+ghost use Rattle.dsde_run.specs.Steps.{HandsOn, Turns, Readies, IsRoot, IsTimely, IsUnspent, Stops, line_of, IsReady, IsUnready, Halts, Asked, Refused, ComesBy, Waits, passed, record_of, to_give};
 
 use crate::Running;
-use crate::heads::Heads;
-use dsde_input::InputEnd;
-use dsde_io::Source;
+use dsde_input::{InputEnd, InputReader};
+use dsde_io::{Sink, SinkEnd, Source, write_all};
 use dsde_sim::Plain;
 use dsde_sim_events::{Event, Fault, Finish, InputKind, TurnEnd};
 use dsde_sim_turns::Step;
-use dsde_trace::write_end;
+use dsde_trace::{Pick, picked, write_end};
 use dsde_values::{Arrival, Memory, Seq, Text};
 use std::alloc::Global;
+
+/// So many bytes of a trace are kept at most before a turn begins.
+const MOST_KEPT: usize = 65_536;
 
 /// Why a run is cut short.
 #[derive(Clone, Copy, Debug, PartialEq, Eq)]
 pub enum Cut {
     /// A read of the input failed.
     ReadFault,
+    /// A write of the trace failed.
+    Unwritten,
     Memory,
 }
 
@@ -42,6 +46,47 @@ impl From<Memory> for Cut {
     }
 }
 
+/// The head of an input.
+#[derive(Drop)]
+enum Head {
+    /// It was not asked for.
+    Wanted,
+    /// The input is at its end.
+    Over,
+    /// The next record.
+    Is(Arrival),
+}
+
+impl Head {
+    /// The record, where there is one.
+    fn record(&self) -> Option<&Arrival>
+        ensures { option_copied result ≡ record_of self.now }
+    {
+        match self {
+            Head::Wanted | Head::Over => None,
+            Head::Is(arrival) => Some(arrival),
+        }
+    }
+
+    /// A turn is done, which took the head or left it.
+    fn pass(&mut self, took_input: bool)
+        ensures { self.new ≡ passed self.old took_input }
+    {
+        match self {
+            Head::Is(_) if took_input => *self = Head::Wanted,
+            _ => {}
+        }
+    }
+}
+
+/// Why the head is not there.
+enum Unready {
+    /// It is no record, or it could not be read.
+    Refused(InputEnd),
+    /// The lines before it could not be handed on.
+    Unwritten(Cut),
+}
+
 /// What a turn comes to.
 enum After {
     /// The run goes on. `took_input` says whether the head of the input was taken.
@@ -50,135 +95,216 @@ enum After {
     Ended(Finish),
 }
 
-/// Runs a program on an input for at most this many turns, and appends the text of its trace.
-///
-/// Answers how the run ended, whose line is the last. `ReadFault` comes where a read failed before
-/// all was there of a line that a turn wants: then the lines before that turn were appended.
-/// Without memory some of the text was appended, from its front. No byte of the input is taken that
-/// no turn wants, and where the run falls quiet, none is left.
-pub fn run_model<R: Source>(
+/// At most this many turns. The lines of a turn are handed on before the next record is asked for.
+pub(crate) fn go<R: Source, W: Sink>(
     alloc: Global,
-    own: &Running<'_>,
-    turns: u64,
+    plain: &mut Plain<'_>,
+    reader: &mut InputReader,
     source: &mut R,
-    text: &mut Text,
+    sink: &mut W,
+    own: &Running<'_>,
+    pick: Pick,
+    turns: u64,
 ) -> Result<Finish, Cut>
-    requires turns { turns < 2 ^ 63 }
+    requires program { plain.old.program ≡ own.now.model }
+    requires root { IsRoot own.now plain.old.engine }
+    requires fresh { is_some plain.old.engine.tree ≡ true }
+    requires in_time { plain.old.engine.time ≤ least_time reader.old }
+    requires bounded { plain.old.engine.turn + turns < 2 ^ 63 }
 
-    // Where the source tells its bytes.
-    ensures tells { IfOk result (λ how. IfSome (R.left source.old) (λ bytes.
-        Tells own.now (run own.now (records_in own.now bytes) turns) text.old text.new how)) }
-    ensures cut { IsErrOf result Cut.ReadFault → Told (R.left source.old) (R.left source.new) (λ before.
-        IsCutShort own.now (λ records. run own.now records turns) (records_in own.now before) text.old text.new before) }
-    ensures front { OnErr result (IfSome (R.left source.old) (λ bytes.
-        IsFront text.old text.new (trace_text own.now (run own.now (records_in own.now bytes) turns).events))) }
+    ensures comes { Told (R.left source.old) (R.left source.new) (λ before.
+        Comes own.now pick (λ records. go own.now turns records plain.old.engine) (to_give own.now reader.old before)
+        plain.new.engine (W.written sink.old) (W.written sink.new) result reader.old.held before) }
     ensures taken { Told (R.left source.old) (R.left source.new) (λ before.
-        TakesWanted (λ records. run own.now records turns) (records_in own.now before) before) }
-    ensures quiet { result ≡ Ok Finish.Quiet → Told (R.left source.old) (R.left source.new) (λ _ after. after ≡ []) }
+        TakesWanted (λ records. go own.now turns records plain.old.engine) (to_give own.now reader.old before) reader.old.held before) }
+    ensures quiet { reader.old.ended ≡ false → result ≡ Ok Finish.Quiet → Told (R.left source.old) (R.left source.new) (λ _ after. after ≡ []) }
 
-    ensures cause { IsErrOf result Cut.ReadFault → Rose (R.faults source.old) (R.faults source.new) }
-    ensures counted { R.faults source.old ≤ R.faults source.new }
-    ensures idle { turns ≡ 0 → source.new ≡ source.old }
+    ensures unspent { IfOk result (λ how. IsWhole how → is_some plain.new.engine.tree ≡ true) }
+    ensures unspent_cut { IsErrOf result Cut.ReadFault → is_some plain.new.engine.tree ≡ true }
+
+    ensures unread { IsErrOf result Cut.ReadFault → Rose (R.faults source.old) (R.faults source.new) }
+    ensures unwritten { IsErrOf result Cut.Unwritten → Rose (W.faults sink.old) (W.faults sink.new) }
+    ensures reads_counted { R.faults source.old ≤ R.faults source.new }
+    ensures writes_counted { W.faults sink.old ≤ W.faults sink.new }
+    ensures idle { turns ≡ 0 → (source.new ≡ source.old) × (reader.new ≡ reader.old) }
 {
     let mut events = Seq::new(alloc);
-    let started = Plain::start(alloc, own.program(), &mut events);
-    write_events(events.as_slice(), own, text)?;
-    match started {
-        Ok(plain) => go(
-            alloc,
-            plain,
-            Heads::new(alloc, own.ins(), own.types())?,
-            own,
-            turns,
-            source,
-            text,
-        ),
-        Err(end) => Ok(finish(finish_of(end, own)?, 0, 0, text)?),
+    let mut text = Text::new(alloc);
+    let mut head = Head::Wanted;
+    for _turn in 0..turns {
+        if let Err(why) = ready(&mut head, reader, source, own, &mut text, sink) {
+            return halt(why, plain.turn(), plain.time(), own, &mut text, sink);
+        }
+        let after = match turn(plain, &head, own, pick, &mut events, &mut text) {
+            Ok(after) => after,
+            Err(Memory) => return Err(Cut::Memory),
+        };
+        match after {
+            After::Turned { took_input } => head.pass(took_input),
+            After::Ended(how) => return close(how, &mut text, sink),
+        }
+        if let Err(cut) = hand_on_much(&mut text, sink) {
+            return Err(cut);
+        }
+    }
+    finish(
+        Finish::Bound,
+        plain.turn(),
+        plain.time(),
+        own,
+        &mut text,
+        sink,
+    )
+}
+
+/// Sees to it that the head was asked for. Where it is asked for, what is kept of the trace is
+/// handed on first.
+fn ready<R: Source, W: Sink>(
+    head: &mut Head,
+    reader: &mut InputReader,
+    source: &mut R,
+    own: &Running<'_>,
+    text: &mut Text,
+    sink: &mut W,
+) -> Result<(), Unready>
+    ensures ready { OnOk result (Told (R.left source.old) (R.left source.new)
+        (IsReady own.now reader.old reader.new head.old head.new (W.written sink.old) (W.written sink.new) text.old text.new)) }
+    ensures refused { IfErr result (λ why. Told (R.left source.old) (R.left source.new)
+        (IsUnready own.now reader.old head.old (W.written sink.old) (W.written sink.new) text.old text.new why)) }
+    ensures waits { OnOk result ((time : ℕ) → Waits own.now time reader.old head.old → Waits own.now time reader.new head.new) }
+    ensures known { OnOk result (head.new ≢ Head.Wanted) }
+    ensures unread { IsErrOf result (Unready.Refused InputEnd.ReadFault) → Rose (R.faults source.old) (R.faults source.new) }
+    ensures unwritten { IsErrOf result (Unready.Unwritten Cut.Unwritten) → Rose (W.faults sink.old) (W.faults sink.new) }
+    ensures no_read { IfErr result (λ why. why ≢ Unready.Unwritten Cut.ReadFault) }
+    ensures reads_counted { R.faults source.old ≤ R.faults source.new }
+    ensures writes_counted { W.faults sink.old ≤ W.faults sink.new }
+{
+    if !matches!(head, Head::Wanted) {
+        return Ok(());
+    }
+    if let Err(cut) = hand_on(text, sink) {
+        return Err(Unready::Unwritten(cut));
+    }
+    match ask(reader, source, own) {
+        Ok(found) => {
+            *head = found;
+            Ok(())
+        }
+        Err(why) => Err(Unready::Refused(why)),
     }
 }
 
-fn go<R: Source>(
-    alloc: Global,
-    mut plain: Plain<'_>,
-    mut heads: Heads<'_>,
-    own: &Running<'_>,
-    turns: u64,
+/// Asks for the head of the input.
+fn ask<R: Source>(
+    reader: &mut InputReader,
     source: &mut R,
-    text: &mut Text,
-) -> Result<Finish, Cut>
-    requires model { plain.program ≡ own.now.model }
-    requires root { IsRoot own.now plain.engine }
-    requires fresh { is_some plain.engine.tree ≡ true }
-    requires bounded { plain.engine.turn + turns < 2 ^ 63 }
-    requires input { IsInput own.now heads }
-    requires ready { IsReady heads.reader }
-    requires unasked { heads.head ≡ None }
-
-    ensures tells { IfOk result (λ how. Told (R.left source.old) (R.left source.new) (λ before _.
-        Tells own.now (go own.now turns (behind_head heads.entry before) plain.entry.engine) text.old text.new how)) }
-    ensures cut { IsErrOf result Cut.ReadFault → Told (R.left source.old) (R.left source.new) (λ before.
-        IsCutShort own.now (λ records. go own.now turns records plain.entry.engine) (behind_head heads.entry before) text.old text.new before) }
-    ensures front { IsErrOf result Cut.Memory → Told (R.left source.old) (R.left source.new) (λ before _.
-        IsFront text.old text.new (trace_text own.now (go own.now turns (behind_head heads.entry before) plain.entry.engine).events)) }
-    ensures taken { Told (R.left source.old) (R.left source.new) (λ before.
-        TakesWanted (λ records. go own.now turns records plain.entry.engine) (behind_head heads.entry before) before) }
-    ensures quiet { heads.entry.reader.ended ≡ false → result ≡ Ok Finish.Quiet
-        → Told (R.left source.old) (R.left source.new) (λ _ after. after ≡ []) }
-
-    ensures cause { IsErrOf result Cut.ReadFault → Rose (R.faults source.old) (R.faults source.new) }
+    own: &Running<'_>,
+) -> Result<Head, InputEnd>
+    ensures asked { IfOk result (λ head. Told (R.left source.old) (R.left source.new) (Asked own.now reader.old reader.new head)) }
+    ensures refused { IfErr result (λ why. Told (R.left source.old) (R.left source.new) (Refused own.now reader.old why)) }
+    ensures waits { IfOk result (λ head. (time : ℕ) → time ≤ least_time reader.old → Waits own.now time reader.new head) }
+    ensures known { IfOk result (λ head. head ≢ Head.Wanted) }
+    ensures cause { IsErrOf result InputEnd.ReadFault → Rose (R.faults source.old) (R.faults source.new) }
     ensures counted { R.faults source.old ≤ R.faults source.new }
-    ensures idle { turns ≡ 0 → source.new ≡ source.old }
 {
-    let mut events = Seq::new(alloc);
-    for _turn in 0..turns {
-        if let Err(why) = heads.ask(source) {
-            return stop(why, plain.turn(), plain.time(), text);
-        }
-        own.comes();
-        match turn(&mut plain, heads.head(), own, &mut events, text)? {
-            After::Turned { took_input } => heads.pass(took_input),
-            After::Ended(how) => return Ok(how),
-        }
+    match reader.next(source, own.ins(), own.types()) {
+        Ok(Some(arrival)) => Ok(Head::Is(arrival)),
+        Ok(None) => Ok(Head::Over),
+        Err(why) => Err(why),
     }
-    Ok(finish(Finish::Bound, plain.turn(), plain.time(), text)?)
+}
+
+/// Hands on what is kept of a trace.
+pub(crate) fn hand_on<W: Sink>(text: &mut Text, sink: &mut W) -> Result<(), Cut>
+    ensures handed { OnOk result (HandsOn (W.written sink.old) (W.written sink.new) text.old text.new) }
+    ensures empty { OnOk result (text.new ≡ []) }
+    ensures front { OnErr result (GainsFront (W.written sink.old) (W.written sink.new) text.old) }
+    ensures cause { IsErrOf result Cut.Unwritten → Rose (W.faults sink.old) (W.faults sink.new) }
+    ensures no_read { IfErr result (λ why. why ≢ Cut.ReadFault) }
+    ensures counted { W.faults sink.old ≤ W.faults sink.new }
+{
+    match write_all(sink, text.as_slice()) {
+        Ok(()) => {
+            text.truncate(0);
+            Ok(())
+        }
+        Err(SinkEnd::Failed) => Err(Cut::Unwritten),
+        Err(SinkEnd::Memory) => Err(Cut::Memory),
+    }
+}
+
+/// Hands on what is kept of a trace, where it is much.
+fn hand_on_much<W: Sink>(text: &mut Text, sink: &mut W) -> Result<(), Cut>
+    ensures handed { OnOk result (HandsOn (W.written sink.old) (W.written sink.new) text.old text.new) }
+    ensures front { OnErr result (GainsFront (W.written sink.old) (W.written sink.new) text.old) }
+    ensures cause { IsErrOf result Cut.Unwritten → Rose (W.faults sink.old) (W.faults sink.new) }
+    ensures no_read { IfErr result (λ why. why ≢ Cut.ReadFault) }
+    ensures counted { W.faults sink.old ≤ W.faults sink.new }
+{
+    if text.len() < MOST_KEPT {
+        return Ok(());
+    }
+    hand_on(text, sink)
 }
 
 /// Takes one turn with this head of the input. Its events are put into a list that is empty, and are
 /// taken out again, so that one list serves all turns.
 fn turn(
     plain: &mut Plain<'_>,
-    head: Option<&Arrival>,
+    head: &Head,
     own: &Running<'_>,
+    pick: Pick,
     events: &mut Seq<Event>,
     text: &mut Text,
 ) -> Result<After, Memory>
-    requires model { plain.old.program ≡ own.now.model }
+    requires program { plain.old.program ≡ own.now.model }
     requires fresh { is_some plain.old.engine.tree ≡ true }
     requires turns { plain.old.engine.turn < 2 ^ 63 }
-    requires head { HeadComes plain.old (option_copied head) }
+    requires root { IsRoot own.now plain.old.engine }
+    requires comes { IfSome (record_of head.now) (ComesBy own.now) }
+    requires late { IfSome (record_of head.now) (λ arrival. plain.old.engine.time ≤ arrival.time) }
     requires empty { events.old ≡ [] }
-    ensures turns { IfOk result (Turns own.now plain.old.engine (option_copied head.entry) plain.new.engine text.old text.new) }
+    ensures turns { IfOk result (Turns own.now pick plain.old.engine (record_of head.now) plain.new.engine text.old text.new) }
     ensures readies { IfOk result (Readies plain.old plain.new) }
+    ensures timely { IfOk result (IsTimely (record_of head.now) plain.new.engine) }
+    ensures unspent { IfOk result (λ after. IsUnspent plain.new after) }
+    ensures quiet { IfOk result (λ after. after ≡ After.Ended Finish.Quiet → record_of head.now ≡ None) }
     ensures emptied { OnOk result (events.new ≡ []) }
-    ensures front { OnErr result ((later : Bool → Engine → Run) →
-        IsFront text.old text.new (trace_text own.now (turn_on own.now plain.old.engine (option_copied head.entry) later).events)) }
 {
+    own.comes();
+    let head = head.record();
     let done = plain.turn();
     let last = plain.time();
     let time = plain.turn_time(head).unwrap_or(last);
     let step = plain.advance(head, events);
-    write_events(events.as_slice(), own, text)?;
+    write_events(events.as_slice(), own, pick, text)?;
     events.truncate(0);
     match step {
         Ok(Step::Turned { took_input }) => Ok(After::Turned { took_input }),
-        Ok(Step::Quiet) => Ok(After::Ended(finish(Finish::Quiet, done, last, text)?)),
-        Err(end) => Ok(After::Ended(finish(finish_of(end, own)?, done + 1, time, text)?)),
+        Ok(Step::Quiet) => last_line(Finish::Quiet, done, last, own, text),
+        Err(end) => last_line(finish_of(end, own)?, done + 1, time, own, text),
     }
 }
 
-/// How a run ends whose start or turn did not come to its end.
-fn finish_of(end: TurnEnd, own: &Running<'_>) -> Result<Finish, Memory>
-    ensures { IfOk result (λ how. (turns time : ℕ) → faulted own.now end turns time ≡ ended how turns time) }
+/// Appends the last line of a trace. Hands back that the run has ended so.
+fn last_line(
+    how: Finish,
+    turns: u64,
+    time: u64,
+    own: &Running<'_>,
+    text: &mut Text,
+) -> Result<After, Memory>
+    ensures { IfOk result (λ after. (after ≡ After.Ended how) × (text.new ≡ text.old ++ event_text own.now (event.Finish how turns time))) }
+{
+    write_end(&how, turns, time, text)?;
+    Ok(After::Ended(how))
+}
+
+/// How a run ends whose turn did not come to its end.
+pub(crate) fn finish_of(end: TurnEnd, own: &Running<'_>) -> Result<Finish, Memory>
+    ensures not_whole { IfOk result (λ how. ¬ (IsWhole how)) }
+    ensures fault { IfOk result (λ how. (turns time : ℕ) (engine : Engine) → faulted own.now end turns time engine ≡ ended how turns time engine) }
+    ensures not_quiet { IfOk result (λ how. how ≢ Finish.Quiet) }
 {
     match end {
         TurnEnd::Memory => Err(Memory),
@@ -200,11 +326,72 @@ fn finish_of(end: TurnEnd, own: &Running<'_>) -> Result<Finish, Memory>
     }
 }
 
+/// Appends the lines of events that are kept. Without memory the text has some of them.
+pub(crate) fn write_events(
+    events: &[Event],
+    own: &Running<'_>,
+    pick: Pick,
+    text: &mut Text,
+) -> Result<(), Memory>
+    ensures ok { OnOk result (text.new ≡ text.old ++ kept_text own.now pick events.now) }
+{
+    for event in events {
+        if picked(event, pick) {
+            own.write_event(event, text)?;
+        }
+    }
+    Ok(())
+}
+
+/// Ends a run whose head is not there.
+fn halt<W: Sink>(
+    why: Unready,
+    turns: u64,
+    time: u64,
+    own: &Running<'_>,
+    text: &mut Text,
+    sink: &mut W,
+) -> Result<Finish, Cut>
+    ensures halts { Halts own.now why turns time text.old (W.written sink.old) (W.written sink.new) result }
+    ensures unread { IsErrOf result Cut.ReadFault → (why ≡ Unready.Refused InputEnd.ReadFault) ⊎ (why ≡ Unready.Unwritten Cut.ReadFault) }
+    ensures cause { IsErrOf result Cut.Unwritten → (why ≡ Unready.Unwritten Cut.Unwritten) ⊎ Rose (W.faults sink.old) (W.faults sink.new) }
+    ensures counted { W.faults sink.old ≤ W.faults sink.new }
+{
+    match why {
+        Unready::Refused(why) => stop(why, turns, time, own, text, sink),
+        Unready::Unwritten(cut) => Err(cut),
+    }
+}
+
 /// Ends a run that wants a head which is no record, or which is not there.
-fn stop(why: InputEnd, turns: u64, time: u64, text: &mut Text) -> Result<Finish, Cut>
-    ensures ok { IfOk result (Stops why turns time text.old text.new) }
-    ensures cut { IsErrOf result Cut.ReadFault → (why ≡ InputEnd.ReadFault) × (text.new ≡ text.old) }
-    ensures kept { OnErr result (text.new ≡ text.old) }
+fn stop<W: Sink>(
+    why: InputEnd,
+    turns: u64,
+    time: u64,
+    own: &Running<'_>,
+    text: &mut Text,
+    sink: &mut W,
+) -> Result<Finish, Cut>
+    ensures ok { IfOk result (Stops own.now why turns time text.old (W.written sink.old) (W.written sink.new)) }
+    ensures cut { IsErrOf result Cut.ReadFault → (why ≡ InputEnd.ReadFault) × (sink.new ≡ sink.old) }
+    ensures front { IfErr result (λ cut. cut ≢ Cut.ReadFault
+        → (engine : Engine) → engine.turn ≡ turns → engine.time ≡ time
+        → IsFront (W.written sink.old) (W.written sink.new) (text.old ++ line_of own.now (offended why engine))) }
+    ensures cause { IsErrOf result Cut.Unwritten → Rose (W.faults sink.old) (W.faults sink.new) }
+    ensures counted { W.faults sink.old ≤ W.faults sink.new }
+{
+    match offence_of(why) {
+        Ok(how) => finish(how, turns, time, own, text, sink),
+        Err(cut) => Err(cut),
+    }
+}
+
+/// How a run ends that wants a head which is no record, or why it is cut short.
+fn offence_of(why: InputEnd) -> Result<Finish, Cut>
+    ensures offence { IfOk result (λ how. IsOffence why) }
+    ensures end { IfOk result (λ how. (engine : Engine) → offended why engine ≡ ended how engine.turn engine.time engine) }
+    ensures read { IsErrOf result Cut.ReadFault → why ≡ InputEnd.ReadFault }
+    ensures cut { IfErr result (λ cut. cut ≢ Cut.Unwritten) }
 {
     let (kind, line) = match why {
         InputEnd::BadLine(line) => (InputKind::BadLine, line),
@@ -213,25 +400,36 @@ fn stop(why: InputEnd, turns: u64, time: u64, text: &mut Text) -> Result<Finish,
         InputEnd::ReadFault => return Err(Cut::ReadFault),
         InputEnd::Memory => return Err(Cut::Memory),
     };
-    Ok(finish(Finish::Input { kind, line }, turns, time, text)?)
+    Ok(Finish::Input { kind, line })
 }
 
-/// Appends the last line of a trace, and hands back how the run ended.
-fn finish(how: Finish, turns: u64, time: u64, text: &mut Text) -> Result<Finish, Memory>
-    ensures ok { IfOk result (λ answer. (answer ≡ how) × (text.new ≡ text.old ++ end_text how turns time)) }
-    ensures err { OnErr result (text.new ≡ text.old) }
+/// Appends the last line of a trace, and hands on what is kept of it. Hands back how the run ended.
+pub(crate) fn finish<W: Sink>(
+    how: Finish,
+    turns: u64,
+    time: u64,
+    own: &Running<'_>,
+    text: &mut Text,
+    sink: &mut W,
+) -> Result<Finish, Cut>
+    ensures ok { IfOk result (λ answer. (answer ≡ how) × Gains (W.written sink.old) (W.written sink.new) (text.old ++ event_text own.now (event.Finish how turns time))) }
+    ensures front { OnErr result (IsFront (W.written sink.old) (W.written sink.new) (text.old ++ event_text own.now (event.Finish how turns time))) }
+    ensures cause { IsErrOf result Cut.Unwritten → Rose (W.faults sink.old) (W.faults sink.new) }
+    ensures no_read { IfErr result (λ why. why ≢ Cut.ReadFault) }
+    ensures counted { W.faults sink.old ≤ W.faults sink.new }
 {
     write_end(&how, turns, time, text)?;
-    Ok(how)
+    close(how, text, sink)
 }
 
-/// Appends the lines of events. Without memory those of the first of them are appended.
-fn write_events(events: &[Event], own: &Running<'_>, text: &mut Text) -> Result<(), Memory>
-    ensures ok { OnOk result (text.new ≡ text.old ++ trace_text own.now events.now) }
-    ensures front { OnErr result (IsFront text.old text.new (trace_text own.now events.now)) }
+/// Hands on what is kept of a trace that has its last line. Hands back how the run ended.
+fn close<W: Sink>(how: Finish, text: &mut Text, sink: &mut W) -> Result<Finish, Cut>
+    ensures ok { IfOk result (λ answer. (answer ≡ how) × Gains (W.written sink.old) (W.written sink.new) text.old) }
+    ensures front { OnErr result (GainsFront (W.written sink.old) (W.written sink.new) text.old) }
+    ensures cause { IsErrOf result Cut.Unwritten → Rose (W.faults sink.old) (W.faults sink.new) }
+    ensures no_read { IfErr result (λ why. why ≢ Cut.ReadFault) }
+    ensures counted { W.faults sink.old ≤ W.faults sink.new }
 {
-    for event in events {
-        own.write_event(event, text)?;
-    }
-    Ok(())
+    hand_on(text, sink)?;
+    Ok(how)
 }

@@ -17,7 +17,7 @@ use Rattle.dsde_sim_turns.specs.declared.step.Step.{Step}
 use Rattle.dsde_sim_turns.specs.declared.step.Step.TheVariants.{Turned, Quiet}
 use Rattle.dsde_sim_turns.specs.Engine.{Engine, next_of, turned}
 use Rattle.dsde_sim_turns.specs.Turn.{advance, after_turn, is_taken, items_at, start, turn, turn_time}
-use Rattle.dsde_run_meaning.specs.Run.{Run, Spots, ended, faulted, go, offended, run, turn_on}
+use Rattle.dsde_run_meaning.specs.Run.{Run, Spots, ended, faulted, go, offended, run, turn_on, unstarted}
 use Rattle.dsde_sim_movers.specs.lemmas.Steps.{same-ok, never-ok, split-then}
 use Rattle.dsde_run_delivery.specs.Turns.{AreOfTurns, IsFinish, RunTurn, run_turns, told_by, turns_of, turns_on}
 use Rattle.dsde_run_delivery.proofs.Keeping.{advance_in}
@@ -26,16 +26,16 @@ use Rattle.dsde_run_delivery.proofs.Keeping.{advance_in}
 alone : (own : List Event) → AllByRecursion IsFinish own → (system : System) → AreOfTurns system [] own
 alone own all system = record { last = own; finish = all; are = refl }
 
-offence-ends : (why : InputEnd) (turns time : ℕ) → AllByRecursion IsFinish (offended why turns time).events
-offence-ends (input_end.BadLine line) turns time = (tt, tt)
-offence-ends (input_end.Backwards line) turns time = (tt, tt)
-offence-ends (input_end.LineTooLong line) turns time = (tt, tt)
-offence-ends input_end.ReadFault turns time = tt
-offence-ends input_end.Memory turns time = tt
+offence-ends : (why : InputEnd) (engine : Engine) → AllByRecursion IsFinish (offended why engine).events
+offence-ends (input_end.BadLine line) engine = (tt, tt)
+offence-ends (input_end.Backwards line) engine = (tt, tt)
+offence-ends (input_end.LineTooLong line) engine = (tt, tt)
+offence-ends input_end.ReadFault engine = tt
+offence-ends input_end.Memory engine = tt
 
-fault-ends : (spots : Spots) (why : TurnEnd) (turns time : ℕ) → AllByRecursion IsFinish (faulted spots why turns time).events
-fault-ends spots (Fault path site kind at) turns time = (tt, tt)
-fault-ends spots Memory turns time = tt
+fault-ends : (spots : Spots) (why : TurnEnd) (turns time : ℕ) (engine : Engine) → AllByRecursion IsFinish (faulted spots why turns time engine).events
+fault-ends spots (Fault path site kind at) turns time engine = (tt, tt)
+fault-ends spots Memory turns time engine = tt
 
 module _ (system : System) (spots : Spots) where
   -- where there is no turn, nothing is told
@@ -63,7 +63,7 @@ module _ (system : System) (spots : Spots) where
     turns_behind own after = elim own [ Turned took_input ↦ this ∷ turns took_input after | Quiet ↦ [] ]
 
     abbrev rest_behind : Step → Engine → Run
-    rest_behind own after = elim own [ Turned took_input ↦ later took_input after | Quiet ↦ ended how.Quiet engine.turn engine.time ]
+    rest_behind own after = elim own [ Turned took_input ↦ later took_input after | Quiet ↦ ended how.Quiet engine.turn engine.time engine ]
 
     on-step : (own : Step) (after : Engine) → step.end ≡ Ok (own, after) → AreOfTurns system (turns_behind own after) (step.events ++ (rest_behind own after).events)
     on-step (Turned took_input) after is =
@@ -74,7 +74,7 @@ module _ (system : System) (spots : Spots) where
           are = ap (λ (own : List Event). step.events ++ own) rest.are ∙ sym (append_assoc step.events (flat_map (told_by system) (turns took_input after)) rest.last);
         }
     on-step Quiet after is =
-        let last = (ended how.Quiet engine.turn engine.time).events in
+        let last = (ended how.Quiet engine.turn engine.time engine).events in
         record { last = last; finish = (tt, tt); are = ap (λ (own : List Event). own ++ last) (quiet-tells engine head after is) }
 
     abbrev turns_at : Result (Step × Engine) TurnEnd → List RunTurn
@@ -83,22 +83,22 @@ module _ (system : System) (spots : Spots) where
     abbrev rest_at : Result (Step × Engine) TurnEnd → Run
     rest_at came = elim came [
       | Ok answer ↦ rest_behind answer.0 answer.1
-      | Err why ↦ faulted spots why (engine.turn + 1) (unwrap_or (turn_time (next_of engine) head) engine.time)
+      | Err why ↦ faulted spots why (engine.turn + 1) (unwrap_or (turn_time (next_of engine) head) engine.time) engine
     ]
 
     on-by : (came : Result (Step × Engine) TurnEnd) → step.end ≡ came → AreOfTurns system (turns_at came) (step.events ++ (rest_at came).events)
     on-by (Ok answer) is = on-step answer.0 answer.1 is
     on-by (Err why) is =
         let time = unwrap_or (turn_time (next_of engine) head) engine.time in
-        let last = (faulted spots why (engine.turn + 1) time).events in
-        record { last = last; finish = fault-ends spots why (engine.turn + 1) time; are = ap (λ (own : List Event). own ++ last) (sym (append-nil step.events)) }
+        let last = (faulted spots why (engine.turn + 1) time engine).events in
+        record { last = last; finish = fault-ends spots why (engine.turn + 1) time engine; are = ap (λ (own : List Event). own ++ last) (sym (append-nil step.events)) }
 
     on-tells : AreOfTurns system (turns_on system engine head turns) (turn_on system spots engine head later).events
     on-tells = on-by step.end refl
 
   pub go-tells : (turns : ℕ) (records : Records) (engine : Engine) → AreOfTurns system (turns_of system turns records engine) (go system spots turns records engine).events
-  go-tells zero records engine = alone (ended how.Bound engine.turn engine.time).events (tt, tt) system
-  go-tells (suc turns) (bad offence) engine = alone (offended offence engine.turn engine.time).events (offence-ends offence engine.turn engine.time) system
+  go-tells zero records engine = alone (ended how.Bound engine.turn engine.time engine).events (tt, tt) system
+  go-tells (suc turns) (bad offence) engine = alone (offended offence engine).events (offence-ends offence engine) system
   go-tells (suc turns) end engine =
       on-tells engine None (λ took_input after. go system spots turns end after) (λ took_input after. turns_of system turns end after) (λ took_input after. go-tells turns end after)
   go-tells (suc turns) (one head later) engine =
@@ -110,7 +110,7 @@ module _ (system : System) (spots : Spots) where
       ((run system spots records turns).events ≡ (start system).events ++ (go system spots turns records engine).events)
       × AreOfTurns system (run_turns system records turns) (go system spots turns records engine).events
   run-tells records turns engine is =
-      let rest = λ (came : Result Engine TurnEnd). (let own : Run = elim came [ Ok begun ↦ go system spots turns records begun | Err why ↦ faulted spots why 0 0 ] in own) in
+      let rest = λ (came : Result Engine TurnEnd). (let own : Run = elim came [ Ok begun ↦ go system spots turns records begun | Err why ↦ faulted spots why 0 0 unstarted ] in own) in
       let taken = λ (came : Result Engine TurnEnd). (let own : List RunTurn = elim came [ Ok begun ↦ turns_of system turns records begun | Err why ↦ [] ] in own) in (
         ap (λ (came : Result Engine TurnEnd). (start system).events ++ (rest came).events) is,
         subst (λ (own : List RunTurn). AreOfTurns system own (go system spots turns records engine).events) (sym (ap taken is)) (go-tells turns records engine),

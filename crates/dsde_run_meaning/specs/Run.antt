@@ -1,4 +1,4 @@
--- A whole run of a system on the records of an input: its events, of which the last says how it ended.
+-- A whole run of a system on the records of an input: its events, of which the last says how it ended, and the engine before that end.
 use Rattle.std.specs.Prelude.{ℕ, zero, suc, ◌+◌, Bool, if◌then◌else◌, List, [], ◌∷◌, ◌++◌, Option, Some, None, unwrap_or, Ok, Err, slice_get}
 use Rattle.dsde_values.specs.declared.arrival.Arrival.{Arrival}
 use Rattle.dsde_values.specs.declared.types.Field.{Field}
@@ -20,22 +20,23 @@ use Rattle.dsde_sim_turns.specs.declared.step.Step.TheVariants.{Turned, Quiet}
 use Rattle.dsde_sim_turns.specs.Engine.{Engine, next_of}
 use Rattle.dsde_sim_turns.specs.Turn.{start, advance, turn_time}
 
--- what a run tells, and how it ended; a run that is cut short has no end
+-- What a run tells, how it ended, and the engine before the turn in which it did. A run that is cut short has no end.
 pub record Run : Type 0 where
   pub events : List Event
   pub end : Option Finish
+  pub state : Engine
 
 -- the end of a run
-abbrev pub ended : Finish → ℕ → ℕ → Run
-ended how turns time = record { events = event.Finish how turns time ∷ []; end = Some how }
+abbrev pub ended : Finish → ℕ → ℕ → Engine → Run
+ended how turns time engine = record { events = event.Finish how turns time ∷ []; end = Some how; state = engine }
 
 -- a run that is cut short here
-abbrev pub cut : Run
-cut = record { events = []; end = None }
+abbrev pub cut : Engine → Run
+cut engine = record { events = []; end = None; state = engine }
 
 -- events, and then the rest of the run
 abbrev pub preceded : List Event → Run → Run
-preceded events rest = record { events = events ++ rest.events; end = rest.end }
+preceded events rest = record { events = events ++ rest.events; end = rest.end; state = rest.state }
 
 -- the line and the column of each place of a model's text
 abbrev pub Spots : Type 0
@@ -46,42 +47,46 @@ abbrev pub spot_at : Spots → ℕ → ℕ × ℕ
 spot_at spots at = unwrap_or (slice_get spots at) (0, 0)
 
 -- the end of a run whose start or turn does not come to its end
-abbrev pub faulted : Spots → TurnEnd → ℕ → ℕ → Run
-faulted spots (Fault path site kind at) turns time =
-    ended (how.Fault (record { path = path; site = site; kind = kind; line = (spot_at spots at).0; column = (spot_at spots at).1 })) turns time
-faulted spots Memory turns time = cut
+abbrev pub faulted : Spots → TurnEnd → ℕ → ℕ → Engine → Run
+faulted spots (Fault path site kind at) turns time engine =
+    ended (how.Fault (record { path = path; site = site; kind = kind; line = (spot_at spots at).0; column = (spot_at spots at).1 })) turns time engine
+faulted spots Memory turns time engine = cut engine
 
 -- the end of a run that wants a line which is no record, or cannot be read
-abbrev pub offended : InputEnd → ℕ → ℕ → Run
-offended (BadLine line) turns time = ended (how.Input kind.BadLine line) turns time
-offended (Backwards line) turns time = ended (how.Input kind.Backwards line) turns time
-offended (LineTooLong line) turns time = ended (how.Input kind.LineTooLong line) turns time
-offended ReadFault turns time = cut
-offended input_end.Memory turns time = cut
+abbrev pub offended : InputEnd → Engine → Run
+offended (BadLine line) engine = ended (how.Input kind.BadLine line) engine.turn engine.time engine
+offended (Backwards line) engine = ended (how.Input kind.Backwards line) engine.turn engine.time engine
+offended (LineTooLong line) engine = ended (how.Input kind.LineTooLong line) engine.turn engine.time engine
+offended ReadFault engine = cut engine
+offended input_end.Memory engine = cut engine
 
 -- one turn with this head of the input, and what comes later where it is done
 abbrev pub turn_on : System → Spots → Engine → Option Arrival → (Bool → Engine → Run) → Run
 turn_on system spots engine head later = preceded (advance system engine head).events (elim (advance system engine head).end [
   | Ok answer ↦ elim answer.0 [
     | Turned took_input ↦ later took_input answer.1
-    | Quiet ↦ ended how.Quiet engine.turn engine.time
+    | Quiet ↦ ended how.Quiet engine.turn engine.time engine
   ]
-  | Err why ↦ faulted spots why (engine.turn + 1) (unwrap_or (turn_time (next_of engine) head) engine.time)
+  | Err why ↦ faulted spots why (engine.turn + 1) (unwrap_or (turn_time (next_of engine) head) engine.time) engine
 ])
 
 -- at most this many turns of an engine on these records, each of which is the head until it is taken
 abbrev pub go : System → Spots → ℕ → Records → Engine → Run
-go system spots zero records engine = ended how.Bound engine.turn engine.time
-go system spots (suc turns) (bad offence) engine = offended offence engine.turn engine.time
+go system spots zero records engine = ended how.Bound engine.turn engine.time engine
+go system spots (suc turns) (bad offence) engine = offended offence engine
 go system spots (suc turns) end engine = turn_on system spots engine None (λ took_input after. go system spots turns end after)
 go system spots (suc turns) (one head later) engine =
     turn_on system spots engine (Some head) (λ took_input after. go system spots turns (if took_input then later else one head later) after)
+
+-- an engine that has not started
+abbrev pub unstarted : Engine
+unstarted = record { tree = None; turn = 0; time = 0; taken = 0 }
 
 -- a system's start, and then at most this many turns on these records
 abbrev pub run : System → Spots → Records → ℕ → Run
 run system spots records turns = preceded (start system).events (elim (start system).end [
   | Ok engine ↦ go system spots turns records engine
-  | Err why ↦ faulted spots why 0 0
+  | Err why ↦ faulted spots why 0 0 unstarted
 ])
 
 -- the records of an input to a model with these in ports, over its table of types

@@ -1,6 +1,6 @@
 //! The engine: the start of a run, and its turns.
 
-ghost use Rattle.std.specs.Prelude.{◌≡◌, ◌<◌, ◌≤◌, ◌^◌, Some, Ok, Err, is_some, is_none, is_err, true, IfOk, IfErr, drop, length};
+ghost use Rattle.std.specs.Prelude.{◌≡◌, ◌<◌, ◌≤◌, ◌^◌, Some, Ok, Err, is_some, is_none, is_err, true, IfOk, IfErr, IfSome, drop, length};
 ghost use Rattle.std.specs.Option.{option_copied};
 ghost use Rattle.dsde_values.specs.Path.{root};
 ghost use Rattle.dsde_sim_events.specs.Told.{Comes, Tells, at};
@@ -122,7 +122,8 @@ impl<'p> Plain<'p> {
     }
 
     /// Takes one turn with this head of the input, and tells it: at the lesser of the time of the
-    /// next event and of the head, which is taken where the turn is at its time.
+    /// next event and of the head, which is taken where the turn is at its time. A head is not before
+    /// the time of the last turn.
     ///
     /// After a fault the events before it were told, and without memory some of the events, from
     /// their front. After either the engine is spent. `Quiet` comes exactly where there is no head
@@ -138,6 +139,7 @@ impl<'p> Plain<'p> {
         requires fresh { is_some self.old.engine.tree ≡ true }
         requires turns { self.old.engine.turn < 2 ^ 63 }
         requires head { HeadComes self.old (option_copied head) }
+        requires late { IfSome (option_copied head) (λ arrival. self.old.engine.time ≤ arrival.time) }
         ensures ok { IfOk result (λ step. Tells (advance (system self.old.program) self.old.engine (option_copied head.entry)) events.old events.new (Ok (step, self.new.engine))) }
         ensures err { IfErr result (λ end. Tells (advance (system self.old.program) self.old.engine (option_copied head.entry)) events.old events.new (Err end)) }
         ensures delivered { IsTurnDelivered (system self.old.program) self.old.engine (option_copied head.entry) (drop (length events.old) events.new) result }

@@ -16,18 +16,18 @@ use Rattle.dsde_sim_turns.specs.declared.step.Step.{Step}
 use Rattle.dsde_sim_turns.specs.declared.step.Step.TheVariants.{Turned, Quiet}
 use Rattle.dsde_sim_turns.specs.Engine.{Engine, next_of}
 use Rattle.dsde_sim_turns.specs.Turn.{start, advance, turn_time}
-use Rattle.dsde_run_meaning.specs.Run.{Run, Spots, ended, faulted, go, offended, preceded, run, turn_on}
+use Rattle.dsde_run_meaning.specs.Run.{Run, Spots, ended, faulted, go, offended, preceded, run, turn_on, unstarted}
 use Rattle.dsde_sound_runs.specs.Ends.{AllArrive, Arrives, HasEnd}
 use Rattle.dsde_sound_runs.proofs.Relied.{Laws}
 use Rattle.dsde_sound_runs.proofs.Safe.{Safe}
 use Rattle.dsde_sound_runs.proofs.Turning.{Behind, Stands, engine-advances, engine-starts}
 
-offence-ends : (offence : InputEnd) (turns time : ℕ) → IsOffence offence → HasEnd (offended offence turns time)
-offence-ends (input_end.BadLine line) turns time is = record { how = _; is = refl }
-offence-ends (input_end.Backwards line) turns time is = record { how = _; is = refl }
-offence-ends (input_end.LineTooLong line) turns time is = record { how = _; is = refl }
-offence-ends input_end.ReadFault turns time is = absurd is
-offence-ends input_end.Memory turns time is = absurd is
+offence-ends : (offence : InputEnd) (engine : Engine) → IsOffence offence → HasEnd (offended offence engine)
+offence-ends (input_end.BadLine line) engine is = record { how = _; is = refl }
+offence-ends (input_end.Backwards line) engine is = record { how = _; is = refl }
+offence-ends (input_end.LineTooLong line) engine is = record { how = _; is = refl }
+offence-ends input_end.ReadFault engine is = absurd is
+offence-ends input_end.Memory engine is = absurd is
 
 module _ (model : Model) (laws : Laws model) (spots : Spots) where
   abbrev Later : Type 0
@@ -36,22 +36,22 @@ module _ (model : Model) (laws : Laws model) (spots : Spots) where
   abbrev GoesOn : Later → Type 0
   GoesOn later = (took_input : Bool) (after : Engine) → Stands model after → HasEnd (later took_input after)
 
-  by-end : (end : Result (Step × Engine) TurnEnd) (events : List Event) (later : Later) (turns time number moment : ℕ) → Safe (Behind model) end → GoesOn later
+  by-end : (end : Result (Step × Engine) TurnEnd) (events : List Event) (later : Later) (engine : Engine) (number moment : ℕ) → Safe (Behind model) end → GoesOn later
       → HasEnd (preceded events (elim end [
         | Ok answer ↦ elim answer.0 [
           | Turned took_input ↦ later took_input answer.1
-          | Quiet ↦ ended how.Quiet turns time
+          | Quiet ↦ ended how.Quiet engine.turn engine.time engine
         ]
-        | Err why ↦ faulted spots why number moment
+        | Err why ↦ faulted spots why number moment engine
       ]))
-  by-end (Ok (Turned took_input, after)) events later turns time number moment safe goes = let rest = goes took_input after safe in record { how = rest.how; is = rest.is }
-  by-end (Ok (Quiet, after)) events later turns time number moment safe goes = record { how = _; is = refl }
-  by-end (Err (turn_end.Fault path site kind place)) events later turns time number moment safe goes = record { how = _; is = refl }
-  by-end (Err turn_end.Memory) events later turns time number moment safe goes = absurd safe
+  by-end (Ok (Turned took_input, after)) events later engine number moment safe goes = let rest = goes took_input after safe in record { how = rest.how; is = rest.is }
+  by-end (Ok (Quiet, after)) events later engine number moment safe goes = record { how = _; is = refl }
+  by-end (Err (turn_end.Fault path site kind place)) events later engine number moment safe goes = record { how = _; is = refl }
+  by-end (Err turn_end.Memory) events later engine number moment safe goes = absurd safe
 
   turn-ends : (engine : Engine) → Stands model engine → (head : Option Arrival) → IfSome head (Arrives model) → (later : Later) → GoesOn later → HasEnd (turn_on (system model) spots engine head later)
   turn-ends engine stands head arrive later goes =
-      by-end (advance (system model) engine head).end (advance (system model) engine head).events later engine.turn engine.time (engine.turn + 1) (unwrap_or (turn_time (next_of engine) head) engine.time)
+      by-end (advance (system model) engine head).end (advance (system model) engine head).events later engine (engine.turn + 1) (unwrap_or (turn_time (next_of engine) head) engine.time)
       (engine-advances model laws engine stands head arrive) goes
 
   arrive-if : (took_input : Bool) (head : Arrival) (later : Records) → Arrives model head → AllArrive model later → AllArrive model (if took_input then later else one head later)
@@ -60,7 +60,7 @@ module _ (model : Model) (laws : Laws model) (spots : Spots) where
 
   goes-to-end : (turns : ℕ) (records : Records) (engine : Engine) → Stands model engine → AllArrive model records → HasEnd (go (system model) spots turns records engine)
   goes-to-end zero records engine stands arrive = record { how = _; is = refl }
-  goes-to-end (suc turns) (bad offence) engine stands arrive = offence-ends offence engine.turn engine.time arrive
+  goes-to-end (suc turns) (bad offence) engine stands arrive = offence-ends offence engine arrive
   goes-to-end (suc turns) end engine stands arrive =
       turn-ends engine stands None tt (λ took_input after. go (system model) spots turns end after) (λ took_input after stands. goes-to-end turns end after stands tt)
   goes-to-end (suc turns) (one head later) engine stands arrive =
@@ -68,7 +68,7 @@ module _ (model : Model) (laws : Laws model) (spots : Spots) where
       (λ took_input after stands. goes-to-end turns (if took_input then later else one head later) after stands (arrive-if took_input head later arrive.0 arrive.1))
 
   by-start : (end : Result Engine TurnEnd) (events : List Event) (turns : ℕ) (records : Records) → Safe (Stands model) end → AllArrive model records
-      → HasEnd (preceded events (elim end [ Ok engine ↦ go (system model) spots turns records engine | Err why ↦ faulted spots why 0 0 ]))
+      → HasEnd (preceded events (elim end [ Ok engine ↦ go (system model) spots turns records engine | Err why ↦ faulted spots why 0 0 unstarted ]))
   by-start (Ok engine) events turns records safe arrive = let rest = goes-to-end turns records engine safe arrive in record { how = rest.how; is = rest.is }
   by-start (Err (turn_end.Fault path site kind place)) events turns records safe arrive = record { how = _; is = refl }
   by-start (Err turn_end.Memory) events turns records safe arrive = absurd safe

@@ -1,7 +1,11 @@
 //! The lines of a trace.
 #![tactic(auto)]
 
+mod count;
+mod pick;
 mod text;
 
+pub use count::{Summary, count_event};
 pub use dsde_sim_events::{Event, Fault, Finish};
+pub use pick::{Pick, picked};
 pub use text::{input_text, write_end, write_event, write_fault};

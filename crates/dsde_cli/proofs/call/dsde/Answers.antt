@@ -1,10 +1,11 @@
-use Rattle.std.proofs.Common.{◌≡◌, subst, sym, ap, ◌∙◌}
+use Rattle.std.proofs.Common.{◌≡◌, [], subst, sym, ap, ◌∙◌}
 use Rattle.std.specs.Prelude.{IfSome}
 use Rattle.dsde_run.specs.Reading.{Told, TakesWanted}
 use Rattle.dsde_run.specs.Run.{run, records_in}
 use Rattle.dsde_cli_command.specs.Commands.{CheckCommand, RunCommand, checks, runs}
 use Rattle.dsde_cli.specs.Answer.{Answers, answer_of}
 use Rattle.dsde_cli.specs.Causes.{Holds, HoldsModel}
+use Rattle.dsde_cli.specs.Loaded.{pick_of}
 use Rattle.dsde_cli.specs.Outcome.{Comes, Completes, SaysEnd}
 use Rattle.dsde_cli.proofs.Completing.{check-reported, completes-reported, holds-right}
 use Rattle.dsde_cli.proofs.Outcomes.{same_run, same_check, no_run, no_task, comes-reported, ends-reported, answers-reported}
@@ -14,16 +15,15 @@ use Rattle.dsde_cli.proofs.call.dsde.Goals.{in-Some-Check, in-Some-Run, in-None}
 pub returns-clause-runs : goal.returns-clause-runs
 returns-clause-runs g c = λ loaded. elim c.match-read_command.branch [
   | in-Some-Run w ↦
-      let own : RunCommand = record { model = w.in-Some-Run.model.now; turns = w.in-Some-Run.turns } in
+      let own : RunCommand = record { model = w.in-Some-Run.model.now; turns = w.in-Some-Run.turns; kept = w.in-Some-Run.only } in
       let same = same_run own loaded.asked.run ((rw w.in-Some-Run.field-0-is at w.in-Some-Run.ensures.spelled) ∙ loaded.asked.spelled) in
       let here = subst (λ asked. Holds asked.model (g.F.Shelf.held c.args.shelf.now) loaded.own) (sym same) loaded.holds in
-      let turns : own.turns ≡ loaded.asked.run.turns = ap (λ asked. asked.turns) same in
-      subst (λ turns. IfSome (g.R.Source.left c.args.input.now) (λ bytes. IfSome (g.W.Sink.written c.args.out.now) (λ written.
-      Comes loaded.own (λ records. run loaded.own records turns) bytes (g.R.Source.left c.match-read_command.input) written (g.W.Sink.written c.match-read_command.out) c.report.result))) turns
+      subst (λ (asked : RunCommand). IfSome (g.R.Source.left c.args.input.now) (λ bytes. IfSome (g.W.Sink.written c.args.out.now) (λ written.
+      Comes loaded.own (pick_of asked.kept) (λ records. run loaded.own records asked.turns) bytes (g.R.Source.left c.match-read_command.input) written (g.W.Sink.written c.match-read_command.out) c.report.result))) same
       (rw (w.input-is, w.out-is)
-      (comes-reported loaded.own (λ records. run loaded.own records own.turns)
+      (comes-reported loaded.own (pick_of own.kept) (λ records. run loaded.own records own.turns)
       (g.R.Source.left c.args.input.now) (g.R.Source.left w.load_and_run-status.new.input) (g.W.Sink.written c.args.out.now) (g.W.Sink.written w.load_and_run-status.new.out)
-      w.load_and_run-status.result c.report.result (w.load_and_run-status.ensures.runs loaded.own here) (rw w.status-is at c.report.ensures.same)))
+      w.load_and_run-status.result c.report.result (rw w.pick_of.ensures at (w.load_and_run-status.ensures.runs loaded.own here)) (rw w.status-is at c.report.ensures.same)))
   | in-Some-Check w ↦ absurd (no_run (record { model = w.in-Some-Check.model.now; print = w.in-Some-Check.print }) loaded.asked.run ((rw w.in-Some-Check.field-0-is at w.in-Some-Check.ensures.spelled) ∙ loaded.asked.spelled))
   | in-None w ↦ absurd (no_task (runs loaded.asked.run) (w.in-None.ensures.spelled ∙ loaded.asked.spelled))
 ]
@@ -31,12 +31,12 @@ returns-clause-runs g c = λ loaded. elim c.match-read_command.branch [
 pub returns-clause-taken : goal.returns-clause-taken
 returns-clause-taken g c = λ loaded. elim c.match-read_command.branch [
   | in-Some-Run w ↦
-      let own : RunCommand = record { model = w.in-Some-Run.model.now; turns = w.in-Some-Run.turns } in
+      let own : RunCommand = record { model = w.in-Some-Run.model.now; turns = w.in-Some-Run.turns; kept = w.in-Some-Run.only } in
       let same = same_run own loaded.asked.run ((rw w.in-Some-Run.field-0-is at w.in-Some-Run.ensures.spelled) ∙ loaded.asked.spelled) in
       let here = subst (λ asked. Holds asked.model (g.F.Shelf.held c.args.shelf.now) loaded.own) (sym same) loaded.holds in
       let turns : own.turns ≡ loaded.asked.run.turns = ap (λ asked. asked.turns) same in
       subst (λ turns. Told (g.R.Source.left c.args.input.now) (g.R.Source.left c.match-read_command.input) (λ before.
-      TakesWanted (λ records. run loaded.own records turns) (records_in loaded.own before) before)) turns
+      TakesWanted (λ records. run loaded.own records turns) (records_in loaded.own before) [] before)) turns
       (rw w.input-is (w.load_and_run-status.ensures.taken loaded.own here))
   | in-Some-Check w ↦ absurd (no_run (record { model = w.in-Some-Check.model.now; print = w.in-Some-Check.print }) loaded.asked.run ((rw w.in-Some-Check.field-0-is at w.in-Some-Check.ensures.spelled) ∙ loaded.asked.spelled))
   | in-None w ↦ absurd (no_task (runs loaded.asked.run) (w.in-None.ensures.spelled ∙ loaded.asked.spelled))
@@ -54,14 +54,14 @@ returns-clause-checks g c = λ checked. elim c.match-read_command.branch [
       (rw w.out-is
       (answers-reported (answer_of own.print checked.model) (g.W.Sink.written c.args.out.now) (g.W.Sink.written w.load_and_check-status.new.out)
       w.load_and_check-status.result c.report.result (w.load_and_check-status.ensures.checks checked.model here) (rw w.status-is at c.report.ensures.same)))
-  | in-Some-Run w ↦ absurd (no_run checked.asked.check (record { model = w.in-Some-Run.model.now; turns = w.in-Some-Run.turns }) (sym ((rw w.in-Some-Run.field-0-is at w.in-Some-Run.ensures.spelled) ∙ checked.asked.spelled)))
+  | in-Some-Run w ↦ absurd (no_run checked.asked.check (record { model = w.in-Some-Run.model.now; turns = w.in-Some-Run.turns; kept = w.in-Some-Run.only }) (sym ((rw w.in-Some-Run.field-0-is at w.in-Some-Run.ensures.spelled) ∙ checked.asked.spelled)))
   | in-None w ↦ absurd (no_task (checks checked.asked.check) (w.in-None.ensures.spelled ∙ checked.asked.spelled))
 ]
 
 pub returns-clause-ends : goal.returns-clause-ends
 returns-clause-ends g c = λ loaded. elim c.match-read_command.branch [
   | in-Some-Run w ↦
-      let asked : RunCommand = record { model = w.in-Some-Run.model.now; turns = w.in-Some-Run.turns } in
+      let asked : RunCommand = record { model = w.in-Some-Run.model.now; turns = w.in-Some-Run.turns; kept = w.in-Some-Run.only } in
       let same = same_run asked loaded.asked.run ((rw w.in-Some-Run.field-0-is at w.in-Some-Run.ensures.spelled) ∙ loaded.asked.spelled) in
       let here = subst (λ asked. Holds asked.model (g.F.Shelf.held c.args.shelf.now) loaded.own) (sym same) loaded.holds in
       let turns : asked.turns ≡ loaded.asked.run.turns = ap (λ asked. asked.turns) same in
@@ -78,7 +78,7 @@ returns-clause-ends g c = λ loaded. elim c.match-read_command.branch [
 pub returns-clause-complete : goal.returns-clause-complete
 returns-clause-complete g c = λ loaded. elim c.match-read_command.branch [
   | in-Some-Run w ↦
-      let asked : RunCommand = record { model = w.in-Some-Run.model.now; turns = w.in-Some-Run.turns } in
+      let asked : RunCommand = record { model = w.in-Some-Run.model.now; turns = w.in-Some-Run.turns; kept = w.in-Some-Run.only } in
       let same = same_run asked loaded.asked.run ((rw w.in-Some-Run.field-0-is at w.in-Some-Run.ensures.spelled) ∙ loaded.asked.spelled) in
       let here = subst (λ asked. Holds asked.model (g.F.Shelf.held c.args.shelf.now) loaded.own) (sym same) loaded.holds in
       let turns : asked.turns ≡ loaded.asked.run.turns = ap (λ asked. asked.turns) same in
@@ -98,7 +98,7 @@ returns-clause-complete_check g c = λ checked. elim c.match-read_command.branch
       let here = subst (λ asked. HoldsModel asked.model (g.F.Shelf.held c.args.shelf.now) checked.model) (sym same) checked.holds in
       rw (w.shelf-is, w.out-is) (λ shelf sink.
       check-reported w.load_and_check-status.result c.report.result (w.load_and_check-status.ensures.complete checked.model here shelf sink) (rw w.status-is at c.report.ensures.same))
-  | in-Some-Run w ↦ absurd (no_run checked.asked.check (record { model = w.in-Some-Run.model.now; turns = w.in-Some-Run.turns }) (sym ((rw w.in-Some-Run.field-0-is at w.in-Some-Run.ensures.spelled) ∙ checked.asked.spelled)))
+  | in-Some-Run w ↦ absurd (no_run checked.asked.check (record { model = w.in-Some-Run.model.now; turns = w.in-Some-Run.turns; kept = w.in-Some-Run.only }) (sym ((rw w.in-Some-Run.field-0-is at w.in-Some-Run.ensures.spelled) ∙ checked.asked.spelled)))
   | in-None w ↦ absurd (no_task (checks checked.asked.check) (w.in-None.ensures.spelled ∙ checked.asked.spelled))
 ]
 

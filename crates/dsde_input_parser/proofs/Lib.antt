@@ -1,0 +1,4 @@
+pub mod ItemLists
+pub mod Items
+pub mod RecordLines
+pub mod Times

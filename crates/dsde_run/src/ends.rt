@@ -1,0 +1,76 @@
+//! How the turns of a run end, in one list.
+
+ghost use Rattle.std.specs.Prelude.{◌≡◌, ◌+◌, ◌<◌, ◌≤◌, ◌^◌, [], true, false, is_some};
+ghost use Rattle.dsde_io.specs.Fault.{Rose};
+ghost use Rattle.dsde_run.specs.Run.{go};
+ghost use Rattle.dsde_run.specs.Reading.{Told, TakesWanted, Comes};
+ghost use Rattle.dsde_input.specs.Reader.{least_time};
+ghost use Rattle.dsde_run.specs.Steps.{IsRoot, to_give};
+ghost use Rattle.dsde_run.specs.Ends.{answer_of};
+
+use crate::Running;
+use crate::run::{Cut, go};
+use dsde_input::InputReader;
+use dsde_io::{Sink, Source};
+use dsde_sim::Plain;
+use dsde_sim_events::{Fault, Finish, InputKind};
+use dsde_trace::Pick;
+use std::alloc::Global;
+
+/// How the turns of a run end.
+#[derive(Debug, Drop)]
+pub enum RunEnd {
+    Bound,
+    Quiet,
+    BadInput(InputKind, u64),
+    Fault(Fault),
+    ReadFault,
+    Unwritten,
+    Memory,
+}
+
+/// At most this many turns. The lines of a turn are handed on before the next record is asked for.
+pub fn run_turns<R: Source, W: Sink>(
+    alloc: Global,
+    plain: &mut Plain<'_>,
+    reader: &mut InputReader,
+    source: &mut R,
+    sink: &mut W,
+    own: &Running<'_>,
+    pick: Pick,
+    turns: u64,
+) -> RunEnd
+    requires program { plain.old.program ≡ own.now.model }
+    requires root { IsRoot own.now plain.old.engine }
+    requires fresh { is_some plain.old.engine.tree ≡ true }
+    requires in_time { plain.old.engine.time ≤ least_time reader.old }
+    requires bounded { plain.old.engine.turn + turns < 2 ^ 63 }
+
+    ensures comes { Told (R.left source.old) (R.left source.new) (λ before.
+        Comes own.now pick (λ records. go own.now turns records plain.old.engine) (to_give own.now reader.old before)
+        plain.new.engine (W.written sink.old) (W.written sink.new) (answer_of result) reader.old.held before) }
+    ensures taken { Told (R.left source.old) (R.left source.new) (λ before.
+        TakesWanted (λ records. go own.now turns records plain.old.engine) (to_give own.now reader.old before) reader.old.held before) }
+    ensures quiet { reader.old.ended ≡ false → result ≡ RunEnd.Quiet → Told (R.left source.old) (R.left source.new) (λ _ after. after ≡ []) }
+
+    ensures unread { result ≡ RunEnd.ReadFault → Rose (R.faults source.old) (R.faults source.new) }
+    ensures unwritten { result ≡ RunEnd.Unwritten → Rose (W.faults sink.old) (W.faults sink.new) }
+    ensures reads_counted { R.faults source.old ≤ R.faults source.new }
+    ensures writes_counted { W.faults sink.old ≤ W.faults sink.new }
+{
+    flat(go(alloc, plain, reader, source, sink, own, pick, turns))
+}
+
+fn flat(answer: Result<Finish, Cut>) -> RunEnd
+    ensures { answer_of result ≡ answer }
+{
+    match answer {
+        Ok(Finish::Bound) => RunEnd::Bound,
+        Ok(Finish::Quiet) => RunEnd::Quiet,
+        Ok(Finish::Input { kind, line }) => RunEnd::BadInput(kind, line),
+        Ok(Finish::Fault(fault)) => RunEnd::Fault(fault),
+        Err(Cut::ReadFault) => RunEnd::ReadFault,
+        Err(Cut::Unwritten) => RunEnd::Unwritten,
+        Err(Cut::Memory) => RunEnd::Memory,
+    }
+}
