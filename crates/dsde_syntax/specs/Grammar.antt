@@ -256,6 +256,10 @@ bracket_tokens bracket = in_brackets (expr_tokens bracket.value)
 abbrev pub component_tokens : Id → Option Bracket → Tokens
 component_tokens name index = id_tokens name ++ optional bracket_tokens index
 
+-- "is" | ":", what makes an entry soft
+abbrev pub entry_mark : Bool → Tokens
+entry_mark soft = (if soft then tok.Sign sign.Colon else tok.Key key.Is) ∷ []
+
 -- "net" | "exec" | id ["[" expr "]"]
 abbrev pub end_part_tokens : EndPart → Tokens
 end_part_tokens end_part.Net = word key.Net
@@ -282,9 +286,9 @@ link_tokens source target via =
 
 -- an item
 abbrev pub item_step : Item-F Tokens Tokens → Tokens
--- "comp" id ["[" expr "]"] "is" id args ";"
-item_step (Item-F.Comp at name index model args) =
-    word key.Comp ++ component_tokens name index ++ word key.Is ++ id_tokens model ++ args_tokens args ++ mark sign.Semicolon
+-- "comp" id ["[" expr "]"] ("is" | ":") id args ";"
+item_step (Item-F.Comp at name index soft model args) =
+    word key.Comp ++ component_tokens name index ++ entry_mark soft ++ id_tokens model ++ args_tokens args ++ mark sign.Semicolon
 -- "link" end "->" end [..] ";"
 item_step (Item-F.Link at source target via) = link_tokens source target via
 -- "let" id "=" expr ";"

@@ -254,7 +254,7 @@ is_via via = if_written (λ (own : ViaKey). is_expr own.value) via.key && is_exp
 
 -- whether an item's parts are of the grammar
 abbrev pub is_item_step : Item-F Bool Bool → Bool
-is_item_step (Item-F.Comp at name index model args) = is_index index && list_all is_expr args
+is_item_step (Item-F.Comp at name index soft model args) = is_index index && list_all is_expr args
 is_item_step (Item-F.Link at source target via) = is_end source && is_end target && if_written is_via via
 is_item_step (Item-F.Let name value) = is_expr value
 is_item_step (Item-F.If arms other) = has_first arms && all_hold arms && if_written all_hold other

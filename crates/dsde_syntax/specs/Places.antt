@@ -216,7 +216,7 @@ abbrev pub via_span : ViaPart → Span
 via_span via = token >> bracketed (id_span via.value >> written_span via_key_span via.key) >> token >> expr_span via.body
 
 abbrev pub item_span_step : Item-F Span Span → Span
-item_span_step (Item-F.Comp at name index model args) =
+item_span_step (Item-F.Comp at name index soft model args) =
     token_at at >> component_span name index >> token >> id_span model >> args_span (map expr_span args) >> token
 item_span_step (Item-F.Link at source target via) =
     token_at at >> end_span source >> token >> end_span target >> written_span via_span via >> token

@@ -6,11 +6,13 @@ use crate::{Expr, Id, Items};
 #[cycle(item)]
 #[derive(Drop)]
 pub enum Item {
-    /// `comp name[index] is model(args);`, with the place of `comp`.
+    /// `comp name[index] is model(args);`, or with `:` in place of `is` for a soft entry, with the
+    /// place of `comp`.
     Comp {
         at: u32,
         name: Id,
         index: Option<Bracket>,
+        soft: bool,
         model: Id,
         args: Items<Expr>,
     },

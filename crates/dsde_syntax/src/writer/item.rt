@@ -1,7 +1,7 @@
 //! The tokens of items.
 
 ghost use Rattle.std.specs.Prelude.{◌≡◌, ◌++◌, map, OnOk};
-ghost use Rattle.dsde_syntax.specs.Grammar.{word, mark, elses, block, else_block, optional, in_parens, id_tokens, args_tokens, set_tokens, component_tokens, end_part_tokens, end_tokens, link_tokens, via_key_tokens, via_tokens, item_tokens, item_arm_tokens};
+ghost use Rattle.dsde_syntax.specs.Grammar.{word, mark, elses, block, else_block, optional, in_parens, id_tokens, args_tokens, set_tokens, component_tokens, entry_mark, end_part_tokens, end_tokens, link_tokens, via_key_tokens, via_tokens, item_tokens, item_arm_tokens};
 ghost use Rattle.dsde_words.specs.declared.key.Key.TheVariants as key;
 ghost use Rattle.dsde_syntax.specs.declared.token.Sign.TheVariants as sign;
 
@@ -86,19 +86,31 @@ impl Writer {
         self.sign(Sign::Semicolon)
     }
 
-    /// `comp name[index] is model(args);`
+    /// `:` of a soft entry, `is` of any other.
+    fn entry_mark(&mut self, soft: bool) -> Result<(), Memory>
+        ensures { OnOk result (self.new ≡ self.old ++ entry_mark soft) }
+    {
+        if soft {
+            self.sign(Sign::Colon)
+        } else {
+            self.word(Key::Is)
+        }
+    }
+
+    /// `comp name[index] is model(args);`, or with `:` in place of `is`.
     fn comp(
         &mut self,
         name: &Id,
         index: &Option<Bracket>,
+        soft: bool,
         model: &Id,
         args: &[Expr],
     ) -> Result<(), Memory>
-        ensures { OnOk result (self.new ≡ self.old ++ (word key.Comp ++ component_tokens name.now index.now ++ word key.Is ++ id_tokens model.now ++ args_tokens args.now ++ mark sign.Semicolon)) }
+        ensures { OnOk result (self.new ≡ self.old ++ (word key.Comp ++ component_tokens name.now index.now ++ entry_mark soft ++ id_tokens model.now ++ args_tokens args.now ++ mark sign.Semicolon)) }
     {
         self.word(Key::Comp)?;
         self.component(name, index)?;
-        self.word(Key::Is)?;
+        self.entry_mark(soft)?;
         self.call(model, args)?;
         self.sign(Sign::Semicolon)
     }
@@ -119,10 +131,11 @@ impl Writer {
             Item::Comp {
                 name,
                 index,
+                soft,
                 model,
                 args,
                 ..
-            } => self.comp(name, index, model, args.as_slice()),
+            } => self.comp(name, index, *soft, model, args.as_slice()),
             Item::Link { from, to, via, .. } => self.link(from, to, via),
             Item::Let { name, value } => self.let_item(name, value),
             Item::If { arms, other } => {
