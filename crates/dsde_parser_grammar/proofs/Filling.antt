@@ -12,13 +12,13 @@ use Rattle.dsde_words.specs.Words.{IsIdentifier}
 use Rattle.dsde_syntax.specs.Spelling.{IsToken}
 use Rattle.dsde_parser_grammar.specs.Want.{Want}
 use Rattle.dsde_parser_grammar.specs.Want as want
-use Rattle.dsde_parser_grammar.specs.Steps.{Wants, step, may_end, go_if, is_key, is_sign, name_step, type_step, expr_step, negation_step, minus_step, prim_step, suffix_step, comparison_step, fallback_step, after_name_step, args_rest_step, row_rest_step, test_step, else_rest_step, stmt_step, else_step, else_block_step, item_step, index_step, end_step, via_step, via_key_step, decl_step, params_rest_step, port_step, state_step, block}
+use Rattle.dsde_parser_grammar.specs.Steps.{Wants, step, may_end, go_if, is_key, is_sign, name_step, type_step, expr_step, negation_step, minus_step, prim_step, suffix_step, comparison_step, fallback_step, after_name_step, args_rest_step, row_rest_step, test_step, else_rest_step, stmt_step, else_step, else_block_step, item_step, index_step, entry_mark_step, end_step, via_step, via_key_step, decl_step, params_rest_step, port_step, state_step, block}
 use Rattle.dsde_parser_grammar.proofs.Values.{Value, spelled, Values, spells, Meets}
 use Rattle.dsde_parser_grammar.proofs.Taking.{Sound, takes-sound, optional-sound, word-takes, mark-takes, name-takes, named}
 use Rattle.dsde_parser_grammar.proofs.ExprParts.{type-takes, negation-takes, minus-takes, suffix-takes, suffixes-sound, factors-sound, terms-sound, comparison-takes, conjuncts-sound, disjuncts-sound, fallback-takes}
 use Rattle.dsde_parser_grammar.proofs.PrimParts.{prim-takes, expr-takes, after_name-takes, after_name-none, args_rest-takes, more_exprs-sound, more_fields-sound, row_rest-takes, test-takes, else_rest-takes}
 use Rattle.dsde_parser_grammar.proofs.StmtParts.{stmt-takes, stmts-sound, other_stmts-takes, other_stmts-none, else_stmts-takes}
-use Rattle.dsde_parser_grammar.proofs.ItemParts.{index-takes, index-none, end-takes, via-takes, via_key-takes, item-takes, items-sound, other_items-takes, other_items-none, else_items-takes}
+use Rattle.dsde_parser_grammar.proofs.ItemParts.{index-takes, index-none, entry_mark-takes, end-takes, via-takes, via_key-takes, item-takes, items-sound, other_items-takes, other_items-none, else_items-takes}
 use Rattle.dsde_parser_grammar.proofs.DeclParts.{more_names-sound, more_typed-sound, params_rest-takes, port-takes, ports-sound, state-takes, states-sound, phase-takes, phase-none, decl-takes, decls-sound}
 
 -- a want that may be met by nothing is
@@ -85,6 +85,7 @@ sound want.items t = items-sound t
 sound want.other_items t = optional-sound (λ u. Meets want.other_items (t ∷ u)) (Meets want.other_items []) (else_step want.else_items t) (other_items-takes t) other_items-none
 sound want.else_items t = takes-sound (λ u. Meets want.else_items (t ∷ u)) (Meets want.else_items []) (else_block_step want.items want.other_items t) (else_items-takes t)
 sound want.index t = optional-sound (λ u. Meets want.index (t ∷ u)) (Meets want.index []) (index_step t) (index-takes t) index-none
+sound want.entry_mark t = takes-sound (λ u. Meets want.entry_mark (t ∷ u)) (Meets want.entry_mark []) (entry_mark_step t) (entry_mark-takes t)
 sound want.end t = takes-sound (λ u. Meets want.end (t ∷ u)) (Meets want.end []) (end_step t) (end-takes t)
 sound want.via t = optional-sound (λ u. Meets want.via (t ∷ u)) (Meets want.via []) (via_step t) (via-takes t) (none want.via refl)
 sound want.via_key t = optional-sound (λ u. Meets want.via_key (t ∷ u)) (Meets want.via_key []) (via_key_step t) (via_key-takes t) (none want.via_key refl)
@@ -176,6 +177,7 @@ filled want.else_stmts =
 filled want.item = taken want.item (tok.Key key.Let) tt _ (item-takes (tok.Key key.Let)) (more-filled name-filled set-filled)
 filled want.else_items =
     taken want.else_items (tok.Sign sign.OpenBrace) tt _ (else_items-takes (tok.Sign sign.OpenBrace)) (more-filled (ended want.items refl) (more-filled (mark-filled sign.CloseBrace) none-filled))
+filled want.entry_mark = taken want.entry_mark (tok.Key key.Is) tt [] (entry_mark-takes (tok.Key key.Is)) none-filled
 filled want.end = taken want.end (tok.Key key.Net) tt _ (end-takes (tok.Key key.Net)) (more-filled (mark-filled sign.Dot) (more-filled name-filled none-filled))
 filled want.decl =
     taken want.decl (tok.Key key.Top) tt _ (decl-takes (tok.Key key.Top))

@@ -1,5 +1,5 @@
 -- The steps of items are sound.
-use Rattle.std.proofs.Common.{◌≡◌, Bool, true, [], ◌∷◌, ◌++◌, map, Option, Some, None, refl, sym, ap, ◌∙◌}
+use Rattle.std.proofs.Common.{◌≡◌, Bool, true, false, [], ◌∷◌, ◌++◌, map, Option, Some, None, refl, sym, ap, ◌∙◌}
 use Rattle.std.proofs.lemmas.List.{append-nil}
 use Rattle.std.specs.Prelude.{flat_map}
 use Rattle.dsde_syntax.specs.declared.token.Tok.{Tok}
@@ -14,11 +14,11 @@ use Rattle.dsde_syntax.specs.declared.item.Item.TheFolds.{map-Item}
 use Rattle.dsde_syntax.specs.declared.id.Id.{Id}
 use Rattle.dsde_syntax.specs.declared.item.EndPart.{EndPart}
 use Rattle.dsde_syntax.specs.declared.item.EndPart.TheVariants as end_part
-use Rattle.dsde_syntax.specs.Grammar.{id_tokens, in_parens, in_brackets, end_part_tokens, end_tokens, via_key_tokens, via_tokens, Tokens, word, mark, joined, if_tokens, expr_tokens, item_tokens, item_arm_tokens}
+use Rattle.dsde_syntax.specs.Grammar.{id_tokens, in_parens, in_brackets, entry_mark, end_part_tokens, end_tokens, via_key_tokens, via_tokens, Tokens, word, mark, joined, if_tokens, expr_tokens, item_tokens, item_arm_tokens}
 use Rattle.dsde_syntax.specs.Grammar.{item_step as item_tokens_step, block as block_tokens, else_block}
 use Rattle.dsde_syntax.specs.Levels.{stands_at, level_of, is_end, is_expr, is_item, is_item_step, is_item_arm}
 use Rattle.dsde_parser_grammar.specs.Want as want
-use Rattle.dsde_parser_grammar.specs.Steps.{repeated, index_step, end_step, via_step, via_key_step, item_step, else_step, else_block_step, arm_rest}
+use Rattle.dsde_parser_grammar.specs.Steps.{repeated, index_step, entry_mark_step, end_step, via_step, via_key_step, item_step, else_step, else_block_step, arm_rest}
 use Rattle.dsde_parser_grammar.proofs.Layers.{item-tokens, item-level, item_arm-tokens, item_arm-level}
 use Rattle.dsde_parser_grammar.proofs.Values.{Good, Several, Spelled, Value, spelled, Values, spells, Meets, spelled-same, item_others}
 use Rattle.dsde_parser_grammar.proofs.Taking.{Takes, Sound, repeated-sound, named, one_more, true-and, all-of-map, three, five}
@@ -107,10 +107,16 @@ pub via-takes : (t : Tok) → Takes (λ u. Meets want.via (t ∷ u)) (via_step t
 via-takes (tok.Key key.Via) = λ (open_paren, (name, (own, (close_paren, (arrow, (body, end)))))). via-of name own body
 via-takes _ = tt
 
--- "comp" id ["[" expr "]"] "is" id args ";"
-comp-parts : (index args : Tokens) (name model : Id) → ((((word key.Comp ++ (id_tokens name ++ index)) ++ word key.Is) ++ id_tokens model) ++ (mark sign.OpenParen ++ args)) ++ mark sign.Semicolon ≡ tok.Key key.Comp ∷ (id_tokens name ++ (index ++ (word key.Is ++ (id_tokens model ++ (mark sign.OpenParen ++ (args ++ mark sign.Semicolon))))))
-comp-parts index args name model =
-    ap (λ (t : Tokens). tok.Key key.Comp ∷ (id_tokens name ++ t)) (five index (word key.Is) (id_tokens model) (mark sign.OpenParen ++ args) (mark sign.Semicolon))
+-- "is" | ":"
+pub entry_mark-takes : (t : Tok) → Takes (λ u. Meets want.entry_mark (t ∷ u)) (entry_mark_step t)
+entry_mark-takes (tok.Key key.Is) = λ end. record { value = false; spells = refl }
+entry_mark-takes (tok.Sign sign.Colon) = λ end. record { value = true; spells = refl }
+entry_mark-takes _ = tt
+
+-- "comp" id ["[" expr "]"] ("is" | ":") id args ";"
+comp-parts : (index args : Tokens) (soft : Bool) (name model : Id) → ((((word key.Comp ++ (id_tokens name ++ index)) ++ entry_mark soft) ++ id_tokens model) ++ (mark sign.OpenParen ++ args)) ++ mark sign.Semicolon ≡ tok.Key key.Comp ∷ (id_tokens name ++ (index ++ (entry_mark soft ++ (id_tokens model ++ (mark sign.OpenParen ++ (args ++ mark sign.Semicolon))))))
+comp-parts index args soft name model =
+    ap (λ (t : Tokens). tok.Key key.Comp ∷ (id_tokens name ++ t)) (five index (entry_mark soft) (id_tokens model) (mark sign.OpenParen ++ args) (mark sign.Semicolon))
 
 -- "link" end "->" end ["via" ..] ";"
 link-parts : (source target via : Tokens) → ((((word key.Link ++ source) ++ mark sign.Arrow) ++ target) ++ via) ++ mark sign.Semicolon ≡ tok.Key key.Link ∷ (source ++ (mark sign.Arrow ++ (target ++ (via ++ mark sign.Semicolon))))
@@ -127,9 +133,9 @@ link-of source target (Some via) =
 
 -- an item, by its first token
 pub item-takes : (t : Tok) → Takes (λ u. Meets want.item (t ∷ u)) (item_step t)
-item-takes (tok.Key key.Comp) = λ (name, (index, (word_is, (model, (open_paren, (own, (semicolon, end))))))).
-    item-made (Item-F.Comp 0 name index.value model own.items)
-    (comp-parts (spelled want.index index) (spelled want.args_rest own) name model)
+item-takes (tok.Key key.Comp) = λ (name, (index, (soft, (model, (open_paren, (own, (semicolon, end))))))).
+    item-made (Item-F.Comp 0 name index.value soft model own.items)
+    (comp-parts (spelled want.index index) (spelled want.args_rest own) soft name model)
     (true-and _ _ index.good (all-of-map level_of (stands_at 9) own.items own.all))
 item-takes (tok.Key key.Link) = λ (source, (arrow, (target, (via, (semicolon, end))))). link-of source target via
 item-takes (tok.Key key.Let) = λ (name, (equal, (value, (semicolon, end)))). item-made (Item-F.Let name value.value) refl value.good

@@ -19,7 +19,7 @@ use Rattle.dsde_syntax.specs.declared.item.ViaKey.{ViaKey}
 use Rattle.dsde_syntax.specs.declared.item.Item.TheOpen.{Item-F, ItemArm-F}
 use Rattle.dsde_syntax.specs.declared.item.Item.TheViews.{roll-Item, roll-ItemArm}
 use Rattle.dsde_syntax.specs.declared.item.Item.TheFolds.{map-Item, map-ItemArm, fold-roll-Item, fold-roll-ItemArm, ind-Item}
-use Rattle.dsde_syntax.specs.Grammar.{Tokens, word, mark, id_tokens, elses, optional, expr_tokens, args_tokens, set_tokens, for_tokens, if_tokens, else_block, bracket_tokens, component_tokens, end_part_tokens, end_tokens, via_key_tokens, via_tokens, link_tokens, item_step, item_arm_step, item_tokens, item_arm_tokens}
+use Rattle.dsde_syntax.specs.Grammar.{Tokens, word, mark, id_tokens, elses, optional, expr_tokens, args_tokens, set_tokens, for_tokens, if_tokens, else_block, bracket_tokens, component_tokens, entry_mark, end_part_tokens, end_tokens, via_key_tokens, via_tokens, link_tokens, item_step, item_arm_step, item_tokens, item_arm_tokens}
 use Rattle.dsde_syntax.specs.Grammar.{block as block_tokens}
 use Rattle.dsde_syntax.specs.Levels.{has_first, all_hold, if_written, is_expr, is_index, is_end, is_via, is_item_step, is_item_arm_step, is_item, is_item_arm}
 use Rattle.dsde_parser_grammar.proofs.ExprReaders.{stops, is_if}
@@ -129,13 +129,18 @@ let-passes name value = record {
   passes = λ h. any-item (take (tok.Key key.Let) (set-passes name value h (want.items ∷ [])) (λ more at rest. refl));
 }
 
-comp-passes : (name : Id) (index : Option Bracket) (model : Id) (list : List Expr) → ItemPasses (((((word key.Comp ++ component_tokens name index) ++ word key.Is) ++ id_tokens model) ++ args_tokens list) ++ mark sign.Semicolon) (is_index index && list_all is_expr list)
-comp-passes name index model list = record {
+-- "is" | ":" behind a component
+marked : (index : Option Bracket) → is_index index ≡ true → (soft : Bool) (to : Wants) → Leads any (want.index ∷ want.entry_mark ∷ to) to (optional bracket_tokens index ++ entry_mark soft)
+marked index h true to = indexed index h (tok.Sign sign.Colon) (want.entry_mark ∷ to) to (λ more at rest. refl) (λ more at rest. refl)
+marked index h false to = indexed index h (tok.Key key.Is) (want.entry_mark ∷ to) to (λ more at rest. refl) (λ more at rest. refl)
+
+comp-passes : (name : Id) (index : Option Bracket) (soft : Bool) (model : Id) (list : List Expr) → ItemPasses (((((word key.Comp ++ component_tokens name index) ++ entry_mark soft) ++ id_tokens model) ++ args_tokens list) ++ mark sign.Semicolon) (is_index index && list_all is_expr list)
+comp-passes name index soft model list = record {
   follows = λ h rest. refl;
   passes = λ h.
       let both = and-true (is_index index) (list_all is_expr list) h in
       let last = want.mark sign.Semicolon ∷ want.items ∷ [] in
-      let begun = closed {to = args ++ last} (tok.Ident model.name) (indexed index both.0 (tok.Key key.Is) (want.word key.Is ∷ want.name ∷ (args ++ last)) (want.name ∷ (args ++ last)) (λ more at rest. refl) (λ more at rest. refl)) (λ rest. refl) (λ more at rest. refl) in
+      let begun = closed {to = args ++ last} (tok.Ident model.name) (marked index both.0 soft (want.name ∷ (args ++ last))) (λ rest. refl) (λ more at rest. refl) in
       any-item (takes (tok.Key key.Comp ∷ tok.Ident name.name ∷ [])
       (closed (tok.Sign sign.Semicolon) (pair begun (call_args-passes list both.1 last) (λ rest h. refl)) (λ rest. refl) (λ more at rest. refl))
       (λ more at rest. refl));
@@ -207,7 +212,7 @@ arm-roll : (x : ItemArm-F Item ItemArm) → ArmPasses (item_arm_step (map-ItemAr
 arm-roll x own = roll-claim ArmPasses _ _ _ _ (fold-roll-ItemArm Tokens Tokens item_step item_arm_step x) (fold-roll-ItemArm Bool Bool is_item_step is_item_arm_step x) own
 
 item-case : (y : Item-F S A) → ItemClaim (roll-Item (map-Item S A Item ItemArm (λ e. e.0) (λ e. e.0) y))
-item-case (Item-F.Comp at name index model list) = item-roll (Item-F.Comp at name index model list) (comp-passes name index model list)
+item-case (Item-F.Comp at name index soft model list) = item-roll (Item-F.Comp at name index soft model list) (comp-passes name index soft model list)
 item-case (Item-F.Link at source target via) = item-roll (Item-F.Link at source target via) (link-passes source target via)
 item-case (Item-F.Let name value) = item-roll (Item-F.Let name value) (let-passes name value)
 item-case (Item-F.If arms None) = item-roll (Item-F.If (map (λ e. e.0) arms) None) (item_choice-passes arms None)

@@ -1,5 +1,5 @@
 -- Items of structures are read.
-use Rattle.std.proofs.Common.{◌≡◌, ℕ, zero, suc, Bool, true, false, not, ◌&&◌, List, [], ◌∷◌, ◌++◌, map, Option, Some, None, refl, ap, subst, ◌∙◌}
+use Rattle.std.proofs.Common.{◌≡◌, ℕ, zero, suc, ◌+◌, Bool, true, false, not, ◌&&◌, List, [], ◌∷◌, ◌++◌, map, Option, Some, None, refl, ap, subst, ◌∙◌}
 use Rattle.std.specs.List.{list_all}
 use Rattle.std.specs.Option.{option_map}
 use Rattle.dsde_syntax.specs.declared.token.Tok.TheVariants as tok
@@ -18,11 +18,11 @@ use Rattle.dsde_syntax.specs.declared.item.ViaKey.{ViaKey}
 use Rattle.dsde_syntax.specs.declared.item.Item.TheOpen.{Item-F, ItemArm-F}
 use Rattle.dsde_syntax.specs.declared.item.Item.TheViews.{roll-Item, roll-ItemArm}
 use Rattle.dsde_syntax.specs.declared.item.Item.TheFolds.{map-Item, map-ItemArm, fold-roll-Item, fold-roll-ItemArm, ind-Item}
-use Rattle.dsde_syntax.specs.Grammar.{Tokens, word, mark, id_tokens, commas, elses, optional, in_parens, expr_tokens, args_tokens, set_tokens, for_tokens, if_tokens, bracket_tokens, component_tokens, end_part_tokens, end_tokens, via_key_tokens, via_tokens, link_tokens, item_step, item_arm_step, item_tokens, item_arm_tokens}
+use Rattle.dsde_syntax.specs.Grammar.{Tokens, word, mark, id_tokens, commas, elses, optional, in_parens, expr_tokens, args_tokens, set_tokens, for_tokens, if_tokens, bracket_tokens, component_tokens, entry_mark, end_part_tokens, end_tokens, via_key_tokens, via_tokens, link_tokens, item_step, item_arm_step, item_tokens, item_arm_tokens}
 use Rattle.dsde_syntax.specs.Grammar.{block as block_tokens, else_block}
 use Rattle.dsde_syntax.specs.Places.{Span, ◌>>◌, token, token_at, id_span, spans_with, written_span, block_span, else_span, args_span, expr_span, set_span, for_span, bracket_span, component_span, end_part_span, end_span, via_key_span, via_span, item_span_step, item_arm_span_step, item_span, item_arm_span}
 use Rattle.dsde_syntax.specs.Levels.{stands_at, has_first, all_hold, if_written, is_expr, level_of, is_index, is_end, is_via, is_item_step, is_item_arm_step, is_item, is_item_arm}
-use Rattle.dsde_parser_grammar.proofs.Reading.{Reader, Reads, AllRead, any, pair, made, maybe, skip, place, here, ident, pair-Reads, made-Reads, fewer-Reads, maybe-none, maybe-some, skip-Reads, place-Reads, here-Reads, ident-Reads}
+use Rattle.dsde_parser_grammar.proofs.Reading.{Reader, Reads, AllRead, any, pair, made, maybe, skip, place, here, ident, pair-Reads, made-Reads, fewer-Reads, maybe-none, maybe-some, skip-Reads, place-Reads, here-Reads, ident-Reads, token-end}
 use Rattle.dsde_parser_grammar.proofs.ExprReaders.{stops, is_if, is_else_if, bracketed, separated, args, read_expr}
 use Rattle.dsde_parser_grammar.proofs.TypeReads.{bracketed-Reads, stepped-Reads}
 use Rattle.dsde_parser_grammar.proofs.ListReads.{and-true}
@@ -61,6 +61,19 @@ bracket_reader n = made (λ v. record { at = v.0; value = v.1 }) (pair here (bra
 
 abbrev pub component_reader : ℕ → Reader (Id × Option Bracket)
 component_reader n = pair ident (maybe is_bracket (bracket_reader n))
+
+abbrev pub entry_mark_reader : Reader Bool
+entry_mark_reader at (tok.Key key.Is ∷ ts) = Some (false, at + 1, ts)
+entry_mark_reader at (tok.Sign sign.Colon ∷ ts) = Some (true, at + 1, ts)
+entry_mark_reader at _ = None
+
+entry_mark-Reads : (soft : Bool) → Reads any (λ n. entry_mark_reader) soft (entry_mark soft) token
+entry_mark-Reads true = record { least = 0; gets = λ fuel at end rest enough is fits. ap (λ n. Some (true, n, rest)) (token-end at end is) }
+entry_mark-Reads false = record { least = 0; gets = λ fuel at end rest enough is fits. ap (λ n. Some (false, n, rest)) (token-end at end is) }
+
+entry_mark-no_bracket : (soft : Bool) (rest : Tokens) → no_bracket (entry_mark soft ++ rest) ≡ true
+entry_mark-no_bracket true rest = refl
+entry_mark-no_bracket false rest = refl
 
 bracket-Reads : (bracket : Bracket) → is_expr bracket.value ≡ true → Reads any bracket_reader bracket (bracket_tokens bracket) (bracket_span bracket)
 bracket-Reads bracket h =
@@ -202,8 +215,8 @@ item_arm n sub = made (λ v. roll-ItemArm (record { cond = v.0; body = v.1 })) (
 
 abbrev pub item_branch : ItemForm → ℕ → Reader Item → Reader Item
 item_branch a_comp n sub =
-    made (λ v. roll-Item (Item-F.Comp v.0.0.0.0.0 v.0.0.0.0.1.0 v.0.0.0.0.1.1 v.0.0.1 v.0.1))
-    (pair (pair (pair (pair (pair place (component_reader n)) skip) ident) (args n (read_expr n))) skip)
+    made (λ v. roll-Item (Item-F.Comp v.0.0.0.0.0 v.0.0.0.0.1.0 v.0.0.0.0.1.1 v.0.0.0.1 v.0.0.1 v.0.1))
+    (pair (pair (pair (pair (pair place (component_reader n)) entry_mark_reader) ident) (args n (read_expr n))) skip)
 item_branch a_link n sub =
     made (λ v. roll-Item (Item-F.Link v.0.0.0.0.0 v.0.0.0.0.1 v.0.0.1 v.0.1))
     (pair (pair (pair (pair (pair place (end_reader n)) skip) (end_reader n)) (maybe is_via_word (via_reader n))) skip)
@@ -263,14 +276,14 @@ arms-all ((v, own) ∷ list) h =
 items-block : (list : List S) → all_hold (map is_item (map (λ e. e.0) list)) ≡ true → Reads any (λ n. block_reader begins_item n (read_item n)) (map (λ e. e.0) list) (block_tokens (map item_tokens (map (λ e. e.0) list))) (block_span (map item_span (map (λ e. e.0) list)))
 items-block list h = block-Reads begins_item read_item goes-no_else (λ rest. refl) _ _ _ (items-all list h)
 
-comp-reads : (at : ℕ) (name : Id) (index : Option Bracket) (model : Id) (list : List Expr) → ItemReads (roll-Item (Item-F.Comp at name index model list)) (((((word key.Comp ++ component_tokens name index) ++ word key.Is) ++ id_tokens model) ++ args_tokens list) ++ mark sign.Semicolon) (is_index index && list_all is_expr list) (((((token_at at >> component_span name index) >> token) >> id_span model) >> args_span (map expr_span list)) >> token)
-comp-reads at name index model list = record {
+comp-reads : (at : ℕ) (name : Id) (index : Option Bracket) (soft : Bool) (model : Id) (list : List Expr) → ItemReads (roll-Item (Item-F.Comp at name index soft model list)) (((((word key.Comp ++ component_tokens name index) ++ entry_mark soft) ++ id_tokens model) ++ args_tokens list) ++ mark sign.Semicolon) (is_index index && list_all is_expr list) (((((token_at at >> component_span name index) >> token) >> id_span model) >> args_span (map expr_span list)) >> token)
+comp-reads at name index soft model list = record {
   begins = λ h rest. refl;
   reads = λ h.
       let both = and-true (is_index index) (list_all is_expr list) h in
       item-by a_comp
-      (made-Reads (λ v. roll-Item (Item-F.Comp v.0.0.0.0.0 v.0.0.0.0.1.0 v.0.0.0.0.1.1 v.0.0.1 v.0.1))
-      (pair-Reads (pair-Reads (pair-Reads (pair-Reads (pair-Reads (place-Reads (tok.Key key.Comp) at) (component-Reads name index both.0) (λ rest h. refl)) (skip-Reads (tok.Key key.Is)) (λ rest h. refl)) (ident-Reads model) (λ rest h. refl)) (args_read list both.1) (λ rest h. refl)) (skip-Reads (tok.Sign sign.Semicolon)) (λ rest h. refl)))
+      (made-Reads (λ v. roll-Item (Item-F.Comp v.0.0.0.0.0 v.0.0.0.0.1.0 v.0.0.0.0.1.1 v.0.0.0.1 v.0.0.1 v.0.1))
+      (pair-Reads (pair-Reads (pair-Reads (pair-Reads (pair-Reads (place-Reads (tok.Key key.Comp) at) (component-Reads name index both.0) (λ rest h. refl)) (entry_mark-Reads soft) (λ rest h. entry_mark-no_bracket soft rest)) (ident-Reads model) (λ rest h. refl)) (args_read list both.1) (λ rest h. refl)) (skip-Reads (tok.Sign sign.Semicolon)) (λ rest h. refl)))
       (λ rest. refl);
 }
 
@@ -344,7 +357,7 @@ arm-roll : (x : ItemArm-F Item ItemArm) → ArmReads (roll-ItemArm x) (item_arm_
 arm-roll x own = roll-claim ArmReads (roll-ItemArm x) _ _ _ _ _ _ (fold-roll-ItemArm Tokens Tokens item_step item_arm_step x) (fold-roll-ItemArm Bool Bool is_item_step is_item_arm_step x) (fold-roll-ItemArm Span Span item_span_step item_arm_span_step x) own
 
 item-case : (y : Item-F S A) → ItemClaim (roll-Item (map-Item S A Item ItemArm (λ e. e.0) (λ e. e.0) y))
-item-case (Item-F.Comp at name index model list) = item-roll (Item-F.Comp at name index model list) (comp-reads at name index model list)
+item-case (Item-F.Comp at name index soft model list) = item-roll (Item-F.Comp at name index soft model list) (comp-reads at name index soft model list)
 item-case (Item-F.Link at source target via) = item-roll (Item-F.Link at source target via) (link-reads at source target via)
 item-case (Item-F.Let name value) = item-roll (Item-F.Let name value) (let-reads name value)
 item-case (Item-F.If arms None) = item-roll (Item-F.If (map (λ e. e.0) arms) None) (item-choice arms None)

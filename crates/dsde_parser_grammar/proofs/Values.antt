@@ -11,7 +11,7 @@ use Rattle.dsde_syntax.specs.declared.type_name.TypeName.{TypeName}
 use Rattle.dsde_syntax.specs.declared.item.ViaKey.{ViaKey}
 use Rattle.dsde_syntax.specs.declared.decl.Typed.{Typed}
 use Rattle.dsde_syntax.specs.declared.decl.PortDecl.{PortDecl}
-use Rattle.dsde_syntax.specs.Grammar.{Tokens, word, mark, id_tokens, joined, commas, optional, in_braces, else_block, type_tokens, expr_tokens, suffix_tokens, expr_arm_tokens, field_set_tokens, sign_tail_tokens, tail_tokens, stmt_tokens, stmt_arm_tokens, item_tokens, item_arm_tokens, bracket_tokens, end_tokens, via_key_tokens, via_tokens, typed_tokens, port_tokens, state_tokens, phase_tokens, decl_tokens}
+use Rattle.dsde_syntax.specs.Grammar.{Tokens, word, mark, id_tokens, joined, commas, optional, in_braces, else_block, type_tokens, expr_tokens, suffix_tokens, expr_arm_tokens, field_set_tokens, sign_tail_tokens, tail_tokens, stmt_tokens, stmt_arm_tokens, item_tokens, item_arm_tokens, bracket_tokens, entry_mark, end_tokens, via_key_tokens, via_tokens, typed_tokens, port_tokens, state_tokens, phase_tokens, decl_tokens}
 use Rattle.dsde_syntax.specs.Levels.{prim_level, neg_level, mul_level, sum_level, and_level, or_level, not_level, stands_at, may_follow, is_comparison, is_sum_sign, is_mul_sign, level_of, is_expr, is_stmt, is_item, is_index, is_end, is_via, is_state, is_phase, is_decl, is_expr_arm, is_field_set, is_item_arm, is_stmt_arm, is_suffix, sign_tail_level, tail_level}
 use Rattle.dsde_parser_grammar.specs.Want.{Want}
 use Rattle.dsde_parser_grammar.specs.Want as want
@@ -120,6 +120,7 @@ Value want.items = Several is_item (λ holds. holds)
 Value want.other_items = Others is_item is_item_arm
 Value want.else_items = BehindElse item_others
 Value want.index = Good is_index
+Value want.entry_mark = Bool
 Value want.end = Good is_end
 Value want.via = Option (Good is_via)
 Value want.via_key = Option (Good (λ (own : ViaKey). is_expr own.value))
@@ -168,6 +169,7 @@ spelled want.items v = joined (map item_tokens v.items)
 spelled want.other_items v = item_others v
 spelled want.else_items v = v.tokens
 spelled want.index v = optional bracket_tokens v.value
+spelled want.entry_mark v = entry_mark v
 spelled want.end v = end_tokens v.value
 spelled want.via v = optional (λ (own : Good is_via). via_tokens own.value) v
 spelled want.via_key v = optional (λ (own : Good (λ (own : ViaKey). is_expr own.value)). via_key_tokens own.value) v

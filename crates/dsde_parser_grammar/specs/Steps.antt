@@ -293,7 +293,7 @@ else_block_step inner others _ = halt
 -- an item, by its first token
 abbrev pub item_step : Tok → Step
 item_step (tok.Key key.Comp) =
-    go (want.name ∷ want.index ∷ want.word key.Is ∷ want.name ∷ (args ++ want.mark sign.Semicolon ∷ []))
+    go (want.name ∷ want.index ∷ want.entry_mark ∷ want.name ∷ (args ++ want.mark sign.Semicolon ∷ []))
 item_step (tok.Key key.Link) = go (want.end ∷ want.mark sign.Arrow ∷ want.end ∷ want.via ∷ want.mark sign.Semicolon ∷ [])
 item_step (tok.Key key.Let) = go set
 item_step (tok.Key key.If) = go (arm_rest want.items want.other_items)
@@ -304,6 +304,12 @@ item_step _ = halt
 abbrev pub index_step : Tok → Step
 index_step (tok.Sign sign.OpenBracket) = go (want.expr ∷ want.mark sign.CloseBracket ∷ [])
 index_step _ = halt
+
+-- "is" | ":"
+abbrev pub entry_mark_step : Tok → Step
+entry_mark_step (tok.Key key.Is) = go []
+entry_mark_step (tok.Sign sign.Colon) = go []
+entry_mark_step _ = halt
 
 -- ("net" | "exec" | id ["[" expr "]"]) "." id
 abbrev pub end_step : Tok → Step
@@ -427,6 +433,7 @@ step want.items t = repeated want.items (item_step t)
 step want.other_items t = optional (else_step want.else_items t)
 step want.else_items t = else_block_step want.items want.other_items t
 step want.index t = optional (index_step t)
+step want.entry_mark t = entry_mark_step t
 step want.end t = end_step t
 step want.via t = optional (via_step t)
 step want.via_key t = optional (via_key_step t)

@@ -46,8 +46,9 @@ pub data Want : Type 0 where
   items : Want
   other_items : Want
   else_items : Want
-  -- ["[" expr "]"]
+  -- ["[" expr "]"], and what stands behind a component: "is" | ":"
   index : Want
+  entry_mark : Want
   -- one end of a link, ["via" ..], ["," id "=" expr]
   end : Want
   via : Want
