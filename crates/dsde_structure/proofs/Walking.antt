@@ -1,5 +1,5 @@
 -- One step of the walk over an old and a new structure.
-use Rattle.std.proofs.Common.{◌≡◌, ◌==◌, Bool, true, false, ◌&&◌, not, cond, List, [], ◌∷◌, ◌++◌, refl, sym, ◌∙◌, ap, subst, length, append_assoc, append-nil, arith, rules}
+use Rattle.std.proofs.Common.{◌≡◌, ◌==◌, Bool, true, false, ◌&&◌, ◌||◌, not, cond, List, [], ◌∷◌, ◌++◌, refl, sym, ◌∙◌, ap, subst, length, append_assoc, append-nil, arith, rules}
 use Rattle.std.specs.declared.cmp.Ordering.TheVariants.{Less, Equal, Greater}
 use Rattle.std.specs.Cmp.{IsTotalOrder, Equal-is}
 use Rattle.std.specs.Cmp.Rules.{comparing}
@@ -24,7 +24,7 @@ and_first true y h = refl
 and_first false y h = h
 
 pub ties : (old new : Entry) → survives old new ≡ true → name_cmp old.name new.name ≡ Equal
-ties old new h = (Equal-is (name_cmp old.name new.name)).0 (and_first (is_same_name old.name new.name) (old.model.0 == new.model.0) (and_first (is_same_name old.name new.name && old.model.0 == new.model.0) (are_same_values old.args new.args) h))
+ties old new h = (Equal-is (name_cmp old.name new.name)).0 (and_first (is_same_name old.name new.name) (old.model.0 == new.model.0) (and_first (is_same_name old.name new.name && old.model.0 == new.model.0) (new.soft || are_same_values old.args new.args) h))
 
 empty : (es : List Entry) → length es ≡ 0 → es ≡ []
 empty [] none = refl

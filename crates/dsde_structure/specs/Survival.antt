@@ -1,17 +1,31 @@
 -- What a change of structure keeps.
-use Rattle.std.specs.Prelude.{◌==◌, ◌&&◌, not, Bool, List, [], ◌∷◌, ◌++◌, map, if◌then◌else◌}
+use Rattle.std.specs.Prelude.{◌≡◌, ◌⊎◌, ◌==◌, ◌&&◌, ◌||◌, not, Bool, true, List, [], ◌∷◌, ◌++◌, map, if◌then◌else◌}
 use Rattle.std.specs.List.{filter, list_any}
 use Rattle.std.specs.List.Sorted.{IsStrictlySortedBy}
 use Rattle.dsde_values.specs.declared.name.Name.{Name}
 use Rattle.dsde_values.specs.Path.{name_cmp}
+use Rattle.dsde_declared.specs.declared.ids.ModelId.{ModelId}
 use Rattle.dsde_values_equality.specs.Same.{are_same_values}
 use Rattle.dsde_structure.specs.Gather.{is_same_name}
 use Rattle.dsde_structure.specs.declared.plan.Entry.{Entry}
 use Rattle.dsde_structure.specs.declared.plan.Change.{Change}
 
--- an entry of the same name and model with equal arguments
+-- An old entry survives as a new one of its name and model that is soft or has equal arguments: a rule
+-- of this project's profile. Whether the old one is soft plays no part.
 abbrev pub survives : Entry → Entry → Bool
-survives old new = is_same_name old.name new.name && old.model.0 == new.model.0 && are_same_values old.args new.args
+survives old new =
+    is_same_name old.name new.name && old.model.0 == new.model.0 && (new.soft || are_same_values old.args new.args)
+
+-- the same in words of equality: what `survives` tests
+abbrev pub StaysAs : Entry → Entry → Type 0
+StaysAs old new = (old.name ≡ new.name) × (old.model ≡ new.model) × ((new.soft ≡ true) ⊎ (old.args ≡ new.args))
+
+-- what links see of a component: its name with its model, which its survivors have
+abbrev pub role : Entry → Name × ModelId
+role entry = (entry.name, entry.model)
+
+abbrev pub roles : List Entry → List (Name × ModelId)
+roles entries = map role entries
 
 abbrev pub names : List Entry → List Name
 names entries = map (λ entry. entry.name) entries

@@ -8,7 +8,7 @@ ghost use Rattle.dsde_structure.specs.declared.plan.Entry.{Entry};
 ghost use Rattle.dsde_structure.specs.declared.plan.Link.{Link};
 ghost use Rattle.dsde_structure.specs.declared.sources.Sources.{Sources};
 ghost use Rattle.dsde_structure.specs.Gather.{Translation, gather};
-ghost use Rattle.dsde_structure.specs.Survival.{compared, names, survives, IsInOrder, AreInOrder};
+ghost use Rattle.dsde_structure.specs.Survival.{compared, names, survives, StaysAs, IsInOrder, AreInOrder};
 
 use dsde_values::one_name;
 use dsde_values_equality::same_values_are_equal;
@@ -25,11 +25,12 @@ pub fn nothing_comes_without_links()
     ensures { (translate : Translation) (sources : Sources) (end : End) → gather translate [] sources end ≡ [] }
 {}
 
-/// One entry survives as another exactly where they are equal, and so it survives a change to a
-/// structure exactly where it is an entry of it.
-pub fn survivors_are_equal()
-    ensures equal { (old new : Entry) → (survives old new ≡ true) ↔ (old ≡ new) }
-    ensures found { (old : Entry) (news : List Entry) → (list_any (survives old) news ≡ true) ↔ Contains news old }
+/// One entry survives as another exactly where both have one name and one model, and the other is soft
+/// or has equal arguments; and so it survives a change to a structure exactly where that has such an
+/// entry.
+pub fn survivors_keep_their_roles()
+    ensures exact { (old new : Entry) → (survives old new ≡ true) ↔ StaysAs old new }
+    ensures found { (old : Entry) (news : List Entry) → (list_any (survives old) news ≡ true) ↔ ((new : Entry) × Contains news new × StaysAs old new) }
 {
     one_name();
     same_values_are_equal();
@@ -44,5 +45,5 @@ pub fn comparison_is_a_split()
     ensures fresh { (olds news : List Entry) → IsInOrder news → (name : Name) → Contains (names (compared olds news).fresh) name → Contains (compared olds news).kept name → ⊥ }
     ensures order { (olds news : List Entry) → IsInOrder olds → IsInOrder news → AreInOrder (compared olds news).gone × AreInOrder (compared olds news).kept × IsInOrder (compared olds news).fresh }
 {
-    survivors_are_equal();
+    survivors_keep_their_roles();
 }

@@ -8,7 +8,8 @@ mod sources;
 mod survival;
 
 pub use laws::{
-    comparison_is_a_split, links_carry_in_order, nothing_comes_without_links, survivors_are_equal,
+    comparison_is_a_split, links_carry_in_order, nothing_comes_without_links,
+    survivors_keep_their_roles,
 };
 pub use plan::{Change, End, Entry, Link, Part, Plan, Via};
 pub use sources::{Given, Sources};

@@ -14,6 +14,8 @@ pub struct Entry {
     pub name: Name,
     pub model: ModelId,
     pub args: Values,
+    /// Whether a component of this name and model survives as this entry whatever its arguments are.
+    pub soft: bool,
 }
 
 impl Entry {
@@ -25,6 +27,7 @@ impl Entry {
             name: self.name.copy(alloc)?,
             model: self.model,
             args: copy_values(alloc, self.args.as_slice())?,
+            soft: self.soft,
         })
     }
 }

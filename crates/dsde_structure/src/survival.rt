@@ -10,17 +10,19 @@ use dsde_values_equality::are_same;
 use std::alloc::Global;
 use std::cmp::Ordering;
 
-/// Whether an entry of an old structure survives as an entry of a new one: it has its name, its
-/// model and equal arguments.
+/// Whether an entry of an old structure survives as an entry of a new one: it has its name and its
+/// model, and the new one is soft or has equal arguments. Whether the old one is soft plays no part.
 pub fn survives(old: &Entry, new: &Entry) -> bool
     ensures { result ≡ survives old.now new.now }
 {
     old.name == new.name
         && old.model.0 == new.model.0
-        && are_same(old.args.as_slice(), new.args.as_slice())
+        && (new.soft || are_same(old.args.as_slice(), new.args.as_slice()))
 }
 
-/// Who is dropped, who survives and what starts where one structure follows another.
+/// Who is dropped, who survives and what starts where one structure follows another. A survivor keeps
+/// its arguments, so an old plan has those that its components have, and not those of the structure
+/// from which they came.
 pub fn compare_plans(alloc: Global, old: &Plan, new: &Plan) -> Result<Change, Memory>
     requires old { IsInOrder old.now.entries }
     requires new { IsInOrder new.now.entries }

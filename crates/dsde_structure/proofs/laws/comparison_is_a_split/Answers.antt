@@ -1,4 +1,4 @@
-use Rattle.std.proofs.Common.{◌≡◌, true, ap, inl, inr, not}
+use Rattle.std.proofs.Common.{◌≡◌, true, inl, inr, not}
 use Rattle.std.specs.List.{list_any}
 use Rattle.dsde_values.specs.Path.{name_cmp}
 use Rattle.dsde_structure.specs.declared.plan.Entry.{Entry}
@@ -21,7 +21,7 @@ returns-clause-never_both c olds news order name = split-never_both name_of name
 
 pub returns-clause-new : goal.returns-clause-new
 returns-clause-new c olds news name =
-    let same_key = λ (x y : Entry) (h : survives x y ≡ true). ap name_of ((c.survivors_are_equal.ensures.equal x y).0 h) in (
+    let same_key = λ (x y : Entry) (h : survives x y ≡ true). ((c.survivors_keep_their_roles.ensures.exact x y).0 h).0 in (
       new-all name_of name_cmp total survives same_key olds news name,
       λ either. elim either [
         | inl in_fresh ↦ filter-within name_of name_cmp total (λ new. not (list_any (λ old. survives old new) olds)) news name in_fresh
@@ -31,7 +31,7 @@ returns-clause-new c olds news name =
 
 pub returns-clause-fresh : goal.returns-clause-fresh
 returns-clause-fresh c olds news order name =
-    fresh-never_kept name_of name_cmp total survives (λ x y h. ap name_of ((c.survivors_are_equal.ensures.equal x y).0 h)) olds news order name
+    fresh-never_kept name_of name_cmp total survives (λ x y h. ((c.survivors_keep_their_roles.ensures.exact x y).0 h).0) olds news order name
 
 pub returns-clause-order : goal.returns-clause-order
 returns-clause-order c olds news old_order new_order = (
