@@ -80,6 +80,6 @@ text8 = search (rules, efold.the_lemmas, tfold.the_lemmas, ifold.the_lemmas, sfo
 
 -- network N() { exec { advance none<int>; structure { comp a is A(); link a.o -> a.i via (v) => some(v.y); } } } record R { x: int } atomic A() { in i: int; out o: R; advance none<int>; external { } } top N();
 -- Unknown 1:102
-text9 : first_wrong (record { decls = ((decl.Network 0 (id (codes "N") 1) ([]) ([]) 5 (record { ports = ([]); states = ([]); advance_at = 7; advance = (expr.NoneOf 8 (type_name.Int 10)); output = None; internal = None; external = None; confluent = None }) ((item.Comp 15 (id (codes "a") 16) None (id (codes "A") 18) ([])) ∷ (item.Link 22 (record { part = (end_part.Kid (id (codes "a") 23) None); port = (id (codes "o") 25) }) (record { part = (end_part.Kid (id (codes "a") 27) None); port = (id (codes "i") 29) }) (Some (record { value = (id (codes "v") 32); key = None; body = (expr.Builtin key.SomeOf 35 ((expr.Post (expr.Name (id (codes "v") 37)) ((suffix.Field 38 (id (codes "y") 39)) ∷ [])) ∷ [])) }))) ∷ [])) ∷ (decl.Rec (id (codes "R") 46) ((record { name = (id (codes "x") 48); ty = (type_name.Int 50) }) ∷ [])) ∷ (decl.Atomic 52 (id (codes "A") 53) ([]) (record { ports = ((record { out = false; name = (id (codes "i") 58); ty = (type_name.Int 60) }) ∷ (record { out = true; name = (id (codes "o") 63); ty = (type_name.Named (id (codes "R") 65)) }) ∷ []); states = ([]); advance_at = 67; advance = (expr.NoneOf 68 (type_name.Int 70)); output = None; internal = None; external = (Some (record { at = 73; stmts = ([]) })); confluent = None })) ∷ (decl.Top 77 (id (codes "N") 78) ([])) ∷ []) }) ≡ Some record { kind = Unknown; at = 39 }
+text9 : first_wrong (record { decls = ((decl.Network 0 (id (codes "N") 1) ([]) ([]) 5 (record { ports = ([]); states = ([]); advance_at = 7; advance = (expr.NoneOf 8 (type_name.Int 10)); output = None; internal = None; external = None; confluent = None }) ((item.Comp 15 (id (codes "a") 16) None false (id (codes "A") 18) ([])) ∷ (item.Link 22 (record { part = (end_part.Kid (id (codes "a") 23) None); port = (id (codes "o") 25) }) (record { part = (end_part.Kid (id (codes "a") 27) None); port = (id (codes "i") 29) }) (Some (record { value = (id (codes "v") 32); key = None; body = (expr.Builtin key.SomeOf 35 ((expr.Post (expr.Name (id (codes "v") 37)) ((suffix.Field 38 (id (codes "y") 39)) ∷ [])) ∷ [])) }))) ∷ [])) ∷ (decl.Rec (id (codes "R") 46) ((record { name = (id (codes "x") 48); ty = (type_name.Int 50) }) ∷ [])) ∷ (decl.Atomic 52 (id (codes "A") 53) ([]) (record { ports = ((record { out = false; name = (id (codes "i") 58); ty = (type_name.Int 60) }) ∷ (record { out = true; name = (id (codes "o") 63); ty = (type_name.Named (id (codes "R") 65)) }) ∷ []); states = ([]); advance_at = 67; advance = (expr.NoneOf 68 (type_name.Int 70)); output = None; internal = None; external = (Some (record { at = 73; stmts = ([]) })); confluent = None })) ∷ (decl.Top 77 (id (codes "N") 78) ([])) ∷ []) }) ≡ Some record { kind = Unknown; at = 39 }
 unfolding id same depth_of
 text9 = search (rules, efold.the_lemmas, tfold.the_lemmas, ifold.the_lemmas, sfold.the_lemmas, yfold.the_lemmas)

@@ -67,7 +67,7 @@ enter_last None families = Ok families
 enter_last (Some enters) families = enter_all enters families
 
 abbrev pub enter_step : Known → Item-F Enter Enter → Enter
-enter_step known (Item-F.Comp at name index model args) families = comp_family known at name model families
+enter_step known (Item-F.Comp at name index soft model args) families = comp_family known at name model families
 enter_step known (Item-F.Link at source target via) families = Ok families
 enter_step known (Item-F.Let name value) families = Ok families
 enter_step known (Item-F.If arms other) families = enter_all arms families >>= (λ more. enter_last other more)
@@ -175,7 +175,7 @@ link_of site at source target via scope =
     walked scope (max height (max from.height to.height))))))
 
 abbrev pub item_step : Site → Item-F Walk ArmWalk → Walk
-item_step site (Item-F.Comp at name index model args) scope = comp_of site.around index model args scope
+item_step site (Item-F.Comp at name index soft model args) scope = comp_of site.around index model args scope
 item_step site (Item-F.Link at source target via) scope = link_of site at source target via scope
 item_step site (Item-F.Let name value) scope = let_of site.around false name (judge site.around value) scope
 item_step site (Item-F.If arms other) scope = if_walk arms other scope

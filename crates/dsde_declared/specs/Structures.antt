@@ -43,7 +43,7 @@ kin_all [] families = families
 kin_all (kin ∷ kins) families = kin_all kins (kin families)
 
 abbrev pub kin_step : Known → Item-F Kin Kin → Kin
-kin_step known (Item-F.Comp at name index model args) families =
+kin_step known (Item-F.Comp at name index soft model args) families =
     added family_name families (record { name = name.name; model = model_number known model.name })
 kin_step known (Item-F.Link at source target via) families = families
 kin_step known (Item-F.Let name value) families = families
@@ -107,7 +107,7 @@ last_vias None = []
 last_vias (Some body) = flat_map (λ own. own) body
 
 abbrev pub via_step : Item-F (List ViaPart) (List ViaPart) → List ViaPart
-via_step (Item-F.Comp at name index model args) = []
+via_step (Item-F.Comp at name index soft model args) = []
 via_step (Item-F.Link at source target via) = vias_there via
 via_step (Item-F.Let name value) = []
 via_step (Item-F.If arms other) = flat_map (λ own. own) arms ++ last_vias other
