@@ -129,10 +129,10 @@ module _ (place : Place) where
   arms-lay arms = all-lays (λ (a : Ar). a.0) LA SA (λ a. a.1) arms
 
   item-case : (y : Item-F It Ar) → Claim (roll-Item (map-Item It Ar Item ItemArm (λ i. i.0) (λ a. a.0) y))
-  item-case (Item-F.Comp at name index model args) = item-roll (Item-F.Comp at name index model args)
+  item-case (Item-F.Comp at name index soft model args) = item-roll (Item-F.Comp at name index soft model args)
       (then-lays _ _ _ _ (index-lays place.known index)
       (λ own. then-lays _ _ _ _ (exprs-lay place.known args)
-      (λ values. give-lays (make.Comp at name.name own (model_id place.known model.name) values))))
+      (λ values. give-lays (make.Comp at name.name own (model_id place.known model.name) values soft))))
   item-case (Item-F.Link at source target via) = item-roll (Item-F.Link at source target via)
       (then-lays _ _ _ _ (end-lays true source)
       (λ one. then-lays _ _ _ _ (end-lays false target)

@@ -76,10 +76,10 @@ abbrev pub lay_all : Known → List Expr → Step (List ExprId)
 lay_all known exprs = all (map (λ own. expr (lay known own) (λ value ty. give value)) exprs)
 
 abbrev pub item_step : Place → Item-F (Step Make) (Step MakeArm) → Step Make
-item_step place (Item-F.Comp at name index model args) =
+item_step place (Item-F.Comp at name index soft model args) =
     lay_index place.known index >>= (λ own.
     lay_all place.known args >>= (λ values.
-    give (make.Comp at name.name own (model_id place.known model.name) values)))
+    give (make.Comp at name.name own (model_id place.known model.name) values soft)))
 item_step place (Item-F.Link at source target via) =
     lay_end place true source >>= (λ one.
     lay_end place false target >>= (λ two.

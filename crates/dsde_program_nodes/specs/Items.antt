@@ -77,10 +77,10 @@ abbrev pub resolve_all : Known → List Expr → Step (List ExprId)
 resolve_all known exprs = all (map (λ own. expr (resolve known own) (λ value ty. give value)) exprs)
 
 abbrev pub item_step : Place → Item-F (Step Make) (Step MakeArm) → Step Make
-item_step place (Item-F.Comp at name index model args) =
+item_step place (Item-F.Comp at name index soft model args) =
     resolve_index place.known index >>= (λ own.
     resolve_all place.known args >>= (λ values.
-    give (make.Comp at name.name own (model_id place.known model.name) values)))
+    give (make.Comp at name.name own (model_id place.known model.name) values soft)))
 item_step place (Item-F.Link at source target via) =
     resolve_end place true source >>= (λ one.
     resolve_end place false target >>= (λ two.

@@ -8,13 +8,14 @@ use dsde_values::{Seq, Text};
 #[cycle(make)]
 #[derive(Debug, Drop)]
 pub enum Make {
-    /// With the place of `comp`.
+    /// With the place of `comp`. It is soft where it is written with `:`.
     Comp {
         at: u32,
         stem: Text,
         index: Option<MakeIndex>,
         model: ModelId,
         args: Seq<ExprId>,
+        soft: bool,
     },
     /// With the place of `link`.
     Link {

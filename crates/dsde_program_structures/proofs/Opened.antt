@@ -1,5 +1,5 @@
 -- What is laid for an item or for an arm of a choice, by the part that has a function of its own.
-use Rattle.std.proofs.Common.{◌≡◌, ℕ, List, Option, sym, ap, ◌∙◌, rules}
+use Rattle.std.proofs.Common.{◌≡◌, ℕ, Bool, List, Option, sym, ap, ◌∙◌, rules}
 use Rattle.dsde_syntax.specs.declared.id.Id.{Id}
 use Rattle.dsde_syntax.specs.declared.expr.Expr.{Expr}
 use Rattle.dsde_syntax.specs.declared.item.Bracket.{Bracket}
@@ -34,11 +34,11 @@ item_for place name list body =
     ap (lay_item place) (sym (item.rolls-For name list body))
     ∙ fold-roll-Item (Step Make) (Step MakeArm) (item_step place) (item_arm_step place) (Item-F.For name list body)
 
-pub item_comp : (place : Place) (at : ℕ) (name : Id) (index : Option Bracket) (model : Id) (args : List Expr)
-    → lay_item place (item.Comp at name index model args) ≡ lay_comp place.known at name index model args
-item_comp place at name index model args =
-    ap (lay_item place) (sym (item.rolls-Comp at name index model args))
-    ∙ fold-roll-Item (Step Make) (Step MakeArm) (item_step place) (item_arm_step place) (Item-F.Comp at name index model args)
+pub item_comp : (place : Place) (at : ℕ) (name : Id) (index : Option Bracket) (soft : Bool) (model : Id) (args : List Expr)
+    → lay_item place (item.Comp at name index soft model args) ≡ lay_comp place.known at name index soft model args
+item_comp place at name index soft model args =
+    ap (lay_item place) (sym (item.rolls-Comp at name index soft model args))
+    ∙ fold-roll-Item (Step Make) (Step MakeArm) (item_step place) (item_arm_step place) (Item-F.Comp at name index soft model args)
 
 pub arm_opened : (place : Place) (arm : ItemArm) (scope : Scope) (tables : Tables) → lay_arm place arm scope tables ≡ lay_arm_by place arm scope tables
 arm_opened place arm scope tables = search (rules, the_lemmas)

@@ -1,5 +1,5 @@
 -- Parts of what is laid for a structure that have a function of their own.
-use Rattle.std.specs.Prelude.{ℕ, true, false, List, map, Option}
+use Rattle.std.specs.Prelude.{ℕ, Bool, true, false, List, map, Option}
 use Rattle.dsde_syntax.specs.declared.expr.Expr.{Expr}
 use Rattle.dsde_syntax.specs.declared.id.Id.{Id}
 use Rattle.dsde_syntax.specs.declared.item.Bracket.{Bracket}
@@ -50,11 +50,11 @@ lay_link place at source target via =
     lay_through place source via >>= (λ own.
     give (make.Link at one two own))))
 
-abbrev pub lay_comp : Known → ℕ → Id → Option Bracket → Id → List Expr → Step Make
-lay_comp known at name index model args =
+abbrev pub lay_comp : Known → ℕ → Id → Option Bracket → Bool → Id → List Expr → Step Make
+lay_comp known at name index soft model args =
     lay_index known index >>= (λ own.
     lay_all known args >>= (λ values.
-    give (make.Comp at name.name own (model_id known model.name) values)))
+    give (make.Comp at name.name own (model_id known model.name) values soft)))
 
 -- `for`, by its head
 abbrev pub lay_for : Place → Id → Expr → List Item → Step Make

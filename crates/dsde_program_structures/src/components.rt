@@ -14,20 +14,21 @@ use dsde_program_slots::model_id;
 use dsde_syntax::{Bracket, Expr, Id};
 use dsde_values::Text;
 
-/// Lays a component: its index, and then the arguments of its model.
+/// Lays a component, soft or not: its index, and then the arguments of its model.
 pub(crate) fn comp<'m>(
     resolver: &Resolver<'m>,
     at: u32,
     name: &Id,
     own: &'m Option<Bracket>,
+    soft: bool,
     model: &Id,
     given: &'m [Expr],
     scope: &mut Names<Member<'m>>,
     tables: &mut Tables,
 ) -> Result<Make, Memory>
-    ensures own { IfOk result (λ made. made ≡ (lay_comp resolver.now at name.now own.now model.now given.now scope.old tables.old).own) }
-    ensures tables { OnOk result (tables.new ≡ (lay_comp resolver.now at name.now own.now model.now given.now scope.old tables.old).tables) }
-    ensures seen { OnOk result (scope.new ≡ (lay_comp resolver.now at name.now own.now model.now given.now scope.old tables.old).scope) }
+    ensures own { IfOk result (λ made. made ≡ (lay_comp resolver.now at name.now own.now soft model.now given.now scope.old tables.old).own) }
+    ensures tables { OnOk result (tables.new ≡ (lay_comp resolver.now at name.now own.now soft model.now given.now scope.old tables.old).tables) }
+    ensures seen { OnOk result (scope.new ≡ (lay_comp resolver.now at name.now own.now soft model.now given.now scope.old tables.old).scope) }
     ensures kept { OnOk result (scope.new ≡ scope.old) }
 {
     let index = index(resolver, own, scope, tables)?;
@@ -40,5 +41,6 @@ pub(crate) fn comp<'m>(
         index,
         model,
         args,
+        soft,
     })
 }

@@ -72,6 +72,7 @@ fn item<'m>(
             at,
             name,
             index,
+            soft,
             model,
             args,
         } => comp(
@@ -79,6 +80,7 @@ fn item<'m>(
             *at,
             name,
             index,
+            *soft,
             model,
             args.as_slice(),
             scope,

@@ -123,9 +123,9 @@ module _ (place : Place) where
       subst (λ (step : Step MakeArm). Counts step (length (VA (roll-ItemArm x)))) (sym (fold-roll-ItemArm (Step Make) (Step MakeArm) (item_step place) (item_arm_step place) x))
       (subst (λ (texts : List ViaPart). Counts (item_arm_step place (map-ItemArm Item ItemArm (Step Make) (Step MakeArm) R RA x)) (length texts)) (sym (fold-roll-ItemArm (List ViaPart) (List ViaPart) via_step via_arm_step x)) own)
 
-  comp-count : (at : ℕ) (name : Id) (index : Option Bracket) (model : Id) (args : List Expr) → Counts (item_step place (Item-F.Comp at name index model args)) 0
-  comp-count at name index model args =
-      let made : Option MakeIndex → List ExprId → Make = λ own values. make.Comp at name.name own (model_id place.known model.name) values in
+  comp-count : (at : ℕ) (name : Id) (index : Option Bracket) (soft : Bool) (model : Id) (args : List Expr) → Counts (item_step place (Item-F.Comp at name index soft model args)) 0
+  comp-count at name index soft model args =
+      let made : Option MakeIndex → List ExprId → Make = λ own values. make.Comp at name.name own (model_id place.known model.name) values soft in
       counts-then (resolve_index place.known index) (λ own. resolve_all place.known args >>= (λ values. give (made own values))) 0 0 (index-count place.known index)
       (λ own. counts-then (resolve_all place.known args) (λ values. give (made own values)) 0 0 (args-count place.known args) (λ values. counts-give (made own values)))
 
@@ -148,7 +148,7 @@ module _ (place : Place) where
       (counts-then (maybe last) (λ own. give (make.If made own)) count 0 own (λ other. counts-give (make.If made other))) (omega arith)
 
   item-case : (y : Item-F S A) → (let item : Item = roll-Item (map-Item S A Item ItemArm (λ own. own.0) (λ own. own.0) y) in Counts (R item) (length (vias_in item)))
-  item-case (Item-F.Comp at name index model args) = item-roll (Item-F.Comp at name index model args) (comp-count at name index model args)
+  item-case (Item-F.Comp at name index soft model args) = item-roll (Item-F.Comp at name index soft model args) (comp-count at name index soft model args)
   item-case (Item-F.Link at source target via) = item-roll (Item-F.Link at source target via) (link-count at source target via)
   item-case (Item-F.Let name value) = item-roll (Item-F.Let name value)
       (counts-expr (resolve place.known value) (λ own ty. bound name.name ty (make.Let own)) 0 (λ own ty. counts-bound name.name ty (make.Let own)))

@@ -69,17 +69,17 @@ item-returns-in-For-clause-seen t c =
 pub item-returns-in-Comp-clause-own : goal.item-returns-in-Comp-clause-own
 item-returns-in-Comp-clause-own t c =
     subst (λ (step : Step Make). IfOk c.comp.result (λ own. own ≡ (step c.args.scope.now c.args.tables.now).own))
-    (sym (ap (lay_item c.args.place.now) c.in-Comp.is ∙ item_comp c.args.place.now c.in-Comp.at c.in-Comp.name c.in-Comp.index c.in-Comp.model c.in-Comp.args))
-    (subst (λ (known : Known). IfOk c.comp.result (λ own. own ≡ (lay_comp known c.in-Comp.at c.in-Comp.name c.in-Comp.index c.in-Comp.model c.in-Comp.args c.args.scope.now c.args.tables.now).own)) c.resolver.ensures (search rules))
+    (sym (ap (lay_item c.args.place.now) c.in-Comp.is ∙ item_comp c.args.place.now c.in-Comp.at c.in-Comp.name c.in-Comp.index c.in-Comp.soft c.in-Comp.model c.in-Comp.args))
+    (subst (λ (known : Known). IfOk c.comp.result (λ own. own ≡ (lay_comp known c.in-Comp.at c.in-Comp.name c.in-Comp.index c.in-Comp.soft c.in-Comp.model c.in-Comp.args c.args.scope.now c.args.tables.now).own)) c.resolver.ensures (search rules))
 
 pub item-returns-in-Comp-clause-tables : goal.item-returns-in-Comp-clause-tables
 item-returns-in-Comp-clause-tables t c =
     subst (λ (step : Step Make). OnOk c.comp.result (c.comp.new.tables ≡ (step c.args.scope.now c.args.tables.now).tables))
-    (sym (ap (lay_item c.args.place.now) c.in-Comp.is ∙ item_comp c.args.place.now c.in-Comp.at c.in-Comp.name c.in-Comp.index c.in-Comp.model c.in-Comp.args))
-    (subst (λ (known : Known). OnOk c.comp.result (c.comp.new.tables ≡ (lay_comp known c.in-Comp.at c.in-Comp.name c.in-Comp.index c.in-Comp.model c.in-Comp.args c.args.scope.now c.args.tables.now).tables)) c.resolver.ensures (search rules))
+    (sym (ap (lay_item c.args.place.now) c.in-Comp.is ∙ item_comp c.args.place.now c.in-Comp.at c.in-Comp.name c.in-Comp.index c.in-Comp.soft c.in-Comp.model c.in-Comp.args))
+    (subst (λ (known : Known). OnOk c.comp.result (c.comp.new.tables ≡ (lay_comp known c.in-Comp.at c.in-Comp.name c.in-Comp.index c.in-Comp.soft c.in-Comp.model c.in-Comp.args c.args.scope.now c.args.tables.now).tables)) c.resolver.ensures (search rules))
 
 pub item-returns-in-Comp-clause-seen : goal.item-returns-in-Comp-clause-seen
 item-returns-in-Comp-clause-seen t c =
     subst (λ (step : Step Make). OnOk c.comp.result (c.comp.new.scope ≡ (step c.args.scope.now c.args.tables.now).scope))
-    (sym (ap (lay_item c.args.place.now) c.in-Comp.is ∙ item_comp c.args.place.now c.in-Comp.at c.in-Comp.name c.in-Comp.index c.in-Comp.model c.in-Comp.args))
-    (subst (λ (known : Known). OnOk c.comp.result (c.comp.new.scope ≡ (lay_comp known c.in-Comp.at c.in-Comp.name c.in-Comp.index c.in-Comp.model c.in-Comp.args c.args.scope.now c.args.tables.now).scope)) c.resolver.ensures (search rules))
+    (sym (ap (lay_item c.args.place.now) c.in-Comp.is ∙ item_comp c.args.place.now c.in-Comp.at c.in-Comp.name c.in-Comp.index c.in-Comp.soft c.in-Comp.model c.in-Comp.args))
+    (subst (λ (known : Known). OnOk c.comp.result (c.comp.new.scope ≡ (lay_comp known c.in-Comp.at c.in-Comp.name c.in-Comp.index c.in-Comp.soft c.in-Comp.model c.in-Comp.args c.args.scope.now c.args.tables.now).scope)) c.resolver.ensures (search rules))
