@@ -11,11 +11,12 @@ use std::alloc::Global;
 use std::collections::BTreeMap;
 use std::marker::Model;
 
-/// What stands under a name: a model, and its arguments.
+/// What stands under a name: a model, its arguments, and whether the component is soft.
 #[derive(Drop)]
 struct Chosen {
     model: ModelId,
     args: Values,
+    soft: bool,
 }
 
 /// Components under names that differ, in the order of the names. To look one up and to put one in
@@ -74,8 +75,13 @@ impl Entries {
         ensures { OnOk result (self.new ≡ inserted entry self.old) }
     {
         orders_are_total();
-        let Entry { name, model, args } = entry;
-        match self.by_name.insert(name, Chosen { model, args }) {
+        let Entry {
+            name,
+            model,
+            args,
+            soft,
+        } = entry;
+        match self.by_name.insert(name, Chosen { model, args, soft }) {
             Ok(_) => Ok(()),
             Err(_) => Err(Memory),
         }
@@ -86,8 +92,13 @@ impl Entries {
         ensures { IfOk result (λ entries. entries ≡ self) }
     {
         let mut entries = Seq::new(alloc);
-        for (name, Chosen { model, args }) in self.by_name {
-            entries.push(Entry { name, model, args })?;
+        for (name, Chosen { model, args, soft }) in self.by_name {
+            entries.push(Entry {
+                name,
+                model,
+                args,
+                soft,
+            })?;
         }
         Ok(entries)
     }

@@ -163,17 +163,24 @@ impl Planner<'_> {
         stem: &Text,
         index: Option<MakeIndex>,
         model: ModelId,
-        args: &[ExprId],
+        args: &Seq<ExprId>,
+        soft: bool,
         slots: &mut Seq<Value>,
         drawn: &mut Drawn,
     ) -> Result<(), EvalEnd>
-        requires { comp_draw (part_in self.now) at stem.now index model args.now (draft_of slots.old drawn.old.entries drawn.old.links) ≢ Err Stuck }
-        ensures { Draws (comp_draw (part_in self.now) at stem.now index model args.now (draft_of slots.old drawn.old.entries drawn.old.links)) result slots.new drawn.new.entries drawn.new.links }
+        requires { comp_draw (part_in self.now) at stem.now index model args.now soft (draft_of slots.old drawn.old.entries drawn.old.links) ≢ Err Stuck }
+        ensures { Draws (comp_draw (part_in self.now) at stem.now index model args.now soft (draft_of slots.old drawn.old.entries drawn.old.links)) result slots.new drawn.new.entries drawn.new.links }
     {
         let index = self.index(index, slots)?;
-        let args = self.values(args, slots)?;
+        let args = self.values(args.as_slice(), slots)?;
         let name = named(self.evaluator.alloc, stem, index)?;
-        drawn.put(at, Entry { name, model, args })
+        let entry = Entry {
+            name,
+            model,
+            args,
+            soft,
+        };
+        drawn.put(at, entry)
     }
 
     /// Lays a link.
@@ -235,7 +242,8 @@ impl Planner<'_> {
                 index,
                 model,
                 args,
-            } => self.comp(*at, stem, *index, *model, args.as_slice(), slots, drawn),
+                soft,
+            } => self.comp(*at, stem, *index, *model, args, *soft, slots, drawn),
             Make::Link { at, from, to, via } => self.link(*at, from, to, *via, slots, drawn),
             Make::Let(number) => {
                 let value = self.eval(*number, slots)?;

@@ -137,13 +137,13 @@ module _ (total : IsTotalOrder name_cmp) (place : Place) (functions : List Funct
   arm-roll x keeps = subst ArmKeeps (sym (fold-roll-ItemArm Lay ArmLay (item_step place functions) (item_arm_step place functions) x)) keeps
 
   item-case : (y : Item-F S A) → Claim (roll-Item (map-Item S A Item ItemArm (λ own. own.0) (λ own. own.0) y))
-  item-case (Item-F.Comp at name index model args) = item-roll (Item-F.Comp at name index model args)
+  item-case (Item-F.Comp at name index soft model args) = item-roll (Item-F.Comp at name index soft model args)
       (λ number before after order is.
       bound (IsInOrder after.entries) (index_of place.known functions index before.vars) _ after is
       (λ own _ later.
       bound (IsInOrder after.entries) (values_of [] (map (mean place.known functions) args) before.vars) _ after later
       (λ values _ third.
-      let entry : Entry = record { name = record { stem = name.name; index = own }; model = model_id place.known model.name; args = values } in
+      let entry : Entry = record { name = record { stem = name.name; index = own }; model = model_id place.known model.name; args = values; soft = soft } in
       bound (IsInOrder after.entries) (with_entry at entry before.entries) _ after third
       (λ entries made last. as-in (record before { entries = entries }) after last (entry-keeps total at entry before.entries entries order made)))))
   item-case (Item-F.Link at source target via) = item-roll (Item-F.Link at source target via)

@@ -96,12 +96,12 @@ abbrev pub for_draw : Draw → List Value → Draw
 for_draw body [] draft = Ok draft
 for_draw body (item ∷ items) draft = for_one body item draft >>= (λ after. for_draw body items after)
 
--- a component: its index, its arguments, and then whether there is one of its name or no room
-abbrev pub comp_draw : Part → ℕ → List ℕ → Option MakeIndex → ModelId → List ExprId → Draw
-comp_draw part at stem index model args draft =
+-- a component, soft or not: its index, its arguments, and then whether there is one of its name or no room
+abbrev pub comp_draw : Part → ℕ → List ℕ → Option MakeIndex → ModelId → List ExprId → Bool → Draw
+comp_draw part at stem index model args soft draft =
     index_at part index draft.slots >>= (λ own.
     values_from part [] args draft.slots >>= (λ values.
-    with_entry at (record { name = record { stem = stem; index = own }; model = model; args = values }) draft.entries >>= (λ entries.
+    with_entry at (record { name = record { stem = stem; index = own }; model = model; args = values; soft = soft }) draft.entries >>= (λ entries.
     Ok (record draft { entries = entries }))))
 
 -- a link: the index of its source, that of its target, its key, and then whether there is no room
@@ -119,7 +119,7 @@ for_list part list body draft =
     part list draft.slots >>= (λ own. items_of own >>= (λ items. for_draw body items draft))
 
 abbrev pub make_step : Part → Make-F Draw ArmDraw → Draw
-make_step part (Make-F.Comp at stem index model args) draft = comp_draw part at stem index model args draft
+make_step part (Make-F.Comp at stem index model args soft) draft = comp_draw part at stem index model args soft draft
 make_step part (Make-F.Link at source target via) draft = link_draw part at source target via draft
 make_step part (Make-F.Let number) draft =
     part number draft.slots >>= (λ own. Ok (record draft { slots = draft.slots ++ own ∷ [] }))

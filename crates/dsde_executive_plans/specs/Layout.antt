@@ -148,13 +148,14 @@ for_lay name body number [] layout = Ok layout
 for_lay name body number (item ∷ items) layout =
     for_one name body number item layout >>= (λ after. for_lay name body number items after)
 
+-- A component is soft where its `comp` is written with `:`.
 abbrev pub item_step : Place → List Function → Item-F Lay ArmLay → Lay
-item_step place functions (Item-F.Comp at name index model args) = record {
+item_step place functions (Item-F.Comp at name index soft model args) = record {
   vias = 0;
   run = λ number layout.
       index_of place.known functions index layout.vars >>= (λ own.
       values_of [] (map (mean place.known functions) args) layout.vars >>= (λ values.
-      with_entry at (record { name = record { stem = name.name; index = own }; model = model_id place.known model.name; args = values }) layout.entries >>= (λ entries.
+      with_entry at (record { name = record { stem = name.name; index = own }; model = model_id place.known model.name; args = values; soft = soft }) layout.entries >>= (λ entries.
       Ok (record layout { entries = entries }))));
 }
 item_step place functions (Item-F.Link at source target via) = record {

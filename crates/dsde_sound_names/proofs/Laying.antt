@@ -161,13 +161,13 @@ module _ (test : List ℕ → Bool) where
         (keeps (sym (fold-roll-ItemArm Bool Bool (called_step test) called_arm x) ∙ called))
 
     item-case : (y : Item-F S A) → Claim (roll-Item (map-Item S A Item ItemArm (λ own. own.0) (λ own. own.0) y))
-    item-case (Item-F.Comp at name index model args) = item-roll (Item-F.Comp at name index model args)
+    item-case (Item-F.Comp at name index soft model args) = item-roll (Item-F.Comp at name index soft model args)
         (λ called number before after order is.
         bound ((IsCalled test) after.entries) (index_of place.known functions index before.vars) _ after is
         (λ own _ later.
         bound ((IsCalled test) after.entries) (values_of [] (map (mean place.known functions) args) before.vars) _ after later
         (λ values _ third.
-        let entry : Entry = record { name = record { stem = name.name; index = own }; model = model_id place.known model.name; args = values } in
+        let entry : Entry = record { name = record { stem = name.name; index = own }; model = model_id place.known model.name; args = values; soft = soft } in
         bound ((IsCalled test) after.entries) (with_entry at entry before.entries) _ after third
         (λ entries made last. as-in (record before { entries = entries }) after last (entry-keeps at entry before.entries entries called order made)))))
     item-case (Item-F.Link at source target via) = item-roll (Item-F.Link at source target via)

@@ -65,7 +65,7 @@ arm-roll x gives is =
     fold-roll-ItemArm Bool Bool (called_step is_free) called_arm x ∙ gives (sym (fold-roll-ItemArm Bool Bool proper.item_step proper.item_arm_step x) ∙ is)
 
 item-case : (y : Item-F S A) → Claim (roll-Item (map-Item S A Item ItemArm (λ own. own.0) (λ own. own.0) y))
-item-case (Item-F.Comp at name index model args) = item-roll (Item-F.Comp at name index model args) (λ is. (both (is_plain name) (is_proper_index index && list_all is_proper args) is).0)
+item-case (Item-F.Comp at name index soft model args) = item-roll (Item-F.Comp at name index soft model args) (λ is. (both (is_plain name) (is_proper_index index && list_all is_proper args) is).0)
 item-case (Item-F.Link at source target via) = item-roll (Item-F.Link at source target via) (λ is. refl)
 item-case (Item-F.Let name value) = item-roll (Item-F.Let name value) (λ is. refl)
 item-case (Item-F.If arms None) = item-roll (Item-F.If (map (λ (own : A). own.0) arms) None)

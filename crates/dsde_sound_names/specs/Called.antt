@@ -12,7 +12,7 @@ abbrev pub all_so : List Bool → Bool
 all_so = list_all (λ own. own)
 
 abbrev pub called_step : (List ℕ → Bool) → Item-F Bool Bool → Bool
-called_step test (Item-F.Comp at name index model args) = test name.name
+called_step test (Item-F.Comp at name index soft model args) = test name.name
 called_step test (Item-F.Link at source target via) = true
 called_step test (Item-F.Let name value) = true
 called_step test (Item-F.If arms other) = all_so arms && option_map_or all_so other true

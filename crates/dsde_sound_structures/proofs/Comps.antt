@@ -127,14 +127,14 @@ module _ (g : Ground) where
 
   -- Components of these names, models and arguments are of their kind.
   abbrev pub EntriesAre : Type 0
-  EntriesAre = (name model : Id) (index : Option ℕ) (sig : ModelSig) (number : ℕ) (family : Family) (values : List Value)
+  EntriesAre = (name model : Id) (index : Option ℕ) (soft : Bool) (sig : ModelSig) (number : ℕ) (family : Family) (values : List Value)
       → rule_structures.model_number around.known model.name ≡ Some number → model_named around.known model.name ≡ Some sig
       → family_named g.site.families name.name ≡ Some family → family.model ≡ number → AllTyped g.types sig.params values
-      → g.entry_is (record { name = record { stem = name.name; index = index }; model = model_id whole model.name; args = values })
+      → g.entry_is (record { name = record { stem = name.name; index = index }; model = model_id whole model.name; args = values; soft = soft })
 
   module _ (are : EntriesAre) where
     pub comps-do : CompsDo g
-    comps-do at name index model args = record {
+    comps-do at name index soft model args = record {
       counts = λ slots next.
           let one = resolve_index whole index slots next in
           let two = resolve_all whole args one.scope (behind next one) in
@@ -153,7 +153,7 @@ module _ (g : Ground) where
           let two = resolve_all whole args one.scope next1 in
           let same1 : one.scope ≡ slots = index-scope whole index slots next in
           let same2 : two.scope ≡ slots = all-scope whole args one.scope next1 ∙ same1 in
-          subst (λ (p : Passed). Done g (one_does g) p slots next (nodes.item_step g.place (Item-F.Comp at name index model args) slots next) [] (item_step g.place g.functions (Item-F.Comp at name index model args)))
+          subst (λ (p : Passed). Done g (one_does g) p slots next (nodes.item_step g.place (Item-F.Comp at name index soft model args) slots next) [] (item_step g.place g.functions (Item-F.Comp at name index soft model args)))
           (ok-is behind_it passed w2.next)
           (record {
             more = [];
@@ -161,8 +161,8 @@ module _ (g : Ground) where
             sees = subst (λ (l : List Field). Sees E scope l) (sym same2) sees;
             shows = λ ready before kept.
                 let low : max w1.value w2.value + 1 ≤ 512 = not-cut (max w1.value w2.value) ready.low in
-                subst (λ (l : List Field). Shows g l ((item_step g.place g.functions (Item-F.Comp at name index model args)).run next.via before) (one_does g (nodes.item_step g.place (Item-F.Comp at name index model args) slots next).own (shown before))) (sym same2)
-                (shows-by g slots _ _ _ (draw-comp (part_in g) at name.name one.own (model_id whole model.name) two.own (shown before))
+                subst (λ (l : List Field). Shows g l ((item_step g.place g.functions (Item-F.Comp at name index soft model args)).run next.via before) (one_does g (nodes.item_step g.place (Item-F.Comp at name index soft model args) slots next).own (shown before))) (sym same2)
+                (shows-by g slots _ _ _ (draw-comp (part_in g) at name.name one.own (model_id whole model.name) two.own soft (shown before))
                 (shows-over g (λ (own : Option ℕ). Unit {0}) slots (index_of whole g.functions index before.vars) (index_at (part_in g) one.own (values_in before.vars)) _ _
                 (index-gets g scope slots sees before.vars kept.fits index (and-left (proper.is_proper_index index) _ (and-right (is_plain name) _ plain)) w1.value next w1.first
                 (stands-left g.coded.nodes next.node one.nodes (two.nodes ++ []) ready.code) (omega (arith, low)))
@@ -172,8 +172,8 @@ module _ (g : Ground) where
                 args (and-right (proper.is_proper_index index) _ (and-right (is_plain name) _ plain)) called.sig.params 0 w2.value called.fits called.long (omega (arith, low)) next1
                 (stands-left g.coded.nodes next1.node two.nodes [] (stands-right g.coded.nodes next.node one.nodes (two.nodes ++ []) ready.code)) [] [] tt)
                 (λ values typed.
-                let entry : Entry = record { name = record { stem = name.name; index = own }; model = model_id whole model.name; args = values } in
-                let is : g.entry_is entry = are name model own called.sig entering.number entering.family values entering.is called.found (entered.within.finds name.name entering.family entering.has) entering.of typed in
+                let entry : Entry = record { name = record { stem = name.name; index = own }; model = model_id whole model.name; args = values; soft = soft } in
+                let is : g.entry_is entry = are name model own soft called.sig entering.number entering.family values entering.is called.found (entered.within.finds name.name entering.family entering.has) entering.of typed in
                 shows-over g (AllByRecursion g.entry_is) slots (with_entry at entry before.entries) (with_entry at entry before.entries) _ _
                 (gets-own (AllByRecursion g.entry_is) (with_entry at entry before.entries) (with-entry-sound g.entry_is at entry before.entries is kept.entries))
                 (λ entries all. shows-ok g slots (record before { entries = entries }) (record { fits = kept.fits; entries = all; links = kept.links }))))));
@@ -182,11 +182,11 @@ module _ (g : Ground) where
 
 -- Components are of the models of the file.
 pub entry-by : (m : Model) (own : Own) (families : List Family) (known : Known) → ModelsAre m → known.models ≡ (whole_of m).models
-    → (name model : Id) (index : Option ℕ) (sig : ModelSig) (number : ℕ) (family : Family) (values : List Value)
+    → (name model : Id) (index : Option ℕ) (soft : Bool) (sig : ModelSig) (number : ℕ) (family : Family) (values : List Value)
     → rule_structures.model_number known model.name ≡ Some number → model_named known model.name ≡ Some sig
     → family_named families name.name ≡ Some family → family.model ≡ number → AllTyped (types_of m) sig.params values
-    → EntryBy m own families (record { name = record { stem = name.name; index = index }; model = model_id (whole_of m) model.name; args = values })
-entry-by m own families known models same name model index sig number family values is found has of typed =
+    → EntryBy m own families (record { name = record { stem = name.name; index = index }; model = model_id (whole_of m) model.name; args = values; soft = soft })
+entry-by m own families known models same name model index soft sig number family values is found has of typed =
     let p : Placed model_name known.models model.name sig = placed model_name known.models model.name sig found in
     let some : (let own : Option ℕ = Some p.place in own) ≡ Some number = sym p.found ∙ is in
     let place : p.place ≡ number = the-number p.place number some in

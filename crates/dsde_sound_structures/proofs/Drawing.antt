@@ -1,5 +1,5 @@
 -- What each item of tables does.
-use Rattle.std.proofs.Common.{◌≡◌, ℕ, List, [], ◌∷◌, ◌++◌, map, Option, Some, None, Ok, sym, ◌∙◌, ap}
+use Rattle.std.proofs.Common.{◌≡◌, ℕ, Bool, List, [], ◌∷◌, ◌++◌, map, Option, Some, None, Ok, sym, ◌∙◌, ap}
 use Rattle.dsde_program_nodes.specs.declared.ids.ExprId.{ExprId}
 use Rattle.dsde_declared.specs.declared.ids.ModelId.{ModelId}
 use Rattle.dsde_program_nodes.specs.declared.make.Make.{Make}
@@ -16,11 +16,11 @@ use Rattle.dsde_eval_meaning.specs.Tables.{Part}
 use Rattle.dsde_executive_plans.specs.Drafts.{Draft, Draw, ArmDraw, make_step, make_arm_step, draw, draw_arm, draws, comp_draw, link_draw, for_list, arms_draw, else_draw}
 
 module _ (part : Part) where
-  pub draw-comp : (at : ℕ) (stem : List ℕ) (index : Option MakeIndex) (model : ModelId) (args : List ExprId) (draft : Draft)
-      → draw part (make.Comp at stem index model args) draft ≡ comp_draw part at stem index model args draft
-  draw-comp at stem index model args draft =
-      ap (λ (own : Make). draw part own draft) (sym (rolls-Comp at stem index model args))
-      ∙ ap (λ (own : Draw). own draft) (fold-roll-Make Draw ArmDraw (make_step part) make_arm_step (Make-F.Comp at stem index model args))
+  pub draw-comp : (at : ℕ) (stem : List ℕ) (index : Option MakeIndex) (model : ModelId) (args : List ExprId) (soft : Bool) (draft : Draft)
+      → draw part (make.Comp at stem index model args soft) draft ≡ comp_draw part at stem index model args soft draft
+  draw-comp at stem index model args soft draft =
+      ap (λ (own : Make). draw part own draft) (sym (rolls-Comp at stem index model args soft))
+      ∙ ap (λ (own : Draw). own draft) (fold-roll-Make Draw ArmDraw (make_step part) make_arm_step (Make-F.Comp at stem index model args soft))
 
   pub draw-link : (at : ℕ) (source target : MakeEnd) (via : Option MakeVia) (draft : Draft)
       → draw part (make.Link at source target via) draft ≡ link_draw part at source target via draft

@@ -194,7 +194,7 @@ module _ (known whole : Known) (models : known.models ≡ whole.models) where
       (subst (λ (k : Kin). Entering (enter_arm_step (map-ItemArm Item ItemArm Enter Enter N NA x)) k) (sym (fold-roll-ItemArm Kin Kin (kin_step whole) kin_arm_step x)) own)
 
   item-case : (y : Item-F S A) → Claim (roll-Item (map-Item S A Item ItemArm (λ own. own.0) (λ own. own.0) y))
-  item-case (Item-F.Comp at name index model args) = item-roll (Item-F.Comp at name index model args)
+  item-case (Item-F.Comp at name index soft model args) = item-roll (Item-F.Comp at name index soft model args)
       (let own = comp-is at name model in record { same = own.same; grows = own.grows })
   item-case (Item-F.Link at source target via) = item-roll (Item-F.Link at source target via) (record { same = nothing-enters.same; grows = nothing-enters.grows })
   item-case (Item-F.Let name value) = item-roll (Item-F.Let name value) (record { same = nothing-enters.same; grows = nothing-enters.grows })

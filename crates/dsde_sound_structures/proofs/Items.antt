@@ -49,9 +49,9 @@ module _ (g : Ground) where
 
   -- what a component and a link do
   abbrev pub CompsDo : Type 0
-  CompsDo = (at : ℕ) (name : Id) (index : Option Bracket) (model : Id) (args : List Expr)
-      → Does g (proper.item_step (Item-F.Comp at name index model args)) (rules.enter_step known (Item-F.Comp at name index model args)) (rules.item_step g.site (Item-F.Comp at name index model args))
-      (nodes.item_step g.place (Item-F.Comp at name index model args)) (standing.via_step (Item-F.Comp at name index model args)) (layouts.item_step g.place g.functions (Item-F.Comp at name index model args))
+  CompsDo = (at : ℕ) (name : Id) (index : Option Bracket) (soft : Bool) (model : Id) (args : List Expr)
+      → Does g (proper.item_step (Item-F.Comp at name index soft model args)) (rules.enter_step known (Item-F.Comp at name index soft model args)) (rules.item_step g.site (Item-F.Comp at name index soft model args))
+      (nodes.item_step g.place (Item-F.Comp at name index soft model args)) (standing.via_step (Item-F.Comp at name index soft model args)) (layouts.item_step g.place g.functions (Item-F.Comp at name index soft model args))
 
   abbrev pub LinksDo : Type 0
   LinksDo = (at : ℕ) (source target : End) (via : Option ViaPart)
@@ -145,7 +145,7 @@ module _ (g : Ground) where
 
   module _ (comps : CompsDo) (links : LinksDo) where
     item-case : (y : Item-F S A) → Claim (roll-Item (map-Item S A Item ItemArm (λ s. s.0) (λ a. a.0) y))
-    item-case (Item-F.Comp at name index model args) = item-roll (Item-F.Comp at name index model args) (comps at name index model args)
+    item-case (Item-F.Comp at name index soft model args) = item-roll (Item-F.Comp at name index soft model args) (comps at name index soft model args)
     item-case (Item-F.Link at source target via) = item-roll (Item-F.Link at source target via) (links at source target via)
     item-case (Item-F.Let name e) = item-roll (Item-F.Let name e) (let-does g name e)
     item-case (Item-F.If arms None) = item-roll (Item-F.If (map (λ (a : A). a.0) arms) None)
