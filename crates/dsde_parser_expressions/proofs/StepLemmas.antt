@@ -138,6 +138,15 @@ pub index-none : (s : Wants) (at : ℕ) (ts : Tokens) → next_is (is_sign sign.
 index-none s at (tok.Sign sign.OpenBracket ∷ ts) h = cc
 index-none s at _ h = refl
 
+pub entry_mark-soft : (s : Wants) (at : ℕ) (ts : Tokens) → next_is (is_sign sign.Colon) ts ≡ true → stop (want.entry_mark ∷ s) at ts ≡ stop (want.mark sign.Colon ∷ s) at ts
+entry_mark-soft s at (tok.Sign sign.Colon ∷ ts) h = refl
+entry_mark-soft s at _ h = cc
+
+pub entry_mark-hard : (s : Wants) (at : ℕ) (ts : Tokens) → next_is (is_sign sign.Colon) ts ≡ false → stop (want.entry_mark ∷ s) at ts ≡ stop (want.word key.Is ∷ s) at ts
+entry_mark-hard s at (tok.Sign sign.Colon ∷ ts) h = cc
+entry_mark-hard s at (tok.Key key.Is ∷ ts) h = refl
+entry_mark-hard s at _ h = refl
+
 pub via-none : (s : Wants) (at : ℕ) (ts : Tokens) → next_is (is_key key.Via) ts ≡ false → stop (want.via ∷ s) at ts ≡ stop s at ts
 via-none s at (tok.Key key.Via ∷ ts) h = cc
 via-none s at _ h = refl
@@ -207,7 +216,7 @@ pub stmt-var : (s : Wants) (at : ℕ) (ts : Tokens) → next_is (is_key key.Var)
 stmt-var s at (tok.Key key.Var ∷ ts) h = refl
 stmt-var s at _ h = cc
 
-pub item-comp : (s : Wants) (at : ℕ) (ts : Tokens) → next_is (is_key key.Comp) ts ≡ true → stop (want.item ∷ s) at ts ≡ stop (want.word key.Comp ∷ want.name ∷ want.index ∷ want.word key.Is ∷ want.name ∷ (args ++ want.mark sign.Semicolon ∷ s)) at ts
+pub item-comp : (s : Wants) (at : ℕ) (ts : Tokens) → next_is (is_key key.Comp) ts ≡ true → stop (want.item ∷ s) at ts ≡ stop (want.word key.Comp ∷ want.name ∷ want.index ∷ want.entry_mark ∷ want.name ∷ (args ++ want.mark sign.Semicolon ∷ s)) at ts
 item-comp s at (tok.Key key.Comp ∷ ts) h = refl
 item-comp s at _ h = cc
 
