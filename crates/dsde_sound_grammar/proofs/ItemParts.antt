@@ -14,7 +14,7 @@ use Rattle.dsde_syntax.specs.declared.item.EndPart.TheVariants as end_part
 use Rattle.dsde_syntax.specs.declared.item.ViaKey.{ViaKey}
 use Rattle.dsde_syntax.specs.declared.item.ViaPart.{ViaPart}
 use Rattle.dsde_syntax.specs.declared.item.Item.TheOpen.{Item-F}
-use Rattle.dsde_syntax.specs.Grammar.{Tokens, word, mark, elses, optional, block, else_block, id_tokens, expr_tokens, args_tokens, bracket_tokens, component_tokens, end_tokens, via_key_tokens, via_tokens, item_step, item_arm_step}
+use Rattle.dsde_syntax.specs.Grammar.{Tokens, word, mark, elses, optional, block, else_block, id_tokens, expr_tokens, args_tokens, bracket_tokens, component_tokens, entry_mark, end_tokens, via_key_tokens, via_tokens, item_step, item_arm_step}
 use Rattle.dsde_syntax.specs.Levels.{has_first, all_hold, if_written, is_expr, is_index, is_end, is_via, is_item_step, is_item_arm_step}
 use Rattle.dsde_eval_meaning.specs.Proper.{all_so, is_plain, is_proper}
 use Rattle.dsde_sound_grammar.specs.Items as proper
@@ -58,18 +58,18 @@ via-proper (Some own) level tokens =
     and-true (is_plain own.value) (is_proper_key own.key && is_proper own.body) parts.left
     (and-true (is_proper_key own.key) (is_proper own.body) (key-proper own.key placed.left front) ((expr-proper own.body).holds placed.right last.right))
 
-pub comp-good : (at : ℕ) (name : Id) (index : Option Bracket) (model : Id) (args : List Expr)
-    → Holds (is_item_step (Item-F.Comp at name index model args)) (item_step (Item-F.Comp at name index model args)) (proper.item_step (Item-F.Comp at name index model args))
-comp-good at name index model args = record {
+pub comp-good : (at : ℕ) (name : Id) (index : Option Bracket) (soft : Bool) (model : Id) (args : List Expr)
+    → Holds (is_item_step (Item-F.Comp at name index soft model args)) (item_step (Item-F.Comp at name index soft model args)) (proper.item_step (Item-F.Comp at name index soft model args))
+comp-good at name index soft model args = record {
   holds = λ level tokens.
       let placed = both (is_index index) (list_all is_expr args) level in
       let front : Tokens = optional bracket_tokens index in
-      let named : Tokens = front ++ word key.Is ++ id_tokens model in
+      let named : Tokens = front ++ entry_mark soft ++ id_tokens model in
       let own = both (is_plain name) (plain (named ++ args_tokens args ++ mark sign.Semicolon)) tokens in
       let part = cut named (args_tokens args) (front-plain (named ++ args_tokens args) (mark sign.Semicolon) own.right) in
       and-true (is_plain name) (is_proper_index index && list_all is_proper args) own.left
       (and-true (is_proper_index index) (list_all is_proper args)
-      (index-proper index placed.left (front-plain front (word key.Is) (front-plain (front ++ word key.Is) (id_tokens model) part.left)))
+      (index-proper index placed.left (front-plain front (entry_mark soft) (front-plain (front ++ entry_mark soft) (id_tokens model) part.left)))
       (args-proper args placed.right part.right));
 }
 

@@ -63,7 +63,7 @@ arms-hold : (arms : List A) → AllHold (λ holds. holds) (λ own. own) (map is_
 arms-hold arms = all-hold (λ (a : A). a.0) item_arm_tokens is_item_arm proper_arm (λ holds. holds) (λ own. own) (λ a. a.1) arms
 
 item-case : (y : Item-F S A) → Claim (roll-Item (map-Item S A Item ItemArm (λ s. s.0) (λ a. a.0) y))
-item-case (Item-F.Comp at name index model args) = item-roll (Item-F.Comp at name index model args) (comp-good at name index model args)
+item-case (Item-F.Comp at name index soft model args) = item-roll (Item-F.Comp at name index soft model args) (comp-good at name index soft model args)
 item-case (Item-F.Link at source target via) = item-roll (Item-F.Link at source target via) (link-good at source target via)
 item-case (Item-F.Let name e) = item-roll (Item-F.Let name e) (let-good name e)
 item-case (Item-F.If arms None) = item-roll (Item-F.If (map (λ a. a.0) arms) None)

@@ -33,7 +33,7 @@ abbrev pub is_proper_via : Option ViaPart → Bool
 is_proper_via via = option_map_or (λ (own : ViaPart). is_plain own.value && (is_proper_key own.key && is_proper own.body)) via true
 
 abbrev pub item_step : Item-F Bool Bool → Bool
-item_step (Item-F.Comp at name index model args) = is_plain name && (is_proper_index index && list_all is_proper args)
+item_step (Item-F.Comp at name index soft model args) = is_plain name && (is_proper_index index && list_all is_proper args)
 item_step (Item-F.Link at source target via) = is_proper_end source && (is_proper_end target && is_proper_via via)
 item_step (Item-F.Let name value) = is_plain name && is_proper value
 item_step (Item-F.If arms other) = all_so arms && option_map_or all_so other true
