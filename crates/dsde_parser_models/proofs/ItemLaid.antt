@@ -1,5 +1,5 @@
 -- The places in the items of structures can be laid.
-use Rattle.std.proofs.Common.{◌≡◌, Bool, true, ◌&&◌, List, map, Option, None, Some, refl, ap, subst, ◌∙◌}
+use Rattle.std.proofs.Common.{◌≡◌, Bool, true, false, ◌&&◌, List, map, Option, None, Some, refl, ap, subst, ◌∙◌}
 use Rattle.std.specs.Prelude.{ℕ}
 use Rattle.dsde_syntax.specs.declared.token.Tok.TheVariants as tok
 use Rattle.dsde_words.specs.declared.key.Key.TheVariants as key
@@ -16,7 +16,7 @@ use Rattle.dsde_syntax.specs.declared.item.EndPart.{EndPart}
 use Rattle.dsde_syntax.specs.declared.item.EndPart.TheVariants as end_part
 use Rattle.dsde_syntax.specs.declared.item.ViaPart.{ViaPart}
 use Rattle.dsde_syntax.specs.declared.item.ViaKey.{ViaKey}
-use Rattle.dsde_syntax.specs.Grammar.{Tokens, elses, block, bracket_tokens, component_tokens, end_part_tokens, end_tokens, via_key_tokens, via_tokens, item_step, item_arm_step, item_tokens, item_arm_tokens}
+use Rattle.dsde_syntax.specs.Grammar.{Tokens, elses, block, bracket_tokens, component_tokens, entry_mark, end_part_tokens, end_tokens, via_key_tokens, via_tokens, item_step, item_arm_step, item_tokens, item_arm_tokens}
 use Rattle.dsde_syntax.specs.Levels.{has_first, all_hold, is_expr, is_index, is_end, is_via, is_item_step, is_item_arm_step, is_item, is_item_arm}
 use Rattle.dsde_syntax.specs.Places.{Span, token, block_span, spans_with, bracket_span, component_span, end_part_span, end_span, via_key_span, via_span, item_span_step, item_arm_span_step, item_span, item_arm_span}
 use Rattle.dsde_parser_models.proofs.Laying.{Lays, made, nothing, skip, place, here, ident, both, behind, before, within, separated, written, all_held}
@@ -35,6 +35,11 @@ component-laid : (name : Id) (index : Option Bracket) → Lays (λ (v : Id × Op
 component-laid name index =
     made (λ (v : Id × Option Bracket). component_tokens v.0 v.1) (λ (v : Id × Option Bracket). is_index v.1) (λ (v : Id × Option Bracket). component_span v.0 v.1)
     (both (ident name) (written bracket_tokens (λ (v : Bracket). is_expr v.value) bracket_span bracket-laid index)) (λ v. v) (λ k. k.1) (λ v. refl) (λ v. refl) (λ v at. refl)
+
+-- "is" | ":"
+mark-laid : (soft : Bool) → Lays entry_mark (λ (v : Bool). tt {0}) (λ v. token) soft
+mark-laid true = made entry_mark (λ v. tt {0}) (λ v. token) (skip (tok.Sign sign.Colon)) (λ v. true) (λ k. tt) (λ v. refl) (λ v. refl) (λ v at. refl)
+mark-laid false = made entry_mark (λ v. tt {0}) (λ v. token) (skip (tok.Key key.Is)) (λ v. false) (λ k. tt) (λ v. refl) (λ v. refl) (λ v at. refl)
 
 abbrev is_part : EndPart → Bool
 is_part part = elim part [ end_part.Net ↦ true | end_part.Exec ↦ true | end_part.Kid name index ↦ is_index index ]
@@ -97,11 +102,11 @@ chosen : (arms : List A) → Lays (λ vs. elses (map item_arm_tokens vs)) (map i
 chosen = separated (tok.Key key.Else) item_arm_tokens is_item_arm item_arm_span (λ e. e.0) (λ e. e.1)
 
 item-case : (y : Item-F I A) → ItemLaid (roll-Item (map-Item I A Item ItemArm (λ e. e.0) (λ e. e.0) y))
-item-case (Item-F.Comp at name index model args) =
+item-case (Item-F.Comp at name index soft model args) =
     item-made
-    (before (both (both (before (both (place (tok.Key key.Comp) at) (component-laid name index)) (tok.Key key.Is)) (ident model)) (args-laid args)) (tok.Sign sign.Semicolon))
-    (λ v. Item-F.Comp v.0.0.0 v.0.0.1.0 v.0.0.1.1 v.0.1 v.1) (λ k. k.0.0.1 && all_hold k.1)
-    (λ v. refl) (λ v. ap (λ all. is_index v.0.0.1.1 && all) (all_held is_expr v.1)) (λ v at. refl)
+    (before (both (both (both (both (place (tok.Key key.Comp) at) (component-laid name index)) (mark-laid soft)) (ident model)) (args-laid args)) (tok.Sign sign.Semicolon))
+    (λ v. Item-F.Comp v.0.0.0.0 v.0.0.0.1.0 v.0.0.0.1.1 v.0.0.1 v.0.1 v.1) (λ k. k.0.0.0.1 && all_hold k.1)
+    (λ v. refl) (λ v. ap (λ all. is_index v.0.0.0.1.1 && all) (all_held is_expr v.1)) (λ v at. refl)
 item-case (Item-F.Link at source target via) =
     item-made
     (before (both (both (before (both (place (tok.Key key.Link) at) (end-laid source)) (tok.Sign sign.Arrow)) (end-laid target)) (written via_tokens is_via via_span via-laid via)) (tok.Sign sign.Semicolon))
