@@ -28,7 +28,7 @@ use Rattle.dsde_syntax.specs.declared.item.EndPart.{EndPart}
 use Rattle.dsde_syntax.specs.declared.item.EndPart.TheVariants as end_part
 use Rattle.dsde_syntax.specs.declared.item.ViaKey.{ViaKey}
 use Rattle.dsde_syntax.specs.declared.item.ViaPart.{ViaPart}
-use Rattle.dsde_syntax.specs.Grammar.{Tokens, word, mark, optional, id_tokens, args_tokens, component_tokens, set_tokens, end_tokens, via_tokens, expr_tokens, block, for_tokens, if_tokens, stmt_step, stmt_arm_step, stmt_tokens, stmt_arm_tokens, item_step, item_arm_step, item_tokens, item_arm_tokens}
+use Rattle.dsde_syntax.specs.Grammar.{Tokens, word, mark, optional, id_tokens, args_tokens, component_tokens, entry_mark, set_tokens, end_tokens, via_tokens, expr_tokens, block, for_tokens, if_tokens, stmt_step, stmt_arm_step, stmt_tokens, stmt_arm_tokens, item_step, item_arm_step, item_tokens, item_arm_tokens}
 use Rattle.dsde_syntax.specs.Places.{Span, ◌>>◌, token, token_at, written_span, id_span, args_span, component_span, set_span, end_span, via_span, expr_span, block_span, for_span, stmt_span_step, stmt_arm_span_step, stmt_span, item_span_step, item_arm_span_step, item_span, item_arm_span, stmt_arm_span}
 use Rattle.dsde_syntax.specs.Levels.{has_first, all_hold, if_written, is_expr, is_index, is_end, is_via, is_stmt_step, is_stmt_arm_step, is_stmt, is_item_step, is_item_arm_step, is_item, is_item_arm, is_stmt_arm}
 use Rattle.dsde_parser_expressions.specs.Took.{Spot, Took, TookAll, TookOne, Any}
@@ -133,20 +133,20 @@ behind_first : (first a b c d : Tokens) → (((first ++ a) ++ b) ++ c) ++ d ≡ 
 behind_first [] a b c d = refl
 behind_first (x ∷ first) a b c d = ap (λ (own : Tokens). x ∷ own) (behind_first first a b c d)
 
-pub comp-Took : {before mid next after : Spot} (at : ℕ) (name : Id) (index : Option Bracket) (model : Id) (args : List Expr) → TookOne (tok.Key key.Comp) before mid → at ≡ before.0 → Took (λ (own : Id × Option Bracket). component_tokens own.0 own.1) (λ (own : Id × Option Bracket). component_span own.0 own.1) (λ (own : Id × Option Bracket). is_index own.1 ≡ true) mid next (name, index) → Took made_tokens made_span (λ own. AllOk is_expr own.1) next after (model, args) → Took item_tokens item_span (IsOk is_item) before after (item.Comp at name index model args)
-comp-Took {before} {mid} {next} {after} at name index model args one place part made =
-    let node = item.Comp at name index model args in
+pub comp-Took : {before mid next after : Spot} (at : ℕ) (name : Id) (index : Option Bracket) (soft : Bool) (model : Id) (args : List Expr) → TookOne (tok.Key key.Comp) before mid → at ≡ before.0 → Took (λ (own : Id × Option Bracket). component_tokens own.0 own.1) (λ (own : Id × Option Bracket). component_span own.0 own.1) (λ (own : Id × Option Bracket). is_index own.1 ≡ true) mid next (name, index) → Took made_tokens made_span (λ own. AllOk is_expr own.2) next after (soft, model, args) → Took item_tokens item_span (IsOk is_item) before after (item.Comp at name index soft model args)
+comp-Took {before} {mid} {next} {after} at name index soft model args one place part made =
+    let node = item.Comp at name index soft model args in
     let own = component_tokens name index in
-    let behind = made_tokens (model, args) in
-    let toks : item_tokens node ≡ tok.Key key.Comp ∷ (own ++ behind) = ap item_tokens (sym (rolls-Comp at name index model args)) ∙ (fold-roll-Item Tokens Tokens item_step item_arm_step (Item-F.Comp at name index model args)
-    ∙ ap (λ (own : Tokens). tok.Key key.Comp ∷ own) (behind_first own (word key.Is) (id_tokens model) (args_tokens args) (mark sign.Semicolon))) in
-    let span = ap item_span (sym (rolls-Comp at name index model args)) ∙ fold-roll-Item Span Span item_span_step item_arm_span_step (Item-F.Comp at name index model args) in
+    let behind = made_tokens (soft, model, args) in
+    let toks : item_tokens node ≡ tok.Key key.Comp ∷ (own ++ behind) = ap item_tokens (sym (rolls-Comp at name index soft model args)) ∙ (fold-roll-Item Tokens Tokens item_step item_arm_step (Item-F.Comp at name index soft model args)
+    ∙ ap (λ (own : Tokens). tok.Key key.Comp ∷ own) (behind_first own (entry_mark soft) (id_tokens model) (args_tokens args) (mark sign.Semicolon))) in
+    let span = ap item_span (sym (rolls-Comp at name index soft model args)) ∙ fold-roll-Item Span Span item_span_step item_arm_span_step (Item-F.Comp at name index soft model args) in
     let Rest : Option ℕ → Option ℕ = λ got. option_and_then token (option_and_then (args_span (map expr_span args)) (option_and_then (id_span model) (option_and_then token got))) in
     record {
       spells = one.comes ∙ ap (λ (own : Tokens). tok.Key key.Comp ∷ own) (part.spells ∙ (ap (λ (more : Tokens). own ++ more) made.spells ∙ sym (append_assoc own behind after.1))) ∙ ap (λ (own : Tokens). own ++ after.1) (sym toks);
       placed = ap (λ (own : Span). own before.0) span ∙ (ap (λ (got : Option ℕ). Rest (option_and_then (component_span name index) got)) (token-here at before.0 place)
           ∙ (ap (λ (at : ℕ). Rest (component_span name index at)) (sym one.next) ∙ (ap Rest part.placed ∙ made.placed)));
-      good = ap is_item (sym (rolls-Comp at name index model args)) ∙ (fold-roll-Item Bool Bool is_item_step is_item_arm_step (Item-F.Comp at name index model args) ∙ true-and (is_index index) (list_all is_expr args) part.good made.good);
+      good = ap is_item (sym (rolls-Comp at name index soft model args)) ∙ (fold-roll-Item Bool Bool is_item_step is_item_arm_step (Item-F.Comp at name index soft model args) ∙ true-and (is_index index) (list_all is_expr args) part.good made.good);
       shorter = omega (arith, ap length one.comes, part.shorter, made.shorter);
       moved = omega (arith, one.next, ap length one.comes, part.moved, made.moved);
     }

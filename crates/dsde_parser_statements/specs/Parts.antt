@@ -9,12 +9,11 @@ use Rattle.dsde_syntax.specs.declared.item.EndPart.{EndPart}
 use Rattle.dsde_syntax.specs.declared.item.EndPart.TheVariants as end_part
 use Rattle.dsde_syntax.specs.declared.item.ViaKey.{ViaKey}
 use Rattle.dsde_syntax.specs.Levels.{if_written, is_expr, is_stmt, is_item, is_index, is_end}
-use Rattle.dsde_words.specs.declared.key.Key.TheVariants as key
 use Rattle.dsde_syntax.specs.declared.token.Sign.TheVariants as sign
 use Rattle.dsde_syntax.specs.declared.id.Id.{Id}
 use Rattle.dsde_syntax.specs.declared.item.End.{End}
 use Rattle.dsde_syntax.specs.declared.item.ViaPart.{ViaPart}
-use Rattle.dsde_syntax.specs.Grammar.{Tokens, word, optional, in_parens, mark, id_tokens, args_tokens, end_tokens, via_tokens, via_key_tokens, else_block, expr_tokens, stmt_tokens, item_tokens}
+use Rattle.dsde_syntax.specs.Grammar.{Tokens, optional, in_parens, mark, id_tokens, args_tokens, entry_mark, end_tokens, via_tokens, via_key_tokens, else_block, expr_tokens, stmt_tokens, item_tokens}
 use Rattle.dsde_syntax.specs.Places.{◌>>◌, token, bracketed, id_span, args_span, end_span, via_span, via_key_span, written_span, else_span, expr_span, stmt_span, item_span, Span}
 
 -- "if" expr
@@ -48,12 +47,12 @@ is_end_part (end_part.Kid name index) = is_index index
 abbrev pub is_via_key : Option ViaKey → Bool
 is_via_key = if_written (λ (own : ViaKey). is_expr own.value)
 
--- "is" id args ";"
-abbrev pub made_tokens : Id × List Expr → Tokens
-made_tokens own = word key.Is ++ id_tokens own.0 ++ args_tokens own.1 ++ mark sign.Semicolon
+-- ("is" | ":") id args ";"
+abbrev pub made_tokens : Bool × Id × List Expr → Tokens
+made_tokens own = entry_mark own.0 ++ id_tokens own.1 ++ args_tokens own.2 ++ mark sign.Semicolon
 
-abbrev pub made_span : Id × List Expr → Span
-made_span own = token >> id_span own.0 >> args_span (map expr_span own.1) >> token
+abbrev pub made_span : Bool × Id × List Expr → Span
+made_span own = token >> id_span own.1 >> args_span (map expr_span own.2) >> token
 
 -- "(" id ["," id "=" expr] ")"
 abbrev pub via_names_tokens : Id × Option ViaKey → Tokens

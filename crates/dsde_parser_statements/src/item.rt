@@ -2,15 +2,15 @@
 //! more is read behind it.
 
 ghost use Rattle.std.specs.Prelude.{◌≡◌, ◌<◌, ◌∷◌, ◌++◌, [], true, false, map, OnOk};
-ghost use Rattle.dsde_syntax.specs.Grammar.{block, optional, component_tokens, end_tokens, end_part_tokens, via_tokens, via_key_tokens, item_tokens, item_arm_tokens};
-ghost use Rattle.dsde_syntax.specs.Places.{block_span, written_span, component_span, end_span, end_part_span, via_span, via_key_span, item_span, item_arm_span};
+ghost use Rattle.dsde_syntax.specs.Grammar.{block, optional, component_tokens, entry_mark, end_tokens, end_part_tokens, via_tokens, via_key_tokens, item_tokens, item_arm_tokens};
+ghost use Rattle.dsde_syntax.specs.Places.{token, block_span, written_span, component_span, end_span, end_part_span, via_span, via_key_span, item_span, item_arm_span};
 ghost use Rattle.dsde_syntax.specs.Levels.{if_written, is_expr, is_index, is_end, is_via, is_item, is_item_arm};
 ghost use Rattle.dsde_words.specs.declared.key.Key.TheVariants as key;
 ghost use Rattle.dsde_syntax.specs.declared.token.Sign.TheVariants as sign;
 ghost use Rattle.dsde_parser_grammar.specs.Want as want;
 ghost use Rattle.dsde_parser_grammar.specs.Steps.{set, args, block as block_wants, loop_rest, arm_rest};
 ghost use Rattle.dsde_parser_expressions.specs.Follows.{Leads, Meets, next_is, begins_item, is_else_if};
-ghost use Rattle.dsde_parser_expressions.specs.Took.{Reads, ReadsAll};
+ghost use Rattle.dsde_parser_expressions.specs.Took.{Reads, ReadsAll, Any};
 ghost use Rattle.dsde_parser_expressions.specs.Parts.{AllOk, SomeOk, IsOk, joined_by, all_by, elses_by, spans_by};
 ghost use Rattle.dsde_parser_statements.specs.Parts.{is_end_part, is_via_key, made_tokens, made_span, via_names_tokens, via_names_span, via_body_tokens, via_body_span, ends_tokens, ends_span, EndsOk, target_tokens, target_span, last_via_tokens, last_via_span, last_items_tokens, last_items_span, last_items_ok};
 
@@ -87,34 +87,47 @@ fn let_item(parser: &mut Parser) -> Result<Item, ParseError>
     Ok(Item::Let { name, value })
 }
 
-/// "comp" id ["[" expr "]"] "is" id args ";"
+/// "comp" id ["[" expr "]"] ("is" | ":") id args ";"
 fn comp(parser: &mut Parser) -> Result<Item, ParseError>
     ensures took { Reads item_tokens item_span (IsOk is_item) parser.old result parser.new }
-    ensures same { Meets (want.word key.Comp ∷ want.name ∷ want.index ∷ want.word key.Is ∷ want.name ∷ (args ++ want.mark sign.Semicolon ∷ [])) parser.old result parser.new }
+    ensures same { Meets (want.word key.Comp ∷ want.name ∷ want.index ∷ want.entry_mark ∷ want.name ∷ (args ++ want.mark sign.Semicolon ∷ [])) parser.old result parser.new }
 {
     let at = parser.key(Key::Comp)?;
     let named = Boxed::new(parser.alloc(), component(parser)?)?;
-    let (model, args) = made(parser)?;
+    let (soft, model, args) = made(parser)?;
     let (name, index) = named.into_inner();
     Ok(Item::Comp {
         at,
         name,
         index,
+        soft,
         model,
         args,
     })
 }
 
-/// "is" id args ";"
-fn made(parser: &mut Parser) -> Result<(Id, Items<Expr>), ParseError>
-    ensures took { Reads made_tokens made_span (λ own. AllOk is_expr own.1) parser.old result parser.new }
-    ensures same { Meets (want.word key.Is ∷ want.name ∷ (args ++ want.mark sign.Semicolon ∷ [])) parser.old result parser.new }
+/// ("is" | ":") id args ";"
+fn made(parser: &mut Parser) -> Result<(bool, Id, Items<Expr>), ParseError>
+    ensures took { Reads made_tokens made_span (λ own. AllOk is_expr own.2) parser.old result parser.new }
+    ensures same { Meets (want.entry_mark ∷ want.name ∷ (args ++ want.mark sign.Semicolon ∷ [])) parser.old result parser.new }
 {
-    parser.key(Key::Is)?;
+    let soft = entry_mark(parser)?;
     let model = parser.name()?;
     let args = parser.arguments()?;
     parser.sign(Sign::Semicolon)?;
-    Ok((model, args))
+    Ok((soft, model, args))
+}
+
+/// "is" | ":"
+fn entry_mark(parser: &mut Parser) -> Result<bool, ParseError>
+    ensures took { Reads entry_mark (λ _. token) Any parser.old result parser.new }
+    ensures same { Meets (want.entry_mark ∷ []) parser.old result parser.new }
+{
+    if parser.takes_sign(Sign::Colon) {
+        return Ok(true);
+    }
+    parser.key(Key::Is)?;
+    Ok(false)
 }
 
 /// id ["[" expr "]"]

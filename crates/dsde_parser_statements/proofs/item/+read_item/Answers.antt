@@ -40,7 +40,7 @@ items-returns-in_err-item-clause-same t c =
 
 pub item-returns-then-next_is_key-clause-same : goal.item-returns-then-next_is_key-clause-same
 item-returns-then-next_is_key-clause-same t c =
-    leads-from (want.item ∷ []) (want.word key.Comp ∷ want.name ∷ want.index ∷ want.word key.Is ∷ want.name ∷ (args ++ want.mark sign.Semicolon ∷ [])) [] c.args.parser.now c.comp.new.parser _ (λ s. item-comp s c.args.parser.now.0 c.args.parser.now.1 (sym c.if-next_is_key.ensures)) c.comp.ensures.same
+    leads-from (want.item ∷ []) (want.word key.Comp ∷ want.name ∷ want.index ∷ want.entry_mark ∷ want.name ∷ (args ++ want.mark sign.Semicolon ∷ [])) [] c.args.parser.now c.comp.new.parser _ (λ s. item-comp s c.args.parser.now.0 c.args.parser.now.1 (sym c.if-next_is_key.ensures)) c.comp.ensures.same
 
 pub item-returns-then-next_is_key-2-clause-same : goal.item-returns-then-next_is_key-2-clause-same
 item-returns-then-next_is_key-2-clause-same t c =

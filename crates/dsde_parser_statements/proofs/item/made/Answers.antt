@@ -4,4 +4,4 @@ use Rattle.dsde_parser_statements.proofs.item.made.Goals as goal
 
 pub returns-clause-took : goal.returns-clause-took
 returns-clause-took c =
-    read (one c.in_ok-key.ensures.took ⨟ own c.in_ok-model.ensures.took ⨟ own c.in_ok-args.ensures.took ⨟ one c.in_ok-sign.ensures.took) refl refl c.in_ok-args.ensures.took.good
+    read (own c.in_ok-soft.ensures.took ⨟ own c.in_ok-model.ensures.took ⨟ own c.in_ok-args.ensures.took ⨟ one c.in_ok-sign.ensures.took) refl refl c.in_ok-args.ensures.took.good
