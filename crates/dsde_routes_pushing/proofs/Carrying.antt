@@ -24,7 +24,7 @@ use Rattle.dsde_routes_pushing.specs.Carried.{Traffic, Delivery, KidLoad, NetLoa
 use Rattle.dsde_routes_wiring.specs.Wired.{Shape, KidShapes, shapes, shapes_of_kid}
 use Rattle.dsde_routes_pushing.specs.Fitting.{LeadWithin, HasPorts, HavePorts}
 use Rattle.dsde_routes_wiring.specs.Opened.{me_of, kids_of, below_of, Beneath, each_wiring, flow_opened, flow-opens, flow_kid-opens, shapes-opens, shapes_kid-opens}
-use Rattle.dsde_routes_pushing.proofs.Opens.{load_opened, load_kid_opened, load-opens, load_kid-opens}
+use Rattle.dsde_routes_pushing.specs.lemmas.Opens.{load_opened, load_kid_opened, load-opens, load_kid-opens}
 use Rattle.dsde_routes_pushing.proofs.Along.{Carry, CarryFrom, gathered_coming}
 
 pub all_left : {X : Type 0} (P : X → Type 0) (xs ys : List X) → AllByRecursion P (xs ++ ys) → AllByRecursion P xs

@@ -1,5 +1,4 @@
 pub mod Lists
-pub mod Opens
 pub mod Along
 pub mod Carrying
 pub mod Rising

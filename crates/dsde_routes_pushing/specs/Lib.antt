@@ -1,3 +1,4 @@
 pub mod Carried
 pub mod Fitting
 pub mod Pushed
+pub mod lemmas

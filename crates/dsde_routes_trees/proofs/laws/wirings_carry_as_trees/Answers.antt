@@ -1,0 +1,8 @@
+use Rattle.dsde_routes_trees.proofs.Tying.{each-tied}
+use Rattle.dsde_routes_trees.proofs.laws.wirings_carry_as_trees.Goals as goal
+
+pub returns-clause-received : goal.returns-clause-received
+returns-clause-received c = λ system handle time traffic net path of got. (each-tied system handle time traffic of.translate net path of.each).1 got
+
+pub returns-clause-sent : goal.returns-clause-sent
+returns-clause-sent c = λ system handle time traffic net path of. (each-tied system handle time traffic of.translate net path of.each).0
