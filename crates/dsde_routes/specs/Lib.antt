@@ -1,3 +1,4 @@
+pub mod Ports
 pub mod Passing
 pub mod Sents
 pub mod Sending

@@ -3,6 +3,7 @@
 ghost use Rattle.std.specs.Prelude.{◌≡◌, ◌++◌, OnOk};
 ghost use Rattle.dsde_routes.specs.Passing.{carry, from_parts, ways_got};
 
+use crate::ports::GotWays;
 use crate::sent::{Sent, Sents};
 use crate::ways::{begin_over, go_over};
 use dsde_bank::Handle;
@@ -18,7 +19,7 @@ pub fn carry(
     number: usize,
     link: &Link,
     root: Option<Handle>,
-    got: &[Passing],
+    got: &GotWays,
     boss: Handle,
     kids: &Sents,
     ways: &mut Seq<Passing>,
@@ -28,13 +29,27 @@ pub fn carry(
     match &link.from.part {
         Part::Net => match root {
             Some(handle) => begin_over(alloc, number, link, handle, ways),
-            None => go_over(alloc, number, link, got, ways),
+            None => go_over(
+                alloc,
+                number,
+                link,
+                got.as_slice(),
+                got.at(link.from.port),
+                ways,
+            ),
         },
         Part::Boss => begin_over(alloc, number, link, boss, ways),
         Part::Kid(name) => match kids.find(name) {
             None => Ok(()),
             Some(Sent::Leaf(handle)) => begin_over(alloc, number, link, *handle, ways),
-            Some(Sent::Net(list)) => go_over(alloc, number, link, list.as_slice(), ways),
+            Some(Sent::Net(sent)) => go_over(
+                alloc,
+                number,
+                link,
+                sent.as_slice(),
+                sent.at(link.from.port),
+                ways,
+            ),
         },
     }
 }

@@ -11,6 +11,7 @@ ghost use Rattle.dsde_routes.specs.Putting.{put_all, rows_beneath, rows_to_kid, 
 
 use crate::carry::carry;
 use crate::comes::Comes;
+use crate::ports::GotWays;
 use crate::sending::{outs, sents};
 use crate::sent::Sents;
 use crate::ways::copy_way;
@@ -30,7 +31,7 @@ fn carry_in(
     number: usize,
     link: &Link,
     root: Option<Handle>,
-    got: &[Passing],
+    got: &GotWays,
     boss: Handle,
     kids: &Sents,
     ways: &mut Seq<Passing>,
@@ -48,7 +49,7 @@ fn to_boss(
     alloc: Global,
     links: &[Link],
     root: Option<Handle>,
-    got: &[Passing],
+    got: &GotWays,
     boss: Handle,
     kids: &Sents,
 ) -> Result<Seq<Passing>, Memory>
@@ -67,7 +68,7 @@ fn carry_down(
     number: usize,
     link: &Link,
     root: Option<Handle>,
-    got: &[Passing],
+    got: &GotWays,
     boss: Handle,
     kids: &Sents,
     comes: &mut Comes,
@@ -88,7 +89,7 @@ fn to_kids(
     alloc: Global,
     links: &[Link],
     root: Option<Handle>,
-    got: &[Passing],
+    got: &GotWays,
     boss: Handle,
     kids: &Sents,
 ) -> Result<Comes, Memory>
@@ -140,7 +141,7 @@ fn put_beneath<L: Ledger>(
     alloc: Global,
     net: &Wiring,
     root: Option<Handle>,
-    got: &[Passing],
+    got: &GotWays,
     table: &mut RouteTable,
     changes: &mut Steps<L>,
 ) -> Result<(), Memory>
@@ -187,7 +188,10 @@ fn put_kid<L: Ledger>(
 {
     match &kid.below {
         None => put_rows(alloc, kid.handle, got, table, changes)?,
-        Some(below) => put_beneath(alloc, below.get(), None, got, table, changes)?,
+        Some(below) => {
+            let got = GotWays::of(alloc, got)?;
+            put_beneath(alloc, below.get(), None, &got, table, changes)?;
+        }
     }
     Ok(())
 }
@@ -202,7 +206,8 @@ pub fn build<L: Ledger>(
     ensures ticks { OnOk result (changes.new ≡ changes.old + set.len (flatten wiring.now)) }
 {
     let mut table = RouteTable::new(alloc);
-    put_beneath(alloc, wiring, Some(wiring.me), &[], &mut table, changes)?;
+    let none = GotWays::none(alloc);
+    put_beneath(alloc, wiring, Some(wiring.me), &none, &mut table, changes)?;
     let list = outs(alloc, wiring)?;
     put_rows(alloc, wiring.me, list.as_slice(), &mut table, changes)?;
     Ok(table)

@@ -4,6 +4,7 @@
 mod carry;
 mod comes;
 mod flowing;
+mod ports;
 mod sending;
 mod sent;
 mod ways;

@@ -10,6 +10,7 @@ ghost use Rattle.dsde_routes.specs.Putting.{out_passing};
 ghost use Rattle.dsde_routes.specs.Sending.{Sends};
 
 use crate::carry::carry;
+use crate::ports::{GotWays, SentWays};
 use crate::sent::{Sent, Sents};
 use dsde_bank::Handle;
 use dsde_lists::Memory;
@@ -30,7 +31,16 @@ fn carry_out(
     ensures { OnOk result (ways.new ≡ ways.old ++ (if is_part link.now.to.part part.Net then carry (from_parts nowhere boss kids.now) number link.now else [])) }
 {
     match &link.to.part {
-        Part::Net => carry(alloc, number, link, None, &[], boss, kids, ways),
+        Part::Net => carry(
+            alloc,
+            number,
+            link,
+            None,
+            &GotWays::none(alloc),
+            boss,
+            kids,
+            ways,
+        ),
         _ => Ok(()),
     }
 }
@@ -77,6 +87,9 @@ fn sent_by(alloc: Global, kid: &WiredKid) -> Result<Sent, Memory>
 {
     match &kid.below {
         None => Ok(Sent::Leaf(kid.handle)),
-        Some(below) => Ok(Sent::Net(outs(alloc, below.get())?)),
+        Some(below) => {
+            let list = outs(alloc, below.get())?;
+            Ok(Sent::Net(SentWays::of(alloc, list)?))
+        }
     }
 }

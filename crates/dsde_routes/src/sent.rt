@@ -6,10 +6,10 @@ ghost use Rattle.dsde_values.specs.declared.name.Name.{Name};
 ghost use Rattle.dsde_routes.specs.Passing.{found};
 ghost use Rattle.dsde_routes.specs.Sents.{added};
 
+use crate::ports::SentWays;
 use dsde_bank::Handle;
 use dsde_lists::Memory;
-use dsde_routes_wiring::Passing;
-use dsde_values::{Name, Seq};
+use dsde_values::Name;
 use std::alloc::Global;
 use std::collections::BTreeMap;
 use std::marker::Model;
@@ -18,7 +18,7 @@ use std::marker::Model;
 #[derive(Drop)]
 pub enum Sent {
     Leaf(Handle),
-    Net(Seq<Passing>),
+    Net(SentWays),
 }
 
 /// What the components of a network send, by their names.

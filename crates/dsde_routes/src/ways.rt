@@ -3,6 +3,7 @@
 ghost use Rattle.std.specs.Prelude.{◌≡◌, ◌++◌, map, IfOk, OnOk};
 ghost use Rattle.dsde_routes_wiring.specs.Ways.{begin, onward};
 ghost use Rattle.dsde_routes.specs.Passing.{at_port, ways_in};
+ghost use Rattle.dsde_routes.specs.Ports.{numbers_at, way_at};
 
 use dsde_bank::Handle;
 use dsde_lists::Memory;
@@ -47,23 +48,40 @@ pub fn begin_over(
     })
 }
 
-/// The ways that end at the port that a link leads from go on over it.
+/// Adds the way of a number, which goes on over a link.
+fn go_numbered(
+    alloc: Global,
+    number: usize,
+    link: &Link,
+    come: &[Passing],
+    own: usize,
+    ways: &mut Seq<Passing>,
+) -> Result<(), Memory>
+    ensures { OnOk result (ways.new ≡ ways.old ++ map (λ way. at_port link.now.to.port (onward number link.now way)) (way_at come.now own)) }
+{
+    match come.get(own) {
+        None => Ok(()),
+        Some(passing) => ways.push(Passing {
+            port: link.to.port,
+            way: go_on(alloc, number, link, &passing.way)?,
+        }),
+    }
+}
+
+/// The ways that end at the port that a link leads from, which have these numbers, go on over it.
 pub fn go_over(
     alloc: Global,
     number: usize,
     link: &Link,
     come: &[Passing],
+    numbers: &[usize],
     ways: &mut Seq<Passing>,
 ) -> Result<(), Memory>
+    requires { numbers.now ≡ numbers_at link.now.from.port come.now }
     ensures { OnOk result (ways.new ≡ ways.old ++ map (λ way. at_port link.now.to.port (onward number link.now way)) (ways_in come.now link.now.from.port)) }
 {
-    for passing in come {
-        if passing.port == link.from.port {
-            ways.push(Passing {
-                port: link.to.port,
-                way: go_on(alloc, number, link, &passing.way)?,
-            })?;
-        }
+    for own in numbers {
+        go_numbered(alloc, number, link, come, *own, ways)?;
     }
     Ok(())
 }
