@@ -1,6 +1,6 @@
 -- Names and paths are told from their texts.
 use Rattle.std.proofs.Common.{◌≡◌, ◌≢◌, ℕ, ◌<◌, ◌≤◌, ◌^◌, Bool, true, false, ◌&&◌, ◌||◌, not, List, [], ◌∷◌, ◌++◌, length, take, drop, refl, sym, ◌∙◌, ap, arith}
-use Rattle.std.specs.Prelude.{Option, Some, None, codes, decimal}
+use Rattle.std.specs.Prelude.{Option, Some, None, decimal}
 use Rattle.std.specs.Char.{is_ascii_digit}
 use Rattle.std.specs.List.{list_all, take_while, prefix_len}
 use Rattle.std.proofs.lemmas.Fmt.{decimal_injective}
@@ -9,7 +9,7 @@ use Rattle.std.proofs.Math.Seq.{take-append_seam, drop-append_seam}
 use borrow.Author.Tests.{ltb-true}
 use Rattle.dsde_values.specs.declared.name.Name.{Name}
 use Rattle.dsde_words.specs.Words.{is_word_byte, is_word, begins_word}
-use Rattle.dsde_values.specs.Path.{index_text, name_text, is_index, is_name, is_component, is_plain, is_executive, are_below}
+use Rattle.dsde_values.specs.Path.{index_text, name_text, is_index, is_name, is_component, is_executive, are_below}
 
 and_assoc : (a b c : Bool) → (a && b) && c ≡ a && (b && c)
 and_assoc true b c = refl

@@ -22,7 +22,7 @@ pub use lawful::is_lawful;
 pub use laws::{at_most_one_value_begins, one_name, orders_are_total};
 pub use name::{Name, compare_names};
 pub use path::{Path, ReadPath, compare_paths, read_path, write_path};
-pub use reading::{ReadValue, read_value};
+pub use reading::{ReadValue, read_fields, read_value};
 pub use spelling::{write_fields, write_value};
 pub use types::{Def, Field, Shape, Ty, Types};
 pub use typing::has_type;

@@ -1,6 +1,6 @@
 //! Values, read from their spelling.
 
-ghost use Rattle.std.specs.Prelude.{◌≡◌, ◌≢◌, ◌≤◌, ◌<◌, ◌^◌, ◌++◌, ◌⊎◌, ℤ, ℕ, true, false, List, length, FitsSigned, slice_get, IfOk, IsErrOf, IfSome, IfNone, MatchResult, MatchBool, Some};
+ghost use Rattle.std.specs.Prelude.{◌≡◌, ◌≢◌, ◌≤◌, ◌<◌, ◌^◌, ◌++◌, ◌⊎◌, ℤ, ℕ, true, false, List, length, map, drop, FitsSigned, slice_get, IfOk, IsErrOf, IfSome, IfNone, MatchResult, MatchBool, Some};
 ghost use Rattle.std.specs.Int.{w64};
 ghost use Rattle.std.specs.Fmt.{signed_decimal};
 ghost use Rattle.std.specs.List.{list_all, position};
@@ -9,8 +9,8 @@ ghost use Rattle.dsde_values.specs.declared.reading.ReadValue.TheVariants as rea
 ghost use Rattle.dsde_values.specs.declared.value.Value.{Value};
 ghost use Rattle.dsde_words.specs.Words.{is_word_byte, begins_word};
 ghost use Rattle.dsde_values.specs.Word.{Begins};
-ghost use Rattle.dsde_values.specs.Value.{HasType, IsLawful, spelling, number_size, fields_at};
-ghost use Rattle.dsde_values.specs.Reading.{Takes, ReadsInt, ReadsTruth, ReadsVariant, ReadsValue, ReadsField, ReadsFields, ReadsRecord, ReadsList};
+ghost use Rattle.dsde_values.specs.Value.{HasType, IsLawful, spelling, number_size, fields_at, fill, has_type};
+ghost use Rattle.dsde_values.specs.Reading.{fields_text, Takes, ReadsInt, ReadsTruth, ReadsVariant, ReadsValue, ReadsField, ReadsFields, ReadsRecord, ReadsList};
 
 use crate::decimal::signed_decimal_of;
 use crate::typing::{LONGEST_LIST, fields_at, name_at, variants_at};
@@ -59,6 +59,29 @@ pub fn read_value(
     let mut reader = Reader { left: bytes };
     let value = reader.value(alloc, ty, types)?;
     Ok((value, bytes.len() - reader.left.len()))
+}
+
+/// The values of fields at the front of bytes, with the brace behind them, and how many bytes both have
+/// together, `f: v, g: w}`. `NotAValue` comes exactly where no values of the fields' types stand there so. The
+/// table is lawful, as for `read_value`.
+pub fn read_fields(
+    alloc: Global,
+    bytes: &[u8],
+    fields: &[Field],
+    types: &Types,
+) -> Result<(Values, usize), ReadValue>
+    requires { IsLawful types.now }
+
+    ensures typed { IfOk result (λ found. fill (map (has_type types.now) found.0) fields.now ≡ true) }
+    ensures begins { IfOk result (λ found. bytes.now ≡ fields_text types.now fields.now found.0 ++ drop found.1 bytes.now) }
+    ensures within { IfOk result (λ found. found.1 ≤ length bytes.now) }
+    ensures only { IfOk result (λ found. (parts : List Value) (rest : List ℕ) → fill (map (has_type types.now) parts) fields.now ≡ true → bytes.now ≡ fields_text types.now fields.now parts ++ rest → parts ≡ found.0) }
+
+    ensures none { IsErrOf result ReadValue.NotAValue → (parts : List Value) (rest : List ℕ) → fill (map (has_type types.now) parts) fields.now ≡ true → bytes.now ≢ fields_text types.now fields.now parts ++ rest }
+{
+    let mut reader = Reader { left: bytes };
+    let parts = reader.fields(alloc, fields, types)?;
+    Ok((parts, bytes.len() - reader.left.len()))
 }
 
 /// Reads values and their parts from the front of the bytes that are left.
