@@ -10,7 +10,7 @@ use Rattle.std.proofs.lemmas.Str.Parse.{IsNumeralModel, numerals_by_value, parse
 use Rattle.std.proofs.lemmas.Bool.Decides.{nat_tests}
 use Rattle.std.proofs.lemmas.Slice.Eq.{bytes_eq-Decides}
 use Rattle.dsde_cli_command.specs.declared.given.Given.{Given}
-use Rattle.dsde_cli_command.specs.Commands.{Task, Line, with_turns, with_only, with_print, with_word, with_positional, is_option, is_number, ◌>>=◌, line_of, turns_of, check_of, run_of, command_of}
+use Rattle.dsde_cli_command.specs.Commands.{Task, Line, with_turns, with_only, with_print, with_word, with_positional, is_option, is_number, ◌>>=◌, line_of, seed_of, turns_of, check_of, run_of, big_of, command_of}
 use Rattle.dsde_cli_command.specs.Given.{joined, is_single, read_of, read_words_of, given_after}
 
 -- what was given and then a line, if there is such a line
@@ -115,6 +115,17 @@ not_run (word ∷ []) (value ∷ []) [] [] twice = absurd (cc twice)
 not_run (word ∷ []) (value ∷ []) (only ∷ []) [] twice = absurd (cc twice)
 not_run (word ∷ []) (value ∷ []) (only ∷ other ∷ onlys) [] twice = none_behind (turns_of value)
 
+-- and no run of the large model
+not_big : (positional turns onlys prints : List (List ℕ)) → (is_single positional && is_single turns && is_single onlys && is_single prints) ≡ false →
+    big_of (record { positional = positional; turns = turns; onlys = onlys; prints = prints }) ≡ None
+not_big positional turns onlys (print ∷ prints) twice = refl
+not_big positional turns (only ∷ onlys) [] twice = refl
+not_big [] turns [] [] twice = refl
+not_big (word ∷ next ∷ words) turns [] [] twice = refl
+not_big (word ∷ []) [] [] [] twice = none_behind (seed_of word)
+not_big (word ∷ []) (value ∷ other ∷ turns) [] [] twice = none_behind (seed_of word)
+not_big (word ∷ []) (value ∷ []) [] [] twice = absurd (cc twice)
+
 -- what takes no line where a word stands twice is the same of a line that was read
 by_read : (test : Bool) (line : Line) (next : Line → Option Task) → (test ≡ false → next line ≡ None) → ((if test then Some line else None) >>= next) ≡ next line
 by_read true line next none = refl
@@ -146,6 +157,17 @@ command_of-run all name words given is other same read =
   where
     spelled : (line_of words >>= run_of) ≡ command_of (name ∷ words)
     spelled = rw (other, same) refl
+
+-- what was read behind `big` is what the words spell
+pub command_of-big : (all : List (List ℕ)) (name : List ℕ) (words : List (List ℕ)) (given : Option Line) → all ≡ name ∷ words → bytes_eq name (codes "check") ≡ false → bytes_eq name (codes "run") ≡ false → bytes_eq name (codes "big") ≡ true → given ≡ read_words_of words → (given >>= big_of) ≡ command_of all
+command_of-big all name words given is check run same read =
+    ap (λ given. given >>= big_of) read
+    ∙ through big_of (λ line. by_read _ line big_of (not_big line.positional line.turns line.onlys line.prints)) (line_of words)
+    ∙ spelled
+    ∙ ap command_of (sym is)
+  where
+    spelled : (line_of words >>= big_of) ≡ command_of (name ∷ words)
+    spelled = rw (check, run, same) refl
 
 -- 1 to 10 digits are a number of 64 bits
 all_digits : IsNumeralModel (λ word. list_all is_ascii_digit word ≡ true) (digits_value 10)

@@ -1,12 +1,12 @@
 -- What the program's words ask for.
-use Rattle.std.specs.Prelude.{ℕ, ◌≡◌, ◌≤◌, ⊤, Bool, true, false, List, [], ◌∷◌, length, Option, Some, None, ◌&&◌, nat_le, nat_eq, codes, if◌then◌else◌}
+use Rattle.std.specs.Prelude.{ℕ, ◌≡◌, ◌≤◌, ◌<◌, ◌^◌, ⊤, Bool, true, false, List, [], ◌∷◌, length, Option, Some, None, ◌&&◌, nat_le, nat_eq, codes, if◌then◌else◌}
 use Rattle.std.specs.Char.{is_ascii_digit}
 use Rattle.std.specs.List.{list_all, starts_with}
 use Rattle.std.specs.Option.{option_map, option_and_then}
 use Rattle.std.specs.Str.{bytes_eq}
 use Rattle.std.specs.Str.Parse.{digits_value}
 use Rattle.dsde_cli_command.specs.declared.command.Command.{Command}
-use Rattle.dsde_cli_command.specs.declared.command.Command.TheVariants.{Check, Run}
+use Rattle.dsde_cli_command.specs.declared.command.Command.TheVariants.{Check, Run, Big}
 use Rattle.dsde_cli_command.specs.declared.command.Only.{Only}
 use Rattle.dsde_cli_command.specs.declared.command.Only.TheVariants.{Outputs, Structure}
 
@@ -14,6 +14,7 @@ use Rattle.dsde_cli_command.specs.declared.command.Only.TheVariants.{Outputs, St
 abbrev pub IsBounded : Command → Type 0
 IsBounded (Check model print) = ⊤
 IsBounded (Run model turns only) = turns ≤ 1_000_000_000
+IsBounded (Big seed turns) = turns ≤ 1_000_000_000
 
 -- A model is to be checked: the bytes of its name, and whether its text is to be printed.
 pub record CheckCommand : Type 0 where
@@ -26,15 +27,22 @@ pub record RunCommand : Type 0 where
   pub turns : ℕ
   pub kept : Option Only
 
+-- The large model of a seed is to be run, for at most so many turns.
+pub record BigCommand : Type 0 where
+  pub seed : ℕ
+  pub turns : ℕ
+
 -- What is to be done.
 pub data Task : Type 0 where
   checks : CheckCommand → Task
   runs : RunCommand → Task
+  counts : BigCommand → Task
 
 -- What a command asks for.
 abbrev pub task_of : Command → Task
 task_of (Check model print) = checks (record { model = model.now; print = print })
 task_of (Run model turns only) = runs (record { model = model.now; turns = turns; kept = only })
+task_of (Big seed turns) = counts (record { seed = seed; turns = turns })
 
 -- What the words after the command give, each from left to right: the positional words, the values
 -- of `--turns` and of `--only`, and each `--print`.
@@ -108,6 +116,10 @@ is_number word = nat_le 1 (length word) && nat_le (length word) 10 && list_all i
 abbrev pub turns_of : List ℕ → Option ℕ
 turns_of word = if is_number word && nat_le (digits_value 10 word) 1_000_000_000 then Some (digits_value 10 word) else None
 
+-- The number that such a word spells, if it has at most 32 bits.
+abbrev pub seed_of : List ℕ → Option ℕ
+seed_of word = if is_number word && nat_le (digits_value 10 word) 4_294_967_295 then Some (digits_value 10 word) else None
+
 -- The selection of lines that a word names.
 abbrev pub only_of : List ℕ → Option Only
 only_of word =
@@ -141,12 +153,23 @@ run_of line = without line.prints (do
   kept ← kept_of line.onlys
   Some (runs (record { model = model; turns = turns; kept = kept })))
 
+-- The run of the large model of a line: its one positional word is the seed, `--turns` stands in it
+-- once, and `--only` and `--print` nowhere.
+abbrev pub big_of : Line → Option Task
+big_of line = without line.prints (without line.onlys (do
+  word ← only line.positional
+  seed ← seed_of word
+  value ← only line.turns
+  turns ← turns_of value
+  Some (counts (record { seed = seed; turns = turns }))))
+
 -- The command that words spell: the first word names it.
 abbrev pub command_of : List (List ℕ) → Option Task
 command_of [] = None
 command_of (name ∷ words) =
     if bytes_eq name (codes "check") then line_of words >>= check_of
-    else (if bytes_eq name (codes "run") then line_of words >>= run_of else None)
+    else (if bytes_eq name (codes "run") then line_of words >>= run_of
+    else (if bytes_eq name (codes "big") then line_of words >>= big_of else None))
 
 -- The words ask for this check.
 pub record AsksCheck (words : List (List ℕ)) : Type 0 where
@@ -157,3 +180,8 @@ pub record AsksCheck (words : List (List ℕ)) : Type 0 where
 pub record Asked (words : List (List ℕ)) : Type 0 where
   pub run : RunCommand
   pub spelled : command_of words ≡ Some (runs run)
+
+-- The words ask for this run of the large model.
+pub record AsksBig (words : List (List ℕ)) : Type 0 where
+  pub big : BigCommand
+  pub spelled : command_of words ≡ Some (counts big)

@@ -20,6 +20,11 @@ pub enum Command<'w> {
         turns: u64,
         only: Option<Only>,
     },
+    /// `big SEED --turns N`
+    Big {
+        seed: u32,
+        turns: u64,
+    },
 }
 
 /// Which lines of a trace are kept, where not all are.
@@ -36,8 +41,8 @@ pub enum Only {
 /// spell at most a billion; `--only` stands at most once and takes the next word too, which is
 /// `outputs` or `structure`; `--print` stands at most once and takes none; any other word that
 /// begins with `--` spells no command; and the one word that is left is the model's name, which may
-/// be empty. `run` wants `--turns` and has no `--print`, and `check` has neither `--turns` nor
-/// `--only`.
+/// be empty, or for `big` a number of 1 to 10 digits and at most 32 bits. `run` wants `--turns` and
+/// has no `--print`, `check` has neither `--turns` nor `--only`, and `big` has `--turns` alone.
 pub fn read_command(words: &[String]) -> Option<Command<'_>>
     ensures spelled { option_map task_of result ≡ command_of (map string_bytes words.now) }
     ensures bounded { IfSome result IsBounded }
@@ -47,6 +52,8 @@ pub fn read_command(words: &[String]) -> Option<Command<'_>>
         read_words(words)?.check()
     } else if command.as_str() == "run" {
         read_words(words)?.run()
+    } else if command.as_str() == "big" {
+        read_words(words)?.big()
     } else {
         None
     }

@@ -14,11 +14,12 @@ ghost use Rattle.dsde_cli_command.specs.Commands.{
   only_of,
   check_of,
   run_of,
+  big_of,
 };
 ghost use Rattle.dsde_cli_command.specs.Given.{line_given, joined, given_after, read_of, read_words_of};
 
 use crate::command::{Command, Only};
-use crate::number::read_turns;
+use crate::number::{read_seed, read_turns};
 
 /// The words after the command, as far as they have been read.
 #[derive(Clone, Copy)]
@@ -30,7 +31,7 @@ pub(crate) struct Given<'w> {
 }
 
 impl<'w> Given<'w> {
-    /// Takes a word that is no option; `None` where the model's name was given before.
+    /// Takes a word that is no option; `None` where such a word was given before.
     fn place(self, word: &'w str) -> Option<Given<'w>>
         ensures { (line : Line) → given_after result line
             ≡ read_of (joined self.entry (with_positional word.now line)) }
@@ -123,6 +124,21 @@ impl<'w> Given<'w> {
                 Some(word) => Some(read_only(word)?),
                 None => None,
             },
+        })
+    }
+
+    /// The run of the large model, where its seed and its turns were given, no selection was, and
+    /// nothing is to be printed.
+    pub fn big(self) -> Option<Command<'w>>
+        ensures spelled { option_map task_of result ≡ big_of (line_given self.entry) }
+        ensures bounded { IfSome result IsBounded }
+    {
+        if self.print || self.only.is_some() {
+            return None;
+        }
+        Some(Command::Big {
+            seed: read_seed(self.model?)?,
+            turns: read_turns(self.turns?)?,
         })
     }
 }

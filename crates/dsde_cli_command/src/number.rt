@@ -1,9 +1,9 @@
-//! How many turns a command takes.
+//! The numbers of a command: its turns, and a seed.
 
 ghost use Rattle.std.specs.Prelude.{◌≡◌, ◌≤◌, IfSome};
 ghost use Rattle.std.specs.Char.{is_ascii_digit};
 ghost use Rattle.std.specs.List.{list_all};
-ghost use Rattle.dsde_cli_command.specs.Commands.{is_number, turns_of};
+ghost use Rattle.dsde_cli_command.specs.Commands.{is_number, seed_of, turns_of};
 
 /// The most turns of one command.
 const MOST_TURNS: u64 = 1_000_000_000;
@@ -17,6 +17,19 @@ pub(crate) fn read_turns(word: &str) -> Option<u64>
         return None;
     }
     word.parse().ok().filter(|turns| *turns <= MOST_TURNS)
+}
+
+/// The number of at most 32 bits that 1 to 10 decimal digits spell.
+pub(crate) fn read_seed(word: &str) -> Option<u32>
+    ensures { result ≡ seed_of word.now }
+{
+    if !is_number(word) {
+        return None;
+    }
+    match word.parse::<u64>() {
+        Ok(seed) if seed <= u64::from(u32::MAX) => Some(seed as u32),
+        _ => None,
+    }
 }
 
 /// Whether a word is 1 to 10 decimal digits.

@@ -1,6 +1,6 @@
 use Rattle.std.proofs.Common.{Some, None, map, string_bytes, ◌∙◌, rules}
 use Rattle.dsde_cli_command.specs.Given.{line_given}
-use Rattle.dsde_cli_command.proofs.WordsLemmas.{command_of-check, command_of-run}
+use Rattle.dsde_cli_command.proofs.WordsLemmas.{command_of-check, command_of-run, command_of-big}
 use Rattle.dsde_cli_command.proofs.command.read_command.Goals as goal
 
 pub returns-in_err-read_words-clause-spelled : goal.returns-in_err-read_words-clause-spelled
@@ -13,6 +13,11 @@ returns-in_err-read_words-2-clause-spelled c =
     let none = command_of-run (map string_bytes c.args.words.now) (string_bytes c.in_ok-command.command.now) (map string_bytes c.in_ok-command.words.now) None (search rules) (search rules) (search rules) c.in_err-read_words-2.ensures in
     rw c.from_residual-in_err-read_words-2.ensures none
 
+pub returns-in_err-read_words-3-clause-spelled : goal.returns-in_err-read_words-3-clause-spelled
+returns-in_err-read_words-3-clause-spelled c =
+    let none = command_of-big (map string_bytes c.args.words.now) (string_bytes c.in_ok-command.command.now) (map string_bytes c.in_ok-command.words.now) None (search rules) (search rules) (search rules) (search rules) c.in_err-read_words-3.ensures in
+    rw c.from_residual-in_err-read_words-3.ensures none
+
 pub returns-in_ok-read_words-clause-spelled : goal.returns-in_ok-read_words-clause-spelled
 returns-in_ok-read_words-clause-spelled c =
     c.check.ensures.spelled
@@ -22,3 +27,8 @@ pub returns-in_ok-read_words-2-clause-spelled : goal.returns-in_ok-read_words-2-
 returns-in_ok-read_words-2-clause-spelled c =
     c.run.ensures.spelled
     ∙ command_of-run (map string_bytes c.args.words.now) (string_bytes c.in_ok-command.command.now) (map string_bytes c.in_ok-command.words.now) (Some (line_given c.in_ok-read_words-2.field-0)) (search rules) (search rules) (search rules) c.in_ok-read_words-2.ensures
+
+pub returns-in_ok-read_words-3-clause-spelled : goal.returns-in_ok-read_words-3-clause-spelled
+returns-in_ok-read_words-3-clause-spelled c =
+    c.big.ensures.spelled
+    ∙ command_of-big (map string_bytes c.args.words.now) (string_bytes c.in_ok-command.command.now) (map string_bytes c.in_ok-command.words.now) (Some (line_given c.in_ok-read_words-3.field-0)) (search rules) (search rules) (search rules) (search rules) c.in_ok-read_words-3.ensures
