@@ -65,7 +65,8 @@ ins_of system own = elim (out-Sim own) [
   | layer.Net net ↦ (system.network (out-Net net).model (out-Net net).args).ins
 ]
 
--- a component survives a change to a structure with these entries
+-- A component survives a change to a structure that has an entry of its name and model which is soft or has
+-- its arguments. It stays as it is, with its own arguments.
 abbrev pub survives : List Entry → Kid → Bool
 survives entries kid = list_any (entry.survives (entry_of kid)) entries
 

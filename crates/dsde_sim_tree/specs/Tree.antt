@@ -1,5 +1,5 @@
 -- The tree of simulators: how many parts it has, and when it is due.
-use Rattle.std.specs.Prelude.{ℕ, ◌+◌, min, sum, map, List, [], ◌∷◌}
+use Rattle.std.specs.Prelude.{ℕ, ◌+◌, false, min, sum, map, List, [], ◌∷◌}
 use Rattle.dsde_values.specs.declared.name.Name.{Name}
 use Rattle.dsde_values.specs.declared.value.Value.{Value}
 use Rattle.dsde_values.specs.declared.when.When.{When}
@@ -76,6 +76,12 @@ args_of sim = elim (out-Sim sim) [ layer.Leaf leaf ↦ leaf.args | layer.Net net
 abbrev pub name_of : Kid → Name
 name_of kid = (out-Kid kid).name
 
--- the entry of a component of a network: its name, with its model and arguments
+-- The entry that a component of a network has by itself: its name, its model, and its own arguments. They
+-- need not be those of the structure's entry where that one is soft. It is not soft itself, as nothing asks
+-- whether an old entry is.
 abbrev pub entry_of : Kid → Entry
-entry_of kid = record { name = (out-Kid kid).name; model = model_of (out-Kid kid).sim; args = args_of (out-Kid kid).sim }
+entry_of kid = record { name = (out-Kid kid).name; model = model_of (out-Kid kid).sim; args = args_of (out-Kid kid).sim; soft = false }
+
+-- the entry that a component has by itself which starts as this one
+abbrev pub started_as : Entry → Entry
+started_as entry = record { name = entry.name; model = entry.model; args = entry.args; soft = false }

@@ -7,7 +7,7 @@ use dsde_structure::Link;
 use dsde_values::{Name, Seq, Values};
 
 /// The most names of a path.
-pub const DEEPEST: u32 = 32;
+pub const DEEPEST: u32 = 64;
 
 /// The simulator of a network: its model with arguments, its executive, its components in the order
 /// of their names, and its links.

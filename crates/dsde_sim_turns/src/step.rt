@@ -1,7 +1,7 @@
 //! What a step of an engine did.
 
 /// The most parts of a tree that are alive at once: atomic components, networks and executives.
-pub const MOST_PARTS: u64 = 65_536;
+pub const MOST_PARTS: u64 = 131_072;
 
 /// What an engine's `advance` did.
 #[derive(Clone, Copy, Debug, PartialEq, Eq)]
