@@ -163,7 +163,7 @@ module _ (total : IsTotalOrder name_cmp) where
     S kid own = entry.survives (entry_of kid) own
 
     unlike-fails : (kid : Kid) (own : Entry) → is_same_name (name_of kid) own.name ≡ false → S kid own ≡ false
-    unlike-fails kid own is = λ i. (is i && (entry_of kid).model.0 == own.model.0) && are_same_values (entry_of kid).args own.args
+    unlike-fails kid own is = λ i. (is i && (entry_of kid).model.0 == own.model.0) && (own.soft || are_same_values (entry_of kid).args own.args)
 
     none-survives : (kid : Kid) (name : Name) → is_same_name (name_of kid) name ≡ true → (entries : List Entry) → AllByRecursion (λ own. name_cmp name own.name ≡ Less) entries → list_any (S kid) entries ≡ false
     none-survives kid name is [] less = refl

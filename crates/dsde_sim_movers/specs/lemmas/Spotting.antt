@@ -101,8 +101,8 @@ pub record IsAlike (own other : Sim) : Type 0 where
 -- the entry of a component whose simulator is another that is alike
 entry-alike : (kid : Kid) (own : Sim) → IsAlike own (out-Kid kid).sim → entry_of (kid_of (name_of kid) own) ≡ entry_of kid
 entry-alike kid own alike =
-    (λ i. record { name = named (name_of kid) own i; model = model_of (own-sim (name_of kid) own i); args = args_of (own-sim (name_of kid) own i) })
-    ∙ (λ i. record { name = name_of kid; model = alike.model i; args = alike.args i })
+    (λ i. record { name = named (name_of kid) own i; model = model_of (own-sim (name_of kid) own i); args = args_of (own-sim (name_of kid) own i); soft = false })
+    ∙ (λ i. record { name = name_of kid; model = alike.model i; args = alike.args i; soft = false })
 
 entries-by : (kid : Kid) (kids : List Kid) (name : Name) (change : Sim → Sim) (here : Bool) →
     ((part : Sim) → (let found : Option Sim = if here then Some (out-Kid kid).sim else kid_named name kids in found ≡ Some part) → IsAlike (change part) part) →
