@@ -1,5 +1,5 @@
 -- Components and entries in the order of their names: who cannot survive as what.
-use Rattle.std.proofs.Common.{◌≡◌, ◌==◌, Bool, true, false, ◌&&◌, List, [], ◌∷◌, map, refl, sym, ◌∙◌, ap, rules}
+use Rattle.std.proofs.Common.{◌≡◌, ◌==◌, Bool, true, false, ◌&&◌, ◌||◌, List, [], ◌∷◌, map, refl, sym, ◌∙◌, ap, rules}
 use Rattle.std.specs.declared.cmp.Ordering.TheVariants.{Less, Equal, Greater}
 use Rattle.std.specs.Cmp.{IsTotalOrder, Equal-is}
 use Rattle.std.specs.Cmp.Rules.{comparing}
@@ -30,7 +30,7 @@ pub same-name : (kid : Kid) (entry : Entry) → S kid entry ≡ true → is_same
 same-name kid entry h =
     let old : Entry = entry_of kid in
     and_first (is_same_name old.name entry.name) (old.model.0 == entry.model.0)
-    (and_first (is_same_name old.name entry.name && old.model.0 == entry.model.0) (are_same_values old.args entry.args) h)
+    (and_first (is_same_name old.name entry.name && old.model.0 == entry.model.0) (entry.soft || are_same_values old.args entry.args) h)
 
 pub ties : (kid : Kid) (entry : Entry) → S kid entry ≡ true → name_cmp (name_of kid) entry.name ≡ Equal
 ties kid entry h = (Equal-is (name_cmp (name_of kid) entry.name)).0 (same-name kid entry h)

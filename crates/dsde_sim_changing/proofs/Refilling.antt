@@ -8,7 +8,9 @@ use Rattle.std.proofs.lemmas.Map.Keys.{sorted_tail}
 use Rattle.dsde_values.specs.declared.path.Path.{Path}
 use Rattle.dsde_values.specs.Path.{name_cmp}
 use Rattle.dsde_structure.specs.declared.plan.Entry.{Entry}
-use Rattle.dsde_structure.specs.Survival.{AreInOrder, IsInOrder, names, survives as stays}
+use Rattle.dsde_values.specs.declared.name.Name.{Name}
+use Rattle.dsde_declared.specs.declared.ids.ModelId.{ModelId}
+use Rattle.dsde_structure.specs.Survival.{AreInOrder, IsInOrder, names, role, roles, StaysAs, survives as stays}
 use Rattle.dsde_sim_events.specs.declared.event.Event.{Event}
 use Rattle.dsde_sim_events.specs.declared.fault.TurnEnd.{TurnEnd}
 use Rattle.dsde_sim_events.specs.Told.{Told, told, ◌then◌}
@@ -63,9 +65,9 @@ survivor-each : (Q : Kid → Type 0) (survivor : Option Kid) (others : List Kid)
 survivor-each Q (Some kid) others each = each
 survivor-each Q None others each = (tt, each)
 
-survivor-as : (own : Entry) (survivor : Option Kid) → ((old new : Entry) → (stays old new ≡ true) ↔ (old ≡ new)) → IfSome survivor (λ kid. S kid own ≡ true) → IfSome survivor (λ kid. entry_of kid ≡ own)
-survivor-as own (Some kid) equal is = (equal (entry_of kid) own).0 is
-survivor-as own None equal is = tt
+survivor-as : (own : Entry) (survivor : Option Kid) → ((old new : Entry) → (stays old new ≡ true) ↔ StaysAs old new) → IfSome survivor (λ kid. S kid own ≡ true) → IfSome survivor (λ kid. role (entry_of kid) ≡ role own)
+survivor-as own (Some kid) exact is = let as_own = (exact (entry_of kid) own).0 is in λ i. (as_own.0 i, as_own.1 i)
+survivor-as own None exact is = tt
 
 -- How far the walk has come: what is left of the entries and of the survivors. `P` is what is known of
 -- each entry, and `Q` of each component.
@@ -73,7 +75,7 @@ pub record Filled (P : Entry → Type 0) (Q : Kid → Type 0) (starter : Starter
   pub goes : GoesOn (refilled starter entries kept path time first []) (refilled starter rest items path time room done) old events
   pub parts : parts_of_kids done + parts_of_kids items + room ≡ parts_of_kids kept + first
   pub fit : AllByRecursion Q done
-  pub are : map entry_of done ++ rest ≡ entries
+  pub are : roles (map entry_of done) ++ roles rest ≡ roles entries
   pub entries_fit : AllByRecursion P rest
   pub kids_fit : AllByRecursion Q items
   pub order : IsInOrder rest
@@ -99,8 +101,8 @@ module _ (P : Entry → Type 0) (Q : Kid → Type 0) (starter : Starter) (entrie
   pub survivor-fits : IfSome survivor Q
   survivor-fits = each.0
 
-  pub survivor-is : ((old new : Entry) → (stays old new ≡ true) ↔ (old ≡ new)) → IfSome survivor (λ kid. entry_of kid ≡ own)
-  survivor-is equal = survivor-as own survivor equal pick.is
+  pub survivor-is : ((old new : Entry) → (stays old new ≡ true) ↔ StaysAs old new) → IfSome survivor (λ kid. role (entry_of kid) ≡ role own)
+  survivor-is exact = survivor-as own survivor exact pick.is
 
   whole : Told (List Kid × ℕ)
   whole = refilled starter entries kept path time first []
@@ -112,7 +114,7 @@ module _ (P : Entry → Type 0) (Q : Kid → Type 0) (starter : Starter) (entrie
     pub goes-on : GoesOn (refilled starter entries kept path time first []) (filled_behind starter later others path time done (kid, room_left)) old new
     goes-on = goes-step (refilled starter entries kept path time first []) (filled starter own survivor path time room) (filled_behind starter later others path time done) old events new (kid, room_left) goes-here told came
 
-    pub fills : (more : List Kid) → parts_of_kid kid + room_left ≡ survivor_parts survivor + room → Q kid → entry_of kid ≡ own → more ≡ done ++ kid ∷ [] →
+    pub fills : (more : List Kid) → parts_of_kid kid + room_left ≡ survivor_parts survivor + room → Q kid → role (entry_of kid) ≡ role own → more ≡ done ++ kid ∷ [] →
         Filled P Q starter entries kept path time first old more room_left new later others
     fills more counted fits is is_more =
         let parts_more : parts_of_kids more ≡ parts_of_kids done + parts_of_kid kid =
@@ -123,10 +125,11 @@ module _ (P : Entry → Type 0) (Q : Kid → Type 0) (starter : Starter) (entrie
           parts = omega (arith, parts_more, parts_items, counted, here.parts);
           fit = subst (AllByRecursion Q) (sym is_more) (each-append Q done kid here.fit fits);
           are =
-              ap (λ own_done. map entry_of own_done ++ later) is_more
-              ∙ ap (λ front. front ++ later) (map-append entry_of done (kid ∷ []))
-              ∙ append_assoc (map entry_of done) (entry_of kid ∷ []) later
-              ∙ ap (λ (one : Entry). map entry_of done ++ one ∷ later) is
+              ap (λ own_done. roles (map entry_of own_done) ++ roles later) is_more
+              ∙ ap (λ front. roles front ++ roles later) (map-append entry_of done (kid ∷ []))
+              ∙ ap (λ front. front ++ roles later) (map-append role (map entry_of done) (entry_of kid ∷ []))
+              ∙ append_assoc (roles (map entry_of done)) (role (entry_of kid) ∷ []) (roles later)
+              ∙ ap (λ (one : Name × ModelId). roles (map entry_of done) ++ one ∷ roles later) is
               ∙ here.are;
           entries_fit = here.entries_fit.1;
           kids_fit = each.1;

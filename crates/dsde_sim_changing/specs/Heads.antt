@@ -6,7 +6,6 @@ use Rattle.dsde_values.specs.Path.{name_cmp}
 use Rattle.dsde_structure.specs.declared.plan.Entry.{Entry}
 use Rattle.dsde_structure.specs.Survival.{survives as stays}
 use Rattle.dsde_sim_tree.specs.declared.sim.Kid.{Kid}
-use Rattle.dsde_sim_tree.specs.declared.sim.Sim.TheViews.{out-Kid}
 use Rattle.dsde_sim_tree.specs.Tree.{entry_of}
 
 -- the entries from a name on

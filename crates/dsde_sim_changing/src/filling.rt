@@ -5,7 +5,7 @@ ghost use Rattle.std.specs.Option.{option_to_list};
 ghost use Rattle.std.specs.List.{AllByRecursion};
 ghost use Rattle.dsde_values.specs.When.{IsMoment};
 ghost use Rattle.dsde_sim_events.specs.Told.{Tells};
-ghost use Rattle.dsde_structure.specs.Survival.{AreInOrder, IsInOrder};
+ghost use Rattle.dsde_structure.specs.Survival.{AreInOrder, IsInOrder, role, roles};
 ghost use Rattle.dsde_system.specs.Program.{system};
 ghost use Rattle.dsde_system.specs.Plans.{FitsEntry};
 ghost use Rattle.dsde_sim_starting.specs.Fitting.{FitsKid};
@@ -19,7 +19,7 @@ use dsde_program::Program;
 use dsde_sim_events::{Event, TurnEnd};
 use dsde_sim_starting::start_kid;
 use dsde_sim_tree::{DEEPEST, Kid};
-use dsde_structure::{Entry, survivors_are_equal};
+use dsde_structure::{Entry, survivors_keep_their_roles};
 use dsde_values::{Name, Path, Seq};
 use std::alloc::Global;
 use std::collections::VecDeque;
@@ -53,7 +53,7 @@ fn take_next(kids: &mut VecDeque<Kid>, name: &Name) -> Option<Kid>
     }
 }
 
-/// An entry gets its survivor, or else a component that starts.
+/// An entry gets its survivor, which keeps its own arguments, or else a component that starts.
 fn filled(
     alloc: Global,
     program: &Program,
@@ -68,11 +68,11 @@ fn filled(
     requires moment { IsMoment time }
     requires entry { FitsEntry program.now entry }
     requires fits { IfSome survivor (FitsKid program.now) }
-    requires is { IfSome survivor (λ kid. entry_of kid ≡ entry) }
+    requires is { IfSome survivor (λ kid. role (entry_of kid) ≡ role entry) }
     ensures told { Tells (filled (start (system program.now) left) entry survivor path.now time room) events.old events.new result }
     ensures room { IfOk result (λ one. parts_of_kid one.0 + one.1 ≡ survivor_parts survivor + room) }
     ensures fits { IfOk result (λ one. FitsKid program.now one.0) }
-    ensures is { IfOk result (λ one. entry_of one.0 ≡ entry) }
+    ensures is { IfOk result (λ one. role (entry_of one.0) ≡ role entry) }
 {
     match survivor {
         Some(kid) => Ok((kid, room)),
@@ -100,9 +100,9 @@ pub fn refilled(
     ensures told { Tells (refilled (start (system program.now) (left_behind path.now)) entries kept path.now time room []) events.old events.new result }
     ensures room { IfOk result (λ filled. parts_of_kids filled.0 + filled.1 ≤ parts_of_kids kept + room) }
     ensures fits { IfOk result (λ filled. AllByRecursion (FitsKid program.now) filled.0) }
-    ensures are { IfOk result (λ filled. map entry_of filled.0 ≡ entries) }
+    ensures are { IfOk result (λ filled. roles (map entry_of filled.0) ≡ roles entries) }
 {
-    survivors_are_equal();
+    survivors_keep_their_roles();
     let left = left_behind(path);
     let mut survivors = VecDeque::from(kept.into_vec());
     let mut done = Seq::new(alloc);
@@ -138,7 +138,7 @@ pub fn change(
     ensures told { Tells (change (system program.now) entries kids path.now time room) events.old events.new result }
     ensures room { IfOk result (λ changed. parts_of_kids changed.0 + changed.1 ≤ parts_of_kids kids + room) }
     ensures fits { IfOk result (λ changed. AllByRecursion (FitsKid program.now) changed.0) }
-    ensures are { IfOk result (λ changed. map entry_of changed.0 ≡ entries) }
+    ensures are { IfOk result (λ changed. roles (map entry_of changed.0) ≡ roles entries) }
 {
     let (kept, room) = split(alloc, entries.as_slice(), kids, path, room, events)?;
     refilled(alloc, program, entries, kept, path, time, room, events)

@@ -37,13 +37,14 @@ fn args_of(sim: &Sim) -> &[Value]
     }
 }
 
-/// Whether a component survives as an entry: it has its name, its model and equal arguments.
+/// Whether a component survives as an entry: it has its name and its model, and the entry is soft or has
+/// its arguments.
 fn is_entry_of(kid: &Kid, entry: &Entry) -> bool
     ensures { result ≡ stays (entry_of kid.now) entry.now }
 {
     kid.name == entry.name
         && model_of(&kid.sim).0 == entry.model.0
-        && are_same(args_of(&kid.sim), entry.args.as_slice())
+        && (entry.soft || are_same(args_of(&kid.sim), entry.args.as_slice()))
 }
 
 /// Whether a component survives as the first of these entries.

@@ -1,17 +1,12 @@
 -- Components and links that are made anew fit.
-use Rattle.std.proofs.Common.{◌≡◌, true, false, List, map, sym, ap, subst}
-use Rattle.std.specs.List.{AllByRecursion}
+use Rattle.std.proofs.Common.{◌≡◌, true, List, map, sym, ap, subst}
 use Rattle.dsde_syntax.specs.declared.decl.Model.{Model}
 use Rattle.dsde_values.specs.declared.name.Name.{Name}
-use Rattle.dsde_values.specs.Path.{EXEC}
 use Rattle.dsde_declared.specs.declared.ids.ModelId.{ModelId}
-use Rattle.dsde_structure.specs.declared.plan.Entry.{Entry}
 use Rattle.dsde_structure.specs.declared.plan.Plan.{Plan}
-use Rattle.dsde_structure.specs.Gather.{is_same_name}
-use Rattle.dsde_structure.specs.Survival.{IsInOrder}
+use Rattle.dsde_structure.specs.Survival.{roles}
 use Rattle.dsde_executive.specs.Structure.{IsPlan}
 use Rattle.dsde_system.specs.Program.{system}
-use Rattle.dsde_system.specs.Plans.{FitsLink}
 use Rattle.dsde_sim_tree.specs.declared.sim.Kid.{Kid}
 use Rattle.dsde_sim_tree.specs.declared.sim.Sim.{Sim}
 use Rattle.dsde_sim_tree.specs.declared.sim.Sim.TheViews.{out-roll-Kid}
@@ -19,19 +14,15 @@ use Rattle.dsde_sim_tree.specs.Start.{kid_of}
 use Rattle.dsde_sim_tree.specs.Tree.{entry_of}
 use Rattle.dsde_sim_starting.specs.Fitting.{FitsKid, FitsLinks, FitsTree}
 use Rattle.dsde_sim_starting.specs.lemmas.Fits.{tree-kid}
+use Rattle.dsde_sim_starting.specs.lemmas.Roles.{links-by-roles}
 
 module _ (model : Model) where
   pub kid-made : (name : Name) (own : Sim) → FitsTree model own → FitsKid model (kid_of name own)
   kid-made name own fits = tree-kid model (kid_of name own) (subst (FitsTree model) (sym (ap (λ kid. kid.sim) (out-roll-Kid (record { name = name; sim = own })))) fits)
 
   -- the links of a plan fit the components that stand for its entries
-  pub plan-links : (number : ModelId) (plan : Plan) (kids : List Kid) → IsPlan model number.0 plan → (system model).is_network number ≡ true → map entry_of kids ≡ plan.entries →
+  pub plan-links : (number : ModelId) (plan : Plan) (kids : List Kid) → IsPlan model number.0 plan → (system model).is_network number ≡ true → roles (map entry_of kids) ≡ roles plan.entries →
       FitsLinks model number (map entry_of kids) plan.links
-  plan-links number plan kids fits network are = record {
-    own = fits.own;
-    found = fits.found;
-    network = network;
-    order = subst IsInOrder (sym are) fits.fits.order;
-    ordinary = subst (AllByRecursion (λ entry. is_same_name EXEC entry.name ≡ false)) (sym are) fits.fits.ordinary;
-    each = subst (λ (entries : List Entry). AllByRecursion (FitsLink model fits.own entries) plan.links) (sym are) fits.fits.links;
-  }
+  plan-links number plan kids fits network are =
+      links-by-roles model plan.entries (map entry_of kids) (sym are) number plan.links
+      (record { own = fits.own; found = fits.found; network = network; order = fits.fits.order; ordinary = fits.fits.ordinary; each = fits.fits.links })

@@ -19,7 +19,7 @@ use Rattle.dsde_sim_tree.specs.declared.sim.Kid.{Kid}
 use Rattle.dsde_sim_tree.specs.declared.sim.Net.{Net}
 use Rattle.dsde_sim_tree.specs.declared.sim.Sim.{Sim}
 use Rattle.dsde_sim_tree.specs.declared.sim.Sim.TheVariants as sim
-use Rattle.dsde_sim_tree.specs.Tree.{entry_of, parts_of_kid, parts_of_kids}
+use Rattle.dsde_sim_tree.specs.Tree.{entry_of, started_as, parts_of_kid, parts_of_kids}
 use Rattle.dsde_sim_tree.specs.Start.{Starter, started_kid, entered, start, start_atomic, start_net, starts, start_leaf_at, with_boss}
 use Rattle.dsde_sim_starting.specs.Fitting.{FitsKid}
 
@@ -96,7 +96,7 @@ pub record HaveStarted (model : Model) (starter : Starter) (entries : List Entry
   pub goes : GoesOn (starts starter entries path time first []) (starts starter rest path time room done) old events
   pub parts : parts_of_kids done + room ≡ first
   pub fit : AllByRecursion (FitsKid model) done
-  pub are : map entry_of done ++ rest ≡ entries
+  pub are : map entry_of done ++ map started_as rest ≡ map started_as entries
   pub entries_fit : AllByRecursion (FitsEntry model) rest
 
 module _ (model : Model) (starter : Starter) (entries : List Entry) (path : Path) (time first : ℕ) (old : List Event) (done : List Kid) (room : ℕ) (events : List Event) (rest : List Entry)
@@ -115,7 +115,7 @@ module _ (model : Model) (starter : Starter) (entries : List Entry) (path : Path
     pub goes-on : GoesOn (starts starter entries path time first []) (starts_behind starter later path time done (kid, room_left)) old new
     goes-on = goes-step (starts starter entries path time first []) (started_kid starter own path time room) (starts_behind starter later path time done) old events new (kid, room_left) goes-here told came
 
-    pub start-one : (more : List Kid) → parts_of_kid kid + room_left ≡ room → FitsKid model kid → entry_of kid ≡ own → more ≡ done ++ kid ∷ [] →
+    pub start-one : (more : List Kid) → parts_of_kid kid + room_left ≡ room → FitsKid model kid → entry_of kid ≡ started_as own → more ≡ done ++ kid ∷ [] →
         HaveStarted model starter entries path time first old more room_left new later
     start-one more counted fits is is_more =
         let parts_more : parts_of_kids more ≡ parts_of_kids done + parts_of_kid kid =
@@ -125,10 +125,10 @@ module _ (model : Model) (starter : Starter) (entries : List Entry) (path : Path
           parts = omega (arith, parts_more, counted, here.parts);
           fit = subst (AllByRecursion (FitsKid model)) (sym is_more) (each-append (FitsKid model) done kid here.fit fits);
           are =
-              ap (λ (own_done : List Kid). map entry_of own_done ++ later) is_more
-              ∙ ap (λ (front : List Entry). front ++ later) (map-append entry_of done (kid ∷ []))
-              ∙ append_assoc (map entry_of done) (entry_of kid ∷ []) later
-              ∙ ap (λ (one : Entry). map entry_of done ++ one ∷ later) is
+              ap (λ (own_done : List Kid). map entry_of own_done ++ map started_as later) is_more
+              ∙ ap (λ (front : List Entry). front ++ map started_as later) (map-append entry_of done (kid ∷ []))
+              ∙ append_assoc (map entry_of done) (entry_of kid ∷ []) (map started_as later)
+              ∙ ap (λ (one : Entry). map entry_of done ++ one ∷ map started_as later) is
               ∙ here.are;
           entries_fit = here.entries_fit.1;
         }

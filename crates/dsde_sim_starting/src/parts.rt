@@ -10,7 +10,7 @@ ghost use Rattle.dsde_sim_events.specs.Told.{at, to_boss, Comes, Tells};
 ghost use Rattle.dsde_system.specs.Program.{system};
 ghost use Rattle.dsde_system.specs.Fitting.{FitsArgs, FitsLeaf};
 ghost use Rattle.dsde_system.specs.Plans.{FitsEntry};
-ghost use Rattle.dsde_sim_tree.specs.Tree.{parts, parts_of_net, parts_of_kid, parts_of_kids, model_of, args_of, entry_of};
+ghost use Rattle.dsde_sim_tree.specs.Tree.{parts, parts_of_net, parts_of_kid, parts_of_kids, model_of, args_of, entry_of, started_as};
 ghost use Rattle.dsde_sim_tree.specs.Start.{entered, start_leaf_at, start_atomic, start, start_net, started_kid, starts, with_boss};
 ghost use Rattle.dsde_sim_starting.specs.Fitting.{FitsTree, FitsKid, FitsNet, IsExecutive};
 ghost use Rattle.dsde_sim_starting.specs.Starting.{IsNet};
@@ -272,7 +272,7 @@ fn starts(
     ensures told { Tells (starts (start (system program.now) left) entries path.now time room []) events.old events.new result }
     ensures room { IfOk result (λ started. parts_of_kids started.0 + started.1 ≡ room) }
     ensures fits { IfOk result (λ started. AllByRecursion (FitsKid program.now) started.0) }
-    ensures are { IfOk result (λ started. map entry_of started.0 ≡ entries) }
+    ensures are { IfOk result (λ started. map entry_of started.0 ≡ map started_as entries) }
 {
     let mut done = Seq::new(alloc);
     let mut room = room;
@@ -301,9 +301,14 @@ pub fn start_kid(
     ensures told { Tells (started_kid (start (system program.now) left) entry path.now time room) events.old events.new result }
     ensures room { IfOk result (λ started. parts_of_kid started.0 + started.1 ≡ room) }
     ensures fits { IfOk result (λ started. FitsKid program.now started.0) }
-    ensures is { IfOk result (λ started. entry_of started.0 ≡ entry) }
+    ensures is { IfOk result (λ started. entry_of started.0 ≡ started_as entry) }
 {
-    let Entry { name, model, args } = entry;
+    let Entry {
+        name,
+        model,
+        args,
+        ..
+    } = entry;
     let path = below(alloc, path, &name)?;
     let (sim, rest) = start(alloc, program, left, model, args, &path, time, room, events)?;
     Ok((Kid { name, sim }, rest))

@@ -17,7 +17,7 @@ filled-requires-clause-is c =
     c.loop-entry.done c.loop-entry.room c.loop-entry.events c.loop-entry.entry-iterator.rest.items c.loop-entry.survivors.items c.loop-entry.invariant
     c.in-Some.entry c.next.new.self.rest.items c.in-Some.ensures.steps.0
     c.take_next-survivor.result c.take_next-survivor.new.kids.items c.take_next-survivor.ensures.all c.take_next-survivor.ensures.named
-    c.survivors_are_equal.ensures.equal
+    c.survivors_keep_their_roles.ensures.exact
 
 pub returns-in_err-kid-clause-told : goal.returns-in_err-kid-clause-told
 returns-in_err-kid-clause-told c =

@@ -1,13 +1,14 @@
-use Rattle.std.proofs.Common.{◌≡◌, ◌∙◌, ap, subst, [], true, List, map, Err}
+use Rattle.std.proofs.Common.{◌≡◌, ◌∙◌, ap, sym, [], true, List, map, Err}
 use Rattle.std.proofs.lemmas.Result.{err_from_is_err_and}
 use Rattle.dsde_structure.specs.declared.plan.Entry.{Entry}
+use Rattle.dsde_structure.specs.Survival.{roles}
 use Rattle.dsde_sim_events.specs.Told.{to_boss}
 use Rattle.dsde_system.specs.Program.{system}
 use Rattle.dsde_sim_telling.specs.lemmas.GoingOn.{goes-step, goes-end, stops, lacks, tail}
-use Rattle.dsde_sim_tree.specs.Tree.{entry_of}
+use Rattle.dsde_sim_tree.specs.Tree.{entry_of, started_as}
 use Rattle.dsde_sim_tree.specs.Start.{start_leaf_at, start, starts, started_kid, with_boss}
-use Rattle.dsde_sim_starting.specs.Fitting.{FitsLinks}
 use Rattle.dsde_sim_starting.specs.lemmas.Fits.{tree-net}
+use Rattle.dsde_sim_starting.specs.lemmas.Roles.{links-by-roles, started-roles}
 use Rattle.dsde_sim_starting.proofs.Made.{kid-of-fits, plan-links}
 use Rattle.dsde_sim_starting.proofs.Going.{start-goes, start_inner, as_part, net-told, net-boss, net_whole, goes-here, goes-on, start-one, starts_behind}
 use Rattle.dsde_sim_starting.proofs.parts.+start.Goals as goal
@@ -101,7 +102,9 @@ starts-loop-entry-preserved t c =
 
 pub with_boss-returns-clause-fits : goal.with_boss-returns-clause-fits
 with_boss-returns-clause-fits t c =
-    let entries : c.in_ok-entries.field-0.entries ≡ map entry_of c.in_ok-kids.kids = cc c.in_ok-kids.ensures.are in
+    let own : List Entry = map entry_of c.in_ok-kids.kids in
+    let started : own ≡ map started_as c.in_ok-entries.field-0.entries = cc c.in_ok-kids.ensures.are in
+    let are : roles c.in_ok-entries.field-0.entries ≡ roles own = sym (started-roles c.in_ok-entries.field-0.entries) ∙ sym (ap roles started) in
     c.in_ok-net.ensures.fits c.args.program.now c.requires.args c.requires.boss c.requires.boss_is c.in_ok-kids.ensures.fits
-    (subst (λ (own : List Entry). FitsLinks c.args.program.now c.args.model own c.in_ok-entries.field-0.links) entries
+    (links-by-roles c.args.program.now c.in_ok-entries.field-0.entries own are c.args.model c.in_ok-entries.field-0.links
     (plan-links c.args.program.now c.args.model c.in_ok-entries.field-0 c.requires.network c.in_ok-entries.ensures.fits))
