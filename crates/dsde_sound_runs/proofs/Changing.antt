@@ -1,7 +1,7 @@
 -- Changes of structure: the components behind one are those of the new structure.
-use Rattle.std.proofs.Common.{◌≡◌, ◌⊎◌, ℕ, suc, zero, ◌<◌, ◌+◌, Bool, true, false, List, [], ◌∷◌, ◌++◌, length, get_or, Option, Some, None, refl, sym, ap, subst, ◌∙◌, inl, inr, append-nil, append_assoc, arith}
+use Rattle.std.proofs.Common.{◌≡◌, ℕ, ◌+◌, Bool, true, false, List, [], ◌∷◌, ◌++◌, Option, Some, None, refl, sym, ap, subst, ◌∙◌, inl, inr, append-nil, append_assoc}
 use Rattle.std.specs.Prelude.{if◌then◌else◌}
-use Rattle.std.specs.List.{AllByRecursion, Contains}
+use Rattle.std.specs.List.{AllByRecursion}
 use Rattle.std.specs.Cmp.{Equal-is}
 use Rattle.std.specs.declared.cmp.Ordering.{Ordering}
 use Rattle.std.specs.declared.cmp.Ordering.TheVariants.{Less, Equal}
@@ -11,9 +11,10 @@ use Rattle.dsde_values.specs.declared.name.Name.{Name}
 use Rattle.dsde_values.specs.declared.path.Path.{Path}
 use Rattle.dsde_values.specs.Path.{name_cmp}
 use Rattle.dsde_values.specs.When.{IsMoment}
+use Rattle.dsde_declared.specs.declared.ids.ModelId.{ModelId}
 use Rattle.dsde_structure.specs.declared.plan.Entry.{Entry}
 use Rattle.dsde_structure.specs.Gather.{is_same_name}
-use Rattle.dsde_structure.specs.Survival.{IsInOrder, names}
+use Rattle.dsde_structure.specs.Survival.{IsInOrder, names, role}
 use Rattle.dsde_system.specs.Program.{system}
 use Rattle.dsde_system.specs.Plans.{FitsEntry}
 use Rattle.dsde_sim_events.specs.Told.{Told, told, ◌then◌}
@@ -25,19 +26,8 @@ use Rattle.dsde_sim_tree.specs.Tree.{entry_of, parts_of_kids}
 use Rattle.dsde_sound_runs.proofs.Relied.{Laws}
 use Rattle.dsde_sound_runs.proofs.Safe.{Safe, safe-then}
 use Rattle.dsde_sim_starting.specs.Fitting.{FitsKid}
+use Rattle.dsde_sim_starting.specs.lemmas.Roles.{Among, among-from}
 use Rattle.dsde_sound_runs.proofs.Starting.{IsKid, AreKids, Starts, kid-starts, kids-behind, part-starts}
-
-abbrev Among : {X : Type 0} → X → List X → Type 0
-Among x [] = ⊥
-Among x (y ∷ ys) = (x ≡ y) ⊎ Among x ys
-
-among-at : {X : Type 0} (xs : List X) (x : X) (k : ℕ) → k < length xs → get_or xs k x ≡ x → Among x xs
-among-at [] x k within is = absurd (omega arith)
-among-at (y ∷ xs) x zero within is = inl (sym is)
-among-at (y ∷ xs) x (suc k) within is = inr (among-at xs x k (omega arith) is)
-
-among-from : {X : Type 0} (xs : List X) (x : X) → Contains xs x → Among x xs
-among-from xs x there = among-at xs x there.0 there.1 there.2
 
 among-right : {X : Type 0} (x : X) (xs ys : List X) → Among x ys → Among x (xs ++ ys)
 among-right x [] ys among = among
@@ -70,19 +60,24 @@ module _ (model : Model) (laws : Laws model) (time : ℕ) (moment : IsMoment tim
       absurd (not-less first.name a.name (each-among (λ other. name_cmp first.name other ≡ Less) (names entries) a.name (sorted_head name_cmp first.name (names entries) order) (name-among a entries at_a)) (sym (ap (λ (e : Entry). e.name) is_b) ∙ sym same))
   same-named (first ∷ entries) a b order (inr at_a) (inr at_b) same = same-named entries a b (sorted_tail name_cmp first.name (names entries) order) at_a at_b same
 
-  -- components that fit, each as an entry of these
+  -- components that fit, each of the name and the model of one of these entries
+  abbrev HasEntry : List Entry → Kid → Type 0
+  HasEntry entries kid = (own : Entry) × Among own entries × (role (entry_of kid) ≡ role own)
+
   abbrev Survive : List Entry → List Kid → Type 0
-  Survive entries kids = AllByRecursion (λ kid. FitsKid model kid × Among (entry_of kid) entries) kids
+  Survive entries kids = AllByRecursion (λ kid. FitsKid model kid × HasEntry entries kid) kids
 
   kept-survive : (entries : List Entry) (kids : List Kid) → AllByRecursion (FitsKid model) kids → Survive entries (kept entries kids)
   kept-survive entries [] all = tt
   kept-survive entries (kid ∷ kids) all = by-test (survives entries kid) refl (kept-survive entries kids all.1)
     where
       by-test : (stays : Bool) → survives entries kid ≡ stays → Survive entries (kept entries kids) → Survive entries (if stays then kid ∷ kept entries kids else kept entries kids)
-      by-test true stays rest = ((all.0, among-from entries (entry_of kid) ((laws.survivor (entry_of kid) entries).0 stays)), rest)
+      by-test true stays rest =
+          let found = (laws.survivor (entry_of kid) entries).0 stays in
+          ((all.0, (found.0, among-from entries found.0 found.1, λ i. (found.2.0 i, found.2.1 i))), rest)
       by-test false stays rest = rest
 
-  -- A survivor of an entry's name is one of the entry.
+  -- A survivor of an entry's name has the entry's model.
   record Taken (all : List Entry) (own : Entry) (taken : Kid × List Kid) : Type 0 where
     is : IsKid model own taken.0
     rest : Survive all taken.1
@@ -99,7 +94,10 @@ module _ (model : Model) (laws : Laws model) (time : ℕ) (moment : IsMoment tim
           (let found : Option (Kid × List Kid) = if named then Some (kid, kids) else (elim later [ Some taken ↦ Some (taken.0, kid ∷ taken.1) | None ↦ None ]) in found ≡ Some taken) → Taken all own taken
       by-name true named later goes is_later is =
           let name : (out-Kid kid).name ≡ own.name = (laws.one (out-Kid kid).name own.name).0 ((Equal-is (name_cmp (out-Kid kid).name own.name)).0 named) in
-          subst (Taken all own) (some-is is) (record { is = record { fits = survive.0.0; is = same-named all (entry_of kid) own order survive.0.1 at name }; rest = survive.1 })
+          let entry = survive.0.1 in
+          let as_named : entry.0.name ≡ own.name = sym (ap (λ (one : Name × ModelId). one.0) entry.2) ∙ name in
+          let same : entry.0 ≡ own = same-named all entry.0 own order entry.1 at as_named in
+          subst (Taken all own) (some-is is) (record { is = record { fits = survive.0.0; is = entry.2 ∙ ap role same }; rest = survive.1 })
       by-name false named (Some rest) goes is_later is =
           let own = goes rest is_later in
           subst (Taken all _) (some-is is) (record { is = own.is; rest = (survive.0, own.rest) })

@@ -9,7 +9,7 @@ use Rattle.dsde_values.specs.Path.{name_cmp}
 use Rattle.dsde_declared.specs.declared.ids.ModelId.{ModelId}
 use Rattle.dsde_check_rules.specs.Right.{IsRight}
 use Rattle.dsde_structure.specs.declared.plan.Entry.{Entry}
-use Rattle.dsde_structure.specs.Survival.{survives}
+use Rattle.dsde_structure.specs.Survival.{survives, StaysAs}
 use Rattle.dsde_formalism.specs.System.{State}
 use Rattle.dsde_system.specs.Program.{system}
 use Rattle.dsde_system.specs.Fitting.{FitsArgs, FitsState}
@@ -26,4 +26,4 @@ pub record Laws (model : Model) : Type 0 where
   pub sent : SentFit
   pub covers : ReachCovers
   pub one : (name other : Name) → (name_cmp name other ≡ Equal) ↔ (name ≡ other)
-  pub survivor : (old : Entry) (news : List Entry) → (list_any (survives old) news ≡ true) ↔ Contains news old
+  pub survivor : (old : Entry) (news : List Entry) → (list_any (survives old) news ≡ true) ↔ ((new : Entry) × Contains news new × StaysAs old new)

@@ -3,6 +3,7 @@ use Rattle.std.proofs.Common.{◌≡◌, ℕ, zero, suc, Bool, true, false, List
 use Rattle.std.specs.Prelude.{if◌then◌else◌}
 use Rattle.std.specs.List.{AllByRecursion}
 use Rattle.dsde_syntax.specs.declared.decl.Model.{Model}
+use Rattle.dsde_values.specs.declared.name.Name.{Name}
 use Rattle.dsde_values.specs.declared.path.Path.{Path}
 use Rattle.dsde_values.specs.declared.value.Value.{Value}
 use Rattle.dsde_values.specs.When.{IsMoment}
@@ -11,6 +12,7 @@ use Rattle.dsde_formalism.specs.declared.leaf.Leaf.{Leaf}
 use Rattle.dsde_structure.specs.declared.plan.Entry.{Entry}
 use Rattle.dsde_structure.specs.declared.plan.Link.{Link}
 use Rattle.dsde_structure.specs.declared.plan.Plan.{Plan}
+use Rattle.dsde_structure.specs.Survival.{role, roles}
 use Rattle.dsde_system.specs.Program.{system}
 use Rattle.dsde_system.specs.Fitting.{FitsArgs, FitsState, FitsLeaf}
 use Rattle.dsde_system.specs.Plans.{FitsEntry}
@@ -30,6 +32,7 @@ use Rattle.dsde_sound_runs.proofs.Relied.{Laws}
 use Rattle.dsde_sound_runs.proofs.Safe.{Safe, safe-at, safe-then}
 use Rattle.dsde_sim_starting.specs.Fitting.{FitsKid, FitsLinks, FitsShape, FitsTree, IsExecutive}
 use Rattle.dsde_sim_starting.specs.lemmas.Fits.{net-parts, tree-kid, tree-leaf, tree-net}
+use Rattle.dsde_sim_starting.specs.lemmas.Roles.{links-by-roles}
 use Rattle.dsde_sim_starting.specs.lemmas.Stood.{model-leaf, model-net}
 use Rattle.dsde_sound_runs.proofs.Opens.{args-Leaf, args-Net}
 use Rattle.dsde_sound_runs.proofs.Leaves.{IsLeaf, entered-safe, leaf-starts}
@@ -56,10 +59,10 @@ module _ (model : Model) where
     args_is = args-Leaf leaf ∙ own.args_is;
   }
 
-  -- a component as an entry wants it
+  -- a component of an entry's name and model, with arguments that fit
   pub record IsKid (entry : Entry) (kid : Kid) : Type 0 where
     pub fits : FitsKid model kid
-    pub is : entry_of kid ≡ entry
+    pub is : role (entry_of kid) ≡ role entry
 
   pub kid-is : (entry : Entry) (own : Sim) → IsPart entry.model entry.args own → IsKid entry (kid_of entry.name own)
   kid-is entry own part =
@@ -67,20 +70,24 @@ module _ (model : Model) where
       record {
         fits = tree-kid model (kid_of entry.name own) (subst (λ (kid : Kid-F Sim Kid Net). FitsTree model kid.sim) (sym opened) part.fits);
         is =
-            ap (λ (kid : Kid-F Sim Kid Net). let one : Entry = record { name = kid.name; model = model_of kid.sim; args = args_of kid.sim } in one) opened
-            ∙ ap (λ (number : ModelId). let one : Entry = record { name = entry.name; model = number; args = args_of own } in one) part.model_is
-            ∙ ap (λ (args : List Value). let one : Entry = record { name = entry.name; model = entry.model; args = args } in one) part.args_is;
+            ap (λ (kid : Kid-F Sim Kid Net). let one : Name × ModelId = (kid.name, model_of kid.sim) in one) opened
+            ∙ ap (λ (number : ModelId). let one : Name × ModelId = (entry.name, number) in one) part.model_is;
       }
 
   -- components for these entries
   pub record AreKids (entries : List Entry) (kids : List Kid) : Type 0 where
     pub fit : AllByRecursion (FitsKid model) kids
-    pub are : map entry_of kids ≡ entries
+    pub are : roles (map entry_of kids) ≡ roles entries
 
   pub kids-behind : (entries : List Entry) (entry : Entry) (kids : List Kid) (kid : Kid) → AreKids entries kids → IsKid entry kid → AreKids (entries ++ entry ∷ []) (kids ++ kid ∷ [])
   kids-behind entries entry kids kid all own = record {
     fit = each-behind (FitsKid model) kids kid all.fit own.fits;
-    are = map-behind entry_of kids kid ∙ ap (λ (rest : List Entry). rest ++ entry_of kid ∷ []) all.are ∙ ap (λ (one : Entry). entries ++ one ∷ []) own.is;
+    are =
+        ap roles (map-behind entry_of kids kid)
+        ∙ map-behind role (map entry_of kids) (entry_of kid)
+        ∙ ap (λ (rest : List (Name × ModelId)). rest ++ role (entry_of kid) ∷ []) all.are
+        ∙ ap (λ (one : Name × ModelId). roles entries ++ one ∷ []) own.is
+        ∙ sym (map-behind role entries entry);
   }
 
   -- a network with arguments and an executive that fit, whose components are those of its links
@@ -97,7 +104,7 @@ module _ (model : Model) where
       let opened = out-roll-Net (record { model = number; args = args; boss = boss; kids = kids; links = links }) in
       let shape : FitsShape model (shape_in net) =
       subst (λ (own : Net-F Sim Kid Net). FitsShape model (shape_of own.model own.args own.boss own.kids own.links)) (sym opened)
-      (record { args = head.args_fit; boss = head.fits; boss_is = head.is; links = subst (λ (own : List Entry). FitsLinks model number own links) (sym all.are) fit }) in
+      (record { args = head.args_fit; boss = head.fits; boss_is = head.is; links = links-by-roles model entries (map entry_of kids) (sym all.are) number links fit }) in
       record {
         fits = tree-net model net (net-parts model net shape (subst (λ (own : Net-F Sim Kid Net). AllByRecursion (FitsKid model) own.kids) (sym opened) all.fit));
         model_is = model-net net ∙ ap (λ (own : Net-F Sim Kid Net). own.model) opened;

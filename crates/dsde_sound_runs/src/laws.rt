@@ -7,7 +7,7 @@ use dsde_sound_components::{components_are_sure, structures_are_sure, top_is_sur
 use dsde_sound_inputs::{ports_are_lawful, top_is_declared, types_are_lawful};
 use dsde_sound_links::{gathered_fits, reach_covers, sent_fits};
 use dsde_sound_places::bodies_stand;
-use dsde_structure::survivors_are_equal;
+use dsde_structure::survivors_keep_their_roles;
 use dsde_values::one_name;
 
 /// A law: of a model in which nothing is wrong each run comes to an end, on records that come to it
@@ -22,7 +22,7 @@ pub fn runs_end()
     gathered_fits();
     sent_fits();
     reach_covers();
-    survivors_are_equal();
+    survivors_keep_their_roles();
     one_name();
 }
 

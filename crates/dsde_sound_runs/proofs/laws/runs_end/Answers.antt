@@ -12,5 +12,5 @@ returns c = λ model spots records turns right arrive.
       sent = c.sent_fits.ensures;
       covers = c.reach_covers.ensures;
       one = c.one_name.ensures;
-      survivor = c.survivors_are_equal.ensures.found;
+      survivor = c.survivors_keep_their_roles.ensures.found;
     }) spots records turns arrive
