@@ -1,6 +1,6 @@
 -- Each declaration of the grammar leaves nothing open, and within it no more conditions are open than
 -- nest in it.
-use Rattle.std.proofs.Common.{◌≡◌, ℕ, ◌≤◌, Bool, true, false, List, [], ◌∷◌, ◌++◌, map, take, Option, Some, None, arith}
+use Rattle.std.proofs.Common.{◌≡◌, ℕ, ◌≤◌, Bool, true, false, List, [], ◌∷◌, ◌++◌, map, take, Option, Some, None, refl, arith}
 use Rattle.std.specs.Prelude.{◌&&◌, max}
 use Rattle.std.specs.List.{list_all}
 use Rattle.dsde_syntax.specs.declared.token.Tok.TheVariants as tok
@@ -26,7 +26,7 @@ use Rattle.dsde_parser.specs.declared.depth.Last.{Last}
 use Rattle.dsde_parser.specs.declared.depth.Last.TheVariants as last
 use Rattle.dsde_parser.specs.Depth.{with_bracket, open_after}
 use Rattle.dsde_sound_depth.proofs.Nests.{most, nest, stmt_nest, item_nest, state_nest, phase_nest, body_nest, decl_nest}
-use Rattle.dsde_sound_depth.proofs.Going.{Goes, step, one, join, here, colon, within}
+use Rattle.dsde_sound_depth.proofs.Going.{Goes, step, one, join, here, inner, colon, within}
 use Rattle.dsde_sound_depth.proofs.Lists.{Goes-on, AllListed, commas-go, parens-go}
 use Rattle.dsde_sound_depth.proofs.TypeGoes.{type-goes}
 use Rattle.dsde_sound_depth.proofs.ExprParts.{both}
@@ -150,9 +150,9 @@ abbrev IsPhase : Key → Type 0
 IsPhase begins = (brackets : List ℕ) (limit : ℕ) (before : Last) (tokens : Tokens) → Goes-on limit brackets 0 last.Other tokens → Goes-on limit brackets 0 before (tok.Key begins ∷ tokens)
 
 phase-line : (begins : Key) → IsPhase begins → (phase : Option Phase) → is_phase phase ≡ true → Line (phase_nest phase) (phase_tokens begins phase)
-phase-line begins word_of None level = record { goes = λ brackets limit before few. none-on }
+phase-line begins word_of None level = record { goes = λ brackets limit before clear few. none-on }
 phase-line begins word_of (Some phase) level = record {
-  goes = λ brackets limit before few.
+  goes = λ brackets limit before clear few.
       word_of brackets limit before _ (block-go (map stmt_nest phase.stmts) (map stmt_tokens phase.stmts) (stmts-lines phase.stmts level) brackets limit last.Other few);
 }
 
@@ -160,7 +160,7 @@ phase-line begins word_of (Some phase) level = record {
 phases-line : (body : Body) → is_phase body.output ≡ true → is_phase body.internal ≡ true → is_phase body.external ≡ true → is_phase body.confluent ≡ true
     → Line (max (phase_nest body.output) (max (phase_nest body.internal) (max (phase_nest body.external) (phase_nest body.confluent)))) (phases_tokens body)
 phases-line body output internal external confluent = record {
-  goes = λ brackets limit before few.
+  goes = λ brackets limit before clear few.
       let n1 : ℕ = phase_nest body.output in
       let n2 : ℕ = phase_nest body.internal in
       let n3 : ℕ = phase_nest body.external in
@@ -168,10 +168,10 @@ phases-line body output internal external confluent = record {
       let behind1 = right-within n1 (max n2 (max n3 n4)) limit few in
       let behind2 = right-within n2 (max n3 n4) limit behind1 in
       on-on (on-on (on-on
-      ((phase-line key.Output begun-output body.output output).goes brackets limit before (left-within n1 (max n2 (max n3 n4)) limit few))
-      (λ mid. (phase-line key.Internal begun-internal body.internal internal).goes brackets limit mid (left-within n2 (max n3 n4) limit behind1)))
-      (λ mid. (phase-line key.External begun-external body.external external).goes brackets limit mid (left-within n3 n4 limit behind2)))
-      (λ mid. (phase-line key.Confluent begun-confluent body.confluent confluent).goes brackets limit mid (right-within n3 n4 limit behind2));
+      ((phase-line key.Output begun-output body.output output).goes brackets limit before clear (left-within n1 (max n2 (max n3 n4)) limit few))
+      (λ mid. (phase-line key.Internal begun-internal body.internal internal).goes brackets limit mid clear (left-within n2 (max n3 n4) limit behind1)))
+      (λ mid. (phase-line key.External begun-external body.external external).goes brackets limit mid clear (left-within n3 n4 limit behind2)))
+      (λ mid. (phase-line key.Confluent begun-confluent body.confluent confluent).goes brackets limit mid clear (right-within n3 n4 limit behind2));
 }
   where
     begun-output : IsPhase key.Output
@@ -206,7 +206,7 @@ body-goes body level brackets limit before few =
     let inside : List ℕ = with_bracket brackets 0 in
     let front = on-on (ports-go body.ports brackets limit before) (λ mid. states-go body.states level1.left brackets limit mid (left-within n1 (max n2 n3) limit few)) in
     let value = value-go body.advance level1.right inside limit (left-within n2 n3 limit behind1) in
-    let phases = (phases-line body level2.right level3.right level4.right level5.right).goes inside limit last.Other (right-within n2 n3 limit behind1) in
+    let phases = (phases-line body level2.right level3.right level4.right level5.right).goes inside limit last.Other (inner brackets 0) (right-within n2 n3 limit behind1) in
     record {
       after = phases.after;
       goes = join (join (join (join front.goes (one (tok.Key key.Advance) (omega arith) (omega arith))) value) (one (tok.Sign sign.Semicolon) (omega arith) (omega arith))) phases.goes;
@@ -217,7 +217,7 @@ result-go : (stmts : List Stmt) (value : Expr) → list_all is_stmt stmts ≡ tr
 result-go stmts value level last_level brackets limit before few =
     let inside : List ℕ = with_bracket brackets 0 in
     let n : ℕ = most (map stmt_nest stmts) in
-    let front = lines-go (map stmt_nest stmts) (map stmt_tokens stmts) (stmts-lines stmts level) inside limit last.Start (left-within n (nest value) limit few) in
+    let front = lines-go (map stmt_nest stmts) (map stmt_tokens stmts) (stmts-lines stmts level) inside limit last.Start (inner brackets 0) (left-within n (nest value) limit few) in
     let given = value-go value last_level inside limit (right-within n (nest value) limit few) in
     braces-go brackets before (record {
       after = last.Other;
@@ -240,17 +240,17 @@ exec-go body items level items_level brackets limit before few =
 -- a declaration
 decl-line : (own : Decl) → is_decl own ≡ true → Line (decl_nest own) (decl_tokens own)
 decl-line (decl.Enum name variants) level = record {
-  goes = λ brackets limit before few.
+  goes = λ brackets limit before clear few.
       let own = braces-go brackets last.Other (commas-go last.Start (zeros variants) (map id_tokens variants) (variants-listed variants) brackets 0 limit (omega (arith, most-zeros variants limit))) in
       record { after = own.after; goes = step (tok.Key key.Enum) (omega arith) (step (tok.Ident name.name) (omega arith) own.goes) };
 }
 decl-line (decl.Rec name fields) level = record {
-  goes = λ brackets limit before few.
+  goes = λ brackets limit before clear few.
       let own = braces-go brackets last.Other (commas-go last.Start (zeros fields) (map typed_tokens fields) (fields-listed fields) brackets 0 limit (omega (arith, most-zeros fields limit))) in
       record { after = own.after; goes = step (tok.Key key.Record) (omega arith) (step (tok.Ident name.name) (omega arith) own.goes) };
 }
 decl-line (decl.Func name params ty stmts value) level = record {
-  goes = λ brackets limit before few.
+  goes = λ brackets limit before clear few.
       let placed = both (list_all is_stmt stmts) (is_expr value) level in
       let typed = type-on ty brackets 0 limit last.Other (omega arith) in
       let result = result-go stmts value placed.left placed.right brackets limit typed.after few in
@@ -261,7 +261,7 @@ decl-line (decl.Func name params ty stmts value) level = record {
       };
 }
 decl-line (decl.Atomic at name params body) level = record {
-  goes = λ brackets limit before few.
+  goes = λ brackets limit before clear few.
       let inside = braces-go brackets last.Other (body-goes body level brackets limit last.Start few) in
       record {
         after = inside.after;
@@ -269,7 +269,7 @@ decl-line (decl.Atomic at name params body) level = record {
       };
 }
 decl-line (decl.Network at name params ports exec_at body items) level = record {
-  goes = λ brackets limit before few.
+  goes = λ brackets limit before clear few.
       let placed = both (is_body body) (list_all is_item items) level in
       let inside = braces-go brackets last.Other (on-on (ports-go ports brackets limit last.Start) (λ mid. exec-go body items placed.left placed.right (with_bracket brackets 0) limit mid few)) in
       record {
@@ -278,8 +278,8 @@ decl-line (decl.Network at name params ports exec_at body items) level = record 
       };
 }
 decl-line (decl.Top at name args) level = record {
-  goes = λ brackets limit before few.
-      let own = (args-line args level).goes brackets limit last.Other few in
+  goes = λ brackets limit before clear few.
+      let own = (args-line args level).goes brackets limit last.Other clear few in
       record {
         after = last.Other;
         goes = step (tok.Key key.Top) (omega arith) (step (tok.Ident name.name) (omega arith) (join own.goes (one (tok.Sign sign.Semicolon) (omega arith) (omega arith))));
@@ -295,5 +295,5 @@ decls-lines (own ∷ decls) level =
 -- at no place of a model of the grammar more conditions are open than nest in a declaration
 pub model-within : (model : Model) (limit : ℕ) → has_levels model ≡ true → most (map decl_nest model.decls) ≤ limit → (n : ℕ) → (open_after (take n (tokens_of model))).conditions ≤ limit
 model-within model limit level few n =
-    let own = lines-go (map decl_nest model.decls) (map decl_tokens model.decls) (decls-lines model.decls level) [] limit last.Other few in
+    let own = lines-go (map decl_nest model.decls) (map decl_tokens model.decls) (decls-lines model.decls level) [] limit last.Other refl few in
     within limit (here [] 0 own.after) (tokens_of model) own.goes n

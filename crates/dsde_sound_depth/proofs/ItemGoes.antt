@@ -1,6 +1,6 @@
 -- Each item of a structure leaves what is open as it is, and within it no more conditions are open
 -- than nest in it.
-use Rattle.std.proofs.Common.{◌≡◌, ℕ, ◌≤◌, Bool, true, false, List, [], ◌∷◌, ◌++◌, map, Option, Some, None, subst, arith}
+use Rattle.std.proofs.Common.{◌≡◌, ℕ, ◌≤◌, Bool, true, false, List, [], ◌∷◌, ◌++◌, map, Option, Some, None, ap, subst, arith}
 use Rattle.std.specs.Prelude.{◌&&◌, max}
 use Rattle.std.specs.List.{list_all}
 use Rattle.dsde_syntax.specs.declared.token.Tok.TheVariants as tok
@@ -19,17 +19,17 @@ use Rattle.dsde_syntax.specs.declared.item.ItemArm.{ItemArm}
 use Rattle.dsde_syntax.specs.declared.item.Item.TheOpen.{Item-F, ItemArm-F}
 use Rattle.dsde_syntax.specs.declared.item.Item.TheViews.{roll-Item, roll-ItemArm}
 use Rattle.dsde_syntax.specs.declared.item.Item.TheFolds.{map-Item, map-ItemArm, fold-roll-Item, fold-roll-ItemArm, ind-Item}
-use Rattle.dsde_syntax.specs.Grammar.{Tokens, optional, id_tokens, expr_tokens, args_tokens, component_tokens, end_part_tokens, end_tokens, via_key_tokens, via_tokens, item_step, item_arm_step, item_tokens, item_arm_tokens}
+use Rattle.dsde_syntax.specs.Grammar.{Tokens, optional, id_tokens, expr_tokens, args_tokens, component_tokens, entry_mark, end_part_tokens, end_tokens, via_key_tokens, via_tokens, item_step, item_arm_step, item_tokens, item_arm_tokens}
 use Rattle.dsde_syntax.specs.Levels.{has_first, all_hold, if_written, is_expr, is_index, is_end, is_via, is_item_step, is_item_arm_step, is_item, is_item_arm}
 use Rattle.dsde_parser.specs.declared.depth.Last.{Last}
 use Rattle.dsde_parser.specs.declared.depth.Last.TheVariants as last
 use Rattle.dsde_parser.specs.Depth.{with_bracket, behind_name}
 use Rattle.dsde_sound_depth.proofs.Nests.{most, nest, index_nest, end_part_nest, key_nest, via_nest, item_nest_step, item_arm_nest_step, item_nest, item_arm_nest}
-use Rattle.dsde_sound_depth.proofs.Going.{Goes, step, one, join, here}
+use Rattle.dsde_sound_depth.proofs.Going.{Goes, step, one, one-to, join, here}
 use Rattle.dsde_sound_depth.proofs.Lists.{Goes-on, AllListed, whole-listed, commas-go, parens-go, brackets-go}
 use Rattle.dsde_sound_depth.proofs.ExprParts.{both}
 use Rattle.dsde_sound_depth.proofs.ExprGoes.{roll-claim, expr-goes}
-use Rattle.dsde_sound_depth.proofs.Lines.{left-within, right-within, Line, GoodLine, AllLines, none-on, value-go, let-line, arm-line, choice-line, no-else, else-line, for-line}
+use Rattle.dsde_sound_depth.proofs.Lines.{left-within, right-within, IsClear, Line, GoodLine, AllLines, none-on, value-go, let-line, arm-line, choice-line, no-else, else-line, for-line}
 
 -- arguments
 exprs-listed : (args : List Expr) → list_all is_expr args ≡ true → AllListed last.Other (map nest args) (map expr_tokens args)
@@ -40,7 +40,7 @@ exprs-listed (e ∷ args) level =
 
 pub args-line : (args : List Expr) → list_all is_expr args ≡ true → Line (most (map nest args)) (args_tokens args)
 args-line args level = record {
-  goes = λ brackets limit before few. record {
+  goes = λ brackets limit before clear few. record {
     after = last.Other;
     goes = parens-go brackets before (omega arith) (commas-go last.Other (map nest args) (map expr_tokens args) (exprs-listed args level) brackets 0 limit (omega (arith, few)));
   };
@@ -48,9 +48,9 @@ args-line args level = record {
 
 -- id ["[" expr "]"]
 component-line : (name : Id) (index : Option Bracket) → is_index index ≡ true → Line (index_nest index) (component_tokens name index)
-component-line name None level = record { goes = λ brackets limit before few. record { after = behind_name before; goes = one (tok.Ident name.name) (omega arith) (omega arith) } }
+component-line name None level = record { goes = λ brackets limit before clear few. record { after = behind_name before; goes = one (tok.Ident name.name) (omega arith) (omega arith) } }
 component-line name (Some index) level = record {
-  goes = λ brackets limit before few. record {
+  goes = λ brackets limit before clear few. record {
     after = last.Other;
     goes = step (tok.Ident name.name) (omega arith) (brackets-go brackets (behind_name before) (omega arith) (inside brackets limit few));
   };
@@ -59,9 +59,15 @@ component-line name (Some index) level = record {
     inside : (brackets : List ℕ) (limit : ℕ) → nest index.value ≤ limit → Goes-on limit (with_bracket brackets 0) 0 last.Other (expr_tokens index.value)
     inside brackets limit few = record { after = last.Other; goes = value-go index.value level (with_bracket brackets 0) limit few }
 
+-- a component behind which a ":" is no field's
+component-goes : (name : Id) (index : Option Bracket) → is_index index ≡ true → (brackets : List ℕ) (limit : ℕ) → IsClear brackets → index_nest index ≤ limit → Goes limit (here brackets 0 last.Other) (component_tokens name index) (here brackets 0 last.Other)
+unfolding component-line
+component-goes name None level brackets limit clear few = ((component-line name None level).goes brackets limit last.Other clear few).goes
+component-goes name (Some index) level brackets limit clear few = ((component-line name (Some index) level).goes brackets limit last.Other clear few).goes
+
 end-line : (part : EndPart) (port : Id) → is_end (record { part = part; port = port }) ≡ true → Line (end_part_nest part) (end_part_tokens part)
-end-line end_part.Net port level = record { goes = λ brackets limit before few. record { after = last.Other; goes = one (tok.Key key.Net) (omega arith) (omega arith) } }
-end-line end_part.Exec port level = record { goes = λ brackets limit before few. record { after = last.Other; goes = one (tok.Key key.Exec) (omega arith) (omega arith) } }
+end-line end_part.Net port level = record { goes = λ brackets limit before clear few. record { after = last.Other; goes = one (tok.Key key.Net) (omega arith) (omega arith) } }
+end-line end_part.Exec port level = record { goes = λ brackets limit before clear few. record { after = last.Other; goes = one (tok.Key key.Exec) (omega arith) (omega arith) } }
 end-line (end_part.Kid name index) port level = component-line name index level
 
 -- an end of a link, and its port
@@ -80,7 +86,7 @@ key-goes (Some key) level brackets limit before few = record {
 via-line : (via : Option ViaPart) → if_written is_via via ≡ true → Line (via_nest via) (optional via_tokens via)
 via-line None level = no-else
 via-line (Some via) level = record {
-  goes = λ brackets limit before few.
+  goes = λ brackets limit before clear few.
       let placed = both (if_written (λ (own : ViaKey). is_expr own.value) via.key) (is_expr via.body) level in
       let named = key-goes via.key placed.left (with_bracket brackets 0) limit last.Other (left-within (key_nest via.key) (nest via.body) limit few) in
       let names : Goes-on limit (with_bracket brackets 0) 0 last.Other (id_tokens via.value ++ optional via_key_tokens via.key) = record { after = named.after; goes = step (tok.Ident via.value.name) (omega arith) named.goes } in
@@ -92,31 +98,36 @@ via-line (Some via) level = record {
       };
 }
 
--- "comp" id ["[" expr "]"] "is" id args ";"
-comp-line : (at : ℕ) (name : Id) (index : Option Bracket) (model : Id) (args : List Expr) → (is_index index && list_all is_expr args) ≡ true → Line (max (index_nest index) (most (map nest args))) (item_step (Item-F.Comp at name index model args))
-comp-line at name index model args level = record {
-  goes = λ brackets limit before few.
+-- "is" | ":"
+mark-goes : (soft : Bool) (brackets : List ℕ) (limit : ℕ) → IsClear brackets → Goes limit (here brackets 0 last.Other) (entry_mark soft) (here brackets 0 last.Other)
+mark-goes true brackets limit clear = one-to (tok.Sign sign.Colon) (ap (λ (n : ℕ). here brackets n last.Other) clear) (omega arith) (omega arith)
+mark-goes false brackets limit clear = one (tok.Key key.Is) (omega arith) (omega arith)
+
+-- "comp" id ["[" expr "]"] ("is" | ":") id args ";"
+comp-line : (at : ℕ) (name : Id) (index : Option Bracket) (soft : Bool) (model : Id) (args : List Expr) → (is_index index && list_all is_expr args) ≡ true → Line (max (index_nest index) (most (map nest args))) (item_step (Item-F.Comp at name index soft model args))
+comp-line at name index soft model args level = record {
+  goes = λ brackets limit before clear few.
       let placed = both (is_index index) (list_all is_expr args) level in
-      let component = (component-line name index placed.left).goes brackets limit last.Other (left-within (index_nest index) (most (map nest args)) limit few) in
-      let values = (args-line args placed.right).goes brackets limit last.Other (right-within (index_nest index) (most (map nest args)) limit few) in
+      let component = component-goes name index placed.left brackets limit clear (left-within (index_nest index) (most (map nest args)) limit few) in
+      let values = (args-line args placed.right).goes brackets limit last.Other clear (right-within (index_nest index) (most (map nest args)) limit few) in
       record {
         after = last.Other;
         goes = step (tok.Key key.Comp) (omega arith)
-            (join (join (join (join component.goes (one (tok.Key key.Is) (omega arith) (omega arith))) (one (tok.Ident model.name) (omega arith) (omega arith))) values.goes) (one (tok.Sign sign.Semicolon) (omega arith) (omega arith)));
+            (join (join (join (join component (mark-goes soft brackets limit clear)) (one (tok.Ident model.name) (omega arith) (omega arith))) values.goes) (one (tok.Sign sign.Semicolon) (omega arith) (omega arith)));
       };
 }
 
 link-line : (at : ℕ) (source target : End) (via : Option ViaPart) → (is_end source && is_end target && if_written is_via via) ≡ true → Line (max (end_part_nest source.part) (max (end_part_nest target.part) (via_nest via))) (item_step (Item-F.Link at source target via))
 link-line at source target via level = record {
-  goes = λ brackets limit before few.
+  goes = λ brackets limit before clear few.
       let placed = both (is_end source && is_end target) (if_written is_via via) level in
       let ends = both (is_end source) (is_end target) placed.left in
       let n1 : ℕ = end_part_nest source.part in
       let n2 : ℕ = end_part_nest target.part in
       let more = right-within n1 (max n2 (via_nest via)) limit few in
-      let from = (end-line source.part source.port ends.left).goes brackets limit last.Other (left-within n1 (max n2 (via_nest via)) limit few) in
-      let to = (end-line target.part target.port ends.right).goes brackets limit last.Other (left-within n2 (via_nest via) limit more) in
-      let through = (via-line via placed.right).goes brackets limit last.Other (right-within n2 (via_nest via) limit more) in
+      let from = (end-line source.part source.port ends.left).goes brackets limit last.Other clear (left-within n1 (max n2 (via_nest via)) limit few) in
+      let to = (end-line target.part target.port ends.right).goes brackets limit last.Other clear (left-within n2 (via_nest via) limit more) in
+      let through = (via-line via placed.right).goes brackets limit last.Other clear (right-within n2 (via_nest via) limit more) in
       record {
         after = last.Other;
         goes = step (tok.Key key.Link) (omega arith)
@@ -169,7 +180,7 @@ choice-arms arms other level =
     arms-lines arms (both some all (both (some && all) other level).left).right
 
 item-case : (y : Item-F S A) → Claim (roll-Item (map-Item S A Item ItemArm (λ s. s.0) (λ a. a.0) y))
-item-case (Item-F.Comp at name index model args) = item-roll (Item-F.Comp at name index model args) (record { holds = λ level. comp-line at name index model args level })
+item-case (Item-F.Comp at name index soft model args) = item-roll (Item-F.Comp at name index soft model args) (record { holds = λ level. comp-line at name index soft model args level })
 item-case (Item-F.Link at source target via) = item-roll (Item-F.Link at source target via) (record { holds = λ level. link-line at source target via level })
 item-case (Item-F.Let name e) = item-roll (Item-F.Let name e) (record { holds = λ level. let-line false name e level })
 item-case (Item-F.If arms None) = item-roll (Item-F.If (map (λ a. a.0) arms) None)

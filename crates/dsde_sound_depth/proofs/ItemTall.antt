@@ -161,7 +161,7 @@ module _ (site : Site) (heights : HasHeights site.around.known) where
   choice-tall ((a, own) ∷ arms) = (own, choice-tall arms)
 
   item-case : (y : Item-F S A) → Claim (roll-Item (map-Item S A Item ItemArm (λ s. s.0) (λ a. a.0) y))
-  item-case (Item-F.Comp at name index model args) = item-roll (Item-F.Comp at name index model args) (record { tall = λ scope. (comp-tall site.around heights index model args).tall scope })
+  item-case (Item-F.Comp at name index soft model args) = item-roll (Item-F.Comp at name index soft model args) (record { tall = λ scope. (comp-tall site.around heights index model args).tall scope })
   item-case (Item-F.Link at source target via) = item-roll (Item-F.Link at source target via) (record { tall = λ scope. (link-tall at source target via).tall scope })
   item-case (Item-F.Let name e) = item-roll (Item-F.Let name e) (record { tall = λ scope. (let-tall site.around false name (nest e) (judge site.around e) (expr-tall site.around heights e)).tall scope })
   item-case (Item-F.If arms None) = item-roll (Item-F.If (map (λ a. a.0) arms) None)

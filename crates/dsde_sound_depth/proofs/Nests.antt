@@ -138,7 +138,7 @@ via_nest None = 0
 via_nest (Some via) = max (key_nest via.key) (nest via.body)
 
 abbrev pub item_nest_step : Item-F ℕ ℕ → ℕ
-item_nest_step (Item-F.Comp at name index model args) = max (index_nest index) (most (map nest args))
+item_nest_step (Item-F.Comp at name index soft model args) = max (index_nest index) (most (map nest args))
 item_nest_step (Item-F.Link at source target via) = max (end_part_nest source.part) (max (end_part_nest target.part) (via_nest via))
 item_nest_step (Item-F.Let name value) = nest value
 item_nest_step (Item-F.If arms other) = max (most arms) (else_nest other)

@@ -26,7 +26,7 @@ use Rattle.dsde_sound_depth.proofs.Lines.{Line, GoodLine, AllLines, value-go, se
 -- "send" id "(" expr ")" ";"
 send-line : (port : Id) (e : Expr) → is_expr e ≡ true → Line (nest e) (word key.Send ++ (tok.Ident port.name ∷ []) ++ in_parens (expr_tokens e) ++ mark sign.Semicolon)
 send-line port e level = record {
-  goes = λ brackets limit before few.
+  goes = λ brackets limit before clear few.
       let inside : Goes-on limit (with_bracket brackets 0) 0 last.Other (expr_tokens e) = record { after = last.Other; goes = value-go e level (with_bracket brackets 0) limit few } in
       record {
         after = last.Other;
