@@ -1,0 +1,5 @@
+mod Brings
+mod Starting
+mod Changing
+mod Moving
+mod Advancing
