@@ -1,0 +1,4 @@
+mod Opens
+mod Again
+mod Found
+mod Leaving
