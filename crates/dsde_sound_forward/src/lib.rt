@@ -1,0 +1,7 @@
+//! What a program means leads on: the next event of a component is never before its last, and the
+//! components of a structure stand in the order of their names. A law over definitions; no code.
+#![tactic(auto)]
+
+mod laws;
+
+pub use laws::programs_lead_on;
