@@ -27,11 +27,11 @@ use Rattle.dsde_sound_inputs.proofs.Heads.{record-worded, enum-worded, atomic-he
 use Rattle.dsde_sound_inputs.proofs.Words.{worded, Both, both, and-true, or-parts, front-worded, flat-worded, tokens-worded, is_word_used, used-worded}
 
 -- Names that are found are words.
-abbrev is_word_type : TypeWord → Bool
+abbrev pub is_word_type : TypeWord → Bool
 is_word_type own = is_word own.name
 
 -- one more behind others, unless it is among them
-more-all : {X : Type 0} (p : X → Bool) (b : Bool) (xs : List X) (x : X) → list_all p xs ≡ true → p x ≡ true → list_all p (if b then xs else xs ++ x ∷ []) ≡ true
+pub more-all : {X : Type 0} (p : X → Bool) (b : Bool) (xs : List X) (x : X) → list_all p xs ≡ true → p x ≡ true → list_all p (if b then xs else xs ++ x ∷ []) ≡ true
 more-all p true xs x all own = all
 more-all p false xs x all own = list_all-append p xs (x ∷ []) ∙ and-true (list_all p xs) (p x && true) all (and-true (p x) true own refl)
 
@@ -96,7 +96,7 @@ all-used (own ∷ decls) tokens words all =
     let parts = both (worded (decl_tokens own)) (list_all worded (map decl_tokens decls)) tokens in
     all-used decls parts.right (used_decl words own) (with-decl own parts.left words all)
 
-words-are : (decls : List Decl) → list_all worded (map decl_tokens decls) ≡ true → list_all is_word_type (type_words decls) ≡ true
+pub words-are : (decls : List Decl) → list_all worded (map decl_tokens decls) ≡ true → list_all is_word_type (type_words decls) ≡ true
 words-are decls tokens = all-used decls tokens (declared_words [] decls) (all-declared decls tokens [] refl)
 
 -- Names differ with one more that is not among them.
@@ -131,7 +131,7 @@ distinct-if : (b : Bool) (names : List (List ℕ)) (name : List ℕ) → list_an
 distinct-if true names name is distinct = distinct
 distinct-if false names name is distinct = distinct-new names name distinct is
 
-names-lawful : (ids : List Id) → list_all worded (map id_tokens ids) ≡ true → (names : List (List ℕ)) → list_all is_word names ≡ true → are_distinct names ≡ true
+pub names-lawful : (ids : List Id) → list_all worded (map id_tokens ids) ≡ true → (names : List (List ℕ)) → list_all is_word names ≡ true → are_distinct names ≡ true
     → Both (list_all is_word (with_names names ids)) (are_distinct (with_names names ids))
 names-lawful [] tokens names all distinct = record { left = all; right = distinct }
 names-lawful (id ∷ ids) tokens names all distinct =
@@ -167,7 +167,7 @@ defs-lawful (word ∷ words) (own ∷ shapes) named lawful =
     and-true _ _ (and-true _ _ name.left parts.left) (defs-lawful words shapes name.right parts.right)
 
 -- functions leave types as they are
-words-stay : (known : Known) (decls : List Decl) → (with_funcs known decls).words ≡ known.words
+pub words-stay : (known : Known) (decls : List Decl) → (with_funcs known decls).words ≡ known.words
 words-stay known [] = refl
 words-stay known (decl.Enum name variants ∷ decls) = words-stay known decls
 words-stay known (decl.Rec name fields ∷ decls) = words-stay known decls
@@ -176,7 +176,7 @@ words-stay known (decl.Atomic at name params body ∷ decls) = words-stay known 
 words-stay known (decl.Network at name params ports exec_at body items ∷ decls) = words-stay known decls
 words-stay known (decl.Top at name args ∷ decls) = words-stay known decls
 
-types-stay : (known : Known) (decls : List Decl) → (with_funcs known decls).types ≡ known.types
+pub types-stay : (known : Known) (decls : List Decl) → (with_funcs known decls).types ≡ known.types
 types-stay known [] = refl
 types-stay known (decl.Enum name variants ∷ decls) = types-stay known decls
 types-stay known (decl.Rec name fields ∷ decls) = types-stay known decls

@@ -1,6 +1,6 @@
 //! Laws of the types, of the ports and of the models of a file.
 
-ghost use Rattle.dsde_sound_inputs.specs.Lawful.{PortsAreLawful, TopIsDeclared, TypesAreLawful};
+ghost use Rattle.dsde_sound_inputs.specs.Lawful.{ModelsAreNamed, PortsAreLawful, TopIsDeclared, TypesAreLawful, TypesAreNamed};
 
 use dsde_sound_places::tops_stand;
 
@@ -22,3 +22,10 @@ pub fn top_is_declared()
 {
     tops_stand();
 }
+
+/// A law: in a model in which nothing is wrong the names of types, of their variants and fields, and
+/// those of atomic models and networks are identifiers.
+pub fn names_are_words()
+    ensures types { TypesAreNamed }
+    ensures models { ModelsAreNamed }
+{}

@@ -4,4 +4,4 @@
 
 mod law;
 
-pub use law::{ports_are_lawful, top_is_declared, types_are_lawful};
+pub use law::{names_are_words, ports_are_lawful, top_is_declared, types_are_lawful};
