@@ -1,0 +1,4 @@
+mod Exact
+mod Ascii
+mod Scripted
+mod Called
