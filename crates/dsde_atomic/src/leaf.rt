@@ -1,10 +1,10 @@
 //! Starts, outputs and moves of components.
 
-ghost use Rattle.std.specs.Prelude.{◌≡◌, IfOk};
+ghost use Rattle.std.specs.Prelude.{◌≡◌, ◌++◌, IfOk};
 ghost use Rattle.dsde_values.specs.When.{IsMoment};
 ghost use Rattle.dsde_formalism.specs.Leaf.{Gives, settled, start_leaf, output_leaf, move_leaf};
 ghost use Rattle.dsde_system.specs.Program.{system};
-ghost use Rattle.dsde_system.specs.Fitting.{FitsArgs, FitsInputs, FitsLeaf, FitsSends, FitsState};
+ghost use Rattle.dsde_system.specs.Fitting.{FitsArgs, FitsInputs, FitsLeaf, FitsSends, FitsState, IsInTime};
 
 use crate::body::{at_site, behind, code_of};
 use crate::due::due;
@@ -16,7 +16,7 @@ use dsde_eval_tables::slots_of;
 use dsde_faults::{LeafEnd, Site};
 use dsde_formalism::{Inputs, Leaf, MoveKind};
 use dsde_program::Program;
-use dsde_values::{Item, Seq, Values, copy_values};
+use dsde_values::{Item, Memory, Seq, Values, When, copy_values};
 use std::alloc::Global;
 
 /// A component of the model with these arguments that starts at `time`: an atomic model's, or the
@@ -73,6 +73,36 @@ fn settled(
         last: time,
         next,
     })
+}
+
+/// The time of the next event of a component of the model with these arguments, in this state, whose
+/// last event was at `time`: an atomic model's, or the executive of a network. `Fault` comes exactly
+/// where the advance faults.
+pub fn next_event(
+    alloc: Global,
+    program: &Program,
+    model: ModelId,
+    args: &Values,
+    state: &Values,
+    time: u64,
+) -> Result<When, LeafEnd>
+    requires moment { IsMoment time }
+    requires args { FitsArgs program.now model.0 args.now }
+    requires state { FitsState program.now model.0 state.now }
+    ensures gives { Gives (((system program.now).component model args.now).advance state.now time) result }
+    ensures in_time { IfOk result IsInTime }
+{
+    let slots = seen(alloc, args, state)?;
+    let mut env = Env { slots };
+    due(alloc, program, model, &mut env, time)
+}
+
+/// What a body sees: copies of the arguments, and of the state behind them.
+fn seen(alloc: Global, args: &Values, state: &Values) -> Result<Values, Memory>
+    ensures { IfOk result (λ slots. slots ≡ args.now ++ state.now) }
+{
+    let state = copy_values(alloc, state.as_slice())?;
+    slots_of(alloc, args, state)
 }
 
 /// What the component sends where it is due, in the order in which it is sent.
