@@ -1,5 +1,5 @@
 -- The large model: many workers of which one moves at a time, and a pair of components that is replaced again and again.
-use Rattle.std.specs.Prelude.{ℕ, ◌+◌, ◌*◌, ◌%◌, List, ◌++◌, codes, decimal}
+use Rattle.std.specs.Prelude.{ℕ, ◌≤◌, ◌+◌, ◌*◌, ◌%◌, List, ◌++◌, length, codes, decimal}
 
 -- a worker: it sends first when its turn comes, and then each time that all have had theirs
 abbrev pub worker_text : List ℕ
@@ -39,3 +39,7 @@ period seed = 2 + seed % 8
 -- the text of the model of a seed
 abbrev pub big_text : ℕ → List ℕ
 big_text seed = declarations ++ codes "top Big(" ++ decimal (workers seed) ++ codes ", " ++ decimal (period seed) ++ codes ");\n"
+
+-- The text of each model is short.
+abbrev pub AreShort : Type 0
+AreShort = (seed : ℕ) → length (big_text seed) ≤ 4096

@@ -2,7 +2,7 @@
 #![tactic(auto)]
 
 ghost use Rattle.std.specs.Prelude.{◌≡◌, IfOk};
-ghost use Rattle.dsde_run_big.specs.Model.{big_text, declarations, workers, period};
+ghost use Rattle.dsde_run_big.specs.Model.{AreShort, big_text, declarations, workers, period};
 
 use dsde_lists::{Memory, Text, append_decimal};
 use std::alloc::Global;
@@ -20,6 +20,11 @@ pub fn big_model(alloc: Global, seed: u32) -> Result<Text, Memory>
     text.extend_from_slice(b");\n")?;
     Ok(text)
 }
+
+/// A law: the text of each seed's model has at most 4,096 bytes.
+pub fn large_models_are_short()
+    ensures { AreShort }
+{}
 
 /// How many workers the model of a seed has.
 fn workers(seed: u32) -> u64
