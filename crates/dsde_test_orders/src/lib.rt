@@ -1,0 +1,5 @@
+//! Tests of orders that are drawn.
+#![tactic(auto)]
+
+#[cfg(test)]
+mod tests;
