@@ -37,7 +37,7 @@ module _ {A : Type 0} (P : A → Type 0) where
   all-put [] own after here all = (here, all)
   all-put (other ∷ before) own after here all = (all.0, all-put before own after here all.1)
 
-  all-here : (before : List A) (own : A) (after : List A) → AllByRecursion P (before ++ own ∷ after) → P own
+  pub all-here : (before : List A) (own : A) (after : List A) → AllByRecursion P (before ++ own ∷ after) → P own
   all-here [] own after all = all.0
   all-here (other ∷ before) own after all = all-here before own after all.1
 
@@ -52,7 +52,7 @@ order-all P all (own ∷ order) is each =
     subst (AllByRecursion P) (sym is.2) (all-put P is.0 own is.1 each.0 (order-all P (is.0 ++ is.1) order is.3 each.1))
 
 -- what holds of each holds of each of an order
-all-order : (P : Delivery → Type 0) (all order : List Delivery) → IsOrderOf all order → AllByRecursion P all → AllByRecursion P order
+pub all-order : (P : Delivery → Type 0) (all order : List Delivery) → IsOrderOf all order → AllByRecursion P all → AllByRecursion P order
 all-order P all [] is each = tt
 all-order P all (own ∷ order) is each =
     let own_each : AllByRecursion P (is.0 ++ own ∷ is.1) = subst (AllByRecursion P) is.2 each in
@@ -77,7 +77,7 @@ pub drawn-lawful : (path : Path) (all order : List Delivery) → (IsOrderOf all 
 drawn-lawful path all order = (λ both. drawn-from path all order both.0 both.1, λ is. (order-drawn path all order is, law-drawn path all order is))
 
 module _ (path : Path) where
-  paired-drop : (before : List Delivery) (own : Delivery) (after : List Delivery) → ArePaired path (before ++ own ∷ after) → ArePaired path (before ++ after)
+  pub paired-drop : (before : List Delivery) (own : Delivery) (after : List Delivery) → ArePaired path (before ++ own ∷ after) → ArePaired path (before ++ after)
   paired-drop [] own after paired = paired.1
   paired-drop (other ∷ before) own after paired = (all-drop (Related path other) before own after paired.0, paired-drop before own after paired.1)
 

@@ -4,3 +4,6 @@ pub mod Pairs
 pub mod Waiting
 pub mod Agree
 pub mod Drawn
+pub mod Orderly
+pub mod Later
+pub mod Walked

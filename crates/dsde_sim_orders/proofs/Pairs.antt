@@ -47,10 +47,13 @@ pub record IsUnder (path : Path) (own other : Delivery) : Type 0 where
   pub is_boss : (seat_behind path other.path).is_boss ≡ true
   pub names : GoOn (seat_behind path other.path).names (seat_behind path own.path).names
 
+-- the places of two are apart
+abbrev pub AreApart : Path → Delivery → Delivery → Type 0
+AreApart path own other = are_apart (seat_behind path own.path).names (seat_behind path other.path).names ≡ true
+
 -- how two stand to each other, of which the first stands before the other
 abbrev pub Related : Path → Delivery → Delivery → Type 0
-Related path own other =
-    (are_apart (seat_behind path own.path).names (seat_behind path other.path).names ≡ true) ⊎ IsUnder path own other
+Related path own other = AreApart path own other ⊎ IsUnder path own other
 
 abbrev pub ArePaired : Path → List Delivery → Type 0
 ArePaired path [] = Unit {0}
@@ -70,7 +73,7 @@ paired-filter path test [] paired = tt
 paired-filter path test (own ∷ later) paired =
     paired-filter-by path test own later (test own) (each-filter (Related path own) test later paired.0) (paired-filter path test later paired.1)
 
-and-false : (b : Bool) → (b && false) ≡ false
+pub and-false : (b : Bool) → (b && false) ≡ false
 and-false true = refl
 and-false false = refl
 
@@ -84,7 +87,7 @@ apart-begins [] others apart = absurd (let e : false ≡ true = apart in cc)
 apart-begins (name ∷ names) [] apart = refl
 apart-begins (name ∷ names) (other ∷ others) apart = apart-begins-by name other names others (apart-begins names others) (is_same_name name other) apart
 
-not-above : (path : Path) (own other : Delivery) → Related path own other → is_above path own other ≡ false
+pub not-above : (path : Path) (own other : Delivery) → Related path own other → is_above path own other ≡ false
 not-above path own other (inl apart) =
     ap (λ (b : Bool). (seat_behind path own.path).is_boss && b) (apart-begins (seat_behind path own.path).names (seat_behind path other.path).names apart)
     ∙ and-false (seat_behind path own.path).is_boss
@@ -97,7 +100,7 @@ lawful-from-paired path (own ∷ later) paired =
     (each-weaker (Related path own) (λ other. is_above path own other ≡ false) (not-above path own) later paired.0, lawful-from-paired path later paired.1)
 
 module _ (total : IsTotalOrder name_cmp) (system : System) where
-  same : (name : Name) → is_same_name name name ≡ true
+  pub same : (name : Name) → is_same_name name name ≡ true
   same = same_name total
 
   -- two beneath one component, in its network
@@ -113,7 +116,7 @@ module _ (total : IsTotalOrder name_cmp) (system : System) where
         (λ i. are_apart (seat-in-net name path own.path not_exec own_behind i).names (seat-in-net name path other.path not_exec other_behind i).names)
         ∙ ap (λ (here : Bool). if here then are_apart own_seat.names other_seat.names else true) (same name)
 
-    above-up : is_above path own other ≡ is_above (below path name) own other
+    pub above-up : is_above path own other ≡ is_above (below path name) own other
     above-up =
         (λ i. (seat-in-net name path own.path not_exec own_behind i).is_boss && begin_with (seat-in-net name path own.path not_exec own_behind i).names (seat-in-net name path other.path not_exec other_behind i).names)
         ∙ ap (λ (here : Bool). own_seat.is_boss && (here && begin_with own_seat.names other_seat.names)) (same name)
@@ -145,48 +148,48 @@ module _ (total : IsTotalOrder name_cmp) (system : System) where
 
   -- two beneath two components
   across : (path : Path) (name later : Name) → is_same_name EXEC name ≡ false → is_same_name EXEC later ≡ false → is_same_name name later ≡ false →
-      (own other : Delivery) → IsBehind (below path name) own.path → IsBehind (below path later) other.path → Related path own other
+      (own other : Delivery) → IsBehind (below path name) own.path → IsBehind (below path later) other.path → AreApart path own other
   across path name later not_exec not_exec_later differ own other behind behind_other =
-      inl ((λ i. are_apart (seat-in-net name path own.path not_exec behind i).names (seat-in-net later path other.path not_exec_later behind_other i).names)
-      ∙ ap (λ (here : Bool). if here then are_apart (seat_behind (below path name) own.path).names (seat_behind (below path later) other.path).names else true) differ)
+      (λ i. are_apart (seat-in-net name path own.path not_exec behind i).names (seat-in-net later path other.path not_exec_later behind_other i).names)
+      ∙ ap (λ (here : Bool). if here then are_apart (seat_behind (below path name) own.path).names (seat_behind (below path later) other.path).names else true) differ
 
   module _ (path : Path) (time : ℕ) (links : List Link) (sources : Sources) where
-    abbrev NotExec : Kid → Type 0
+    abbrev pub NotExec : Kid → Type 0
     NotExec kid = is_same_name EXEC (name_of kid) ≡ false
 
-    abbrev of_kid : Kid → List Delivery
+    abbrev pub of_kid : Kid → List Delivery
     of_kid kid = deliveries_of_kid system kid path time links sources
 
-    abbrev of_kids : List Kid → List Delivery
+    abbrev pub of_kids : List Kid → List Delivery
     of_kids kids = flat_map (λ (kid : KidReceives). kid path time links sources) (map (deliveries_of_kid system) kids)
 
-    across-kids : (name : Name) → is_same_name EXEC name ≡ false → (kids : List Kid) → AllByRecursion NotExec kids → AllByRecursion (λ kid. is_same_name name (name_of kid) ≡ false) kids →
-        (own : Delivery) → IsBehind (below path name) own.path → AllByRecursion (Related path own) (of_kids kids)
-    across-kids name not_exec [] not_execs differ own behind = tt
-    across-kids name not_exec (kid ∷ kids) not_execs differ own behind =
-        each-append (Related path own) (of_kid kid) (of_kids kids)
-        (each-weaker (λ (other : Delivery). IsBehind (below path (name_of kid)) other.path) (Related path own)
+    pub apart-kids : (name : Name) → is_same_name EXEC name ≡ false → (kids : List Kid) → AllByRecursion NotExec kids → AllByRecursion (λ kid. is_same_name name (name_of kid) ≡ false) kids →
+        (own : Delivery) → IsBehind (below path name) own.path → AllByRecursion (AreApart path own) (of_kids kids)
+    apart-kids name not_exec [] not_execs differ own behind = tt
+    apart-kids name not_exec (kid ∷ kids) not_execs differ own behind =
+        each-append (AreApart path own) (of_kid kid) (of_kids kids)
+        (each-weaker (λ (other : Delivery). IsBehind (below path (name_of kid)) other.path) (AreApart path own)
         (λ other. across path name (name_of kid) not_exec not_execs.0 differ.0 own other behind) (of_kid kid) (behind-kid system kid path time links sources))
-        (across-kids name not_exec kids not_execs.1 differ.1 own behind)
+        (apart-kids name not_exec kids not_execs.1 differ.1 own behind)
 
     -- those beneath a network against its executive
     module _ (boss : Delivery) (seat : seat_behind path boss.path ≡ record { names = []; is_boss = true }) where
-      under-boss : (name : Name) → is_same_name EXEC name ≡ false → (own : Delivery) → IsBehind (below path name) own.path → Related path own boss
+      under-boss : (name : Name) → is_same_name EXEC name ≡ false → (own : Delivery) → IsBehind (below path name) own.path → IsUnder path own boss
       under-boss name not_exec own behind =
           let own_seat = seat_behind (below path name) own.path in
-          inr (record {
+          record {
             above = λ i. (seat i).is_boss && begin_with (seat i).names (seat_behind path own.path).names;
             not_above = (λ i. (seat-in-net name path own.path not_exec behind i).is_boss && begin_with (seat-in-net name path own.path not_exec behind i).names (seat i).names) ∙ and-false own_seat.is_boss;
             is_boss = ap (λ (s : Seat). s.is_boss) seat;
             names = (name, own_seat.names, ap (λ (s : Seat). s.names) (seat-in-net name path own.path not_exec behind) ∙ ap (λ (s : Seat). s.names ++ name ∷ own_seat.names) (sym seat));
-          })
+          }
 
-      kids-under : (kids : List Kid) → AllByRecursion NotExec kids → AllByRecursion (λ own. AllByRecursion (Related path own) (boss ∷ [])) (of_kids kids)
+      pub kids-under : (kids : List Kid) → AllByRecursion NotExec kids → AllByRecursion (λ own. IsUnder path own boss) (of_kids kids)
       kids-under [] not_execs = tt
       kids-under (kid ∷ kids) not_execs =
-          each-append (λ own. AllByRecursion (Related path own) (boss ∷ [])) (of_kid kid) (of_kids kids)
-          (each-weaker (λ (own : Delivery). IsBehind (below path (name_of kid)) own.path) (λ own. AllByRecursion (Related path own) (boss ∷ []))
-          (λ own behind. (under-boss (name_of kid) not_execs.0 own behind, tt)) (of_kid kid) (behind-kid system kid path time links sources))
+          each-append (λ own. IsUnder path own boss) (of_kid kid) (of_kids kids)
+          (each-weaker (λ (own : Delivery). IsBehind (below path (name_of kid)) own.path) (λ own. IsUnder path own boss)
+          (under-boss (name_of kid) not_execs.0) (of_kid kid) (behind-kid system kid path time links sources))
           (kids-under kids not_execs.1)
 
   abbrev pub PairsUp : Sim → Type 0
@@ -209,8 +212,9 @@ module _ (total : IsTotalOrder name_cmp) (system : System) where
       (pairs.0 place time (gathered system.translate links sources (part.Kid (name_of kid)) (ins_of system (out-Kid kid).sim)) placed.0)))
       (pairs-kids kids pairs.1 placed.1 path time links sources not_exec.1 (IsDistinct-tail is_same_name (name_of kid) names distinct))
       (each-weaker (λ (one : Delivery). IsBehind place one.path) (λ one. AllByRecursion (Related path one) (of_kids path time links sources kids))
-      (λ one. across-kids path time links sources (name_of kid) not_exec.0 kids not_exec.1
-      (names-of (λ name. is_same_name (name_of kid) name ≡ false) kids (IsDistinct-head is_same_name (name_of kid) names distinct)) one)
+      (λ one behind. each-weaker (AreApart path one) (Related path one) (λ other apart. inl apart) (of_kids path time links sources kids)
+      (apart-kids path time links sources (name_of kid) not_exec.0 kids not_exec.1
+      (names-of (λ name. is_same_name (name_of kid) name ≡ false) kids (IsDistinct-head is_same_name (name_of kid) names distinct)) one behind))
       own behind)
 
   pairs-sources : (net : Net) → AllByRecursion (λ kid. PairsUp (out-Kid kid).sim) (out-Net net).kids → IsPlaced (sim.Net net) → (path : Path) (time : ℕ) (found : Result Sources TurnEnd) →
@@ -230,7 +234,8 @@ module _ (total : IsTotalOrder name_cmp) (system : System) where
       paired-append path (of_kids path time own.links sources own.kids) (boss ∷ [])
       (pairs-kids own.kids pairs places.1 path time own.links sources not_exec (IsDistinct-tail is_same_name EXEC names places.0))
       (tt, tt)
-      (kids-under path time own.links sources boss seat own.kids not_exec)
+      (each-weaker (λ (one : Delivery). IsUnder path one boss) (λ one. AllByRecursion (Related path one) (boss ∷ [])) (λ one under. (inr under, tt)) (of_kids path time own.links sources own.kids)
+      (kids-under path time own.links sources boss seat own.kids not_exec))
   pairs-sources net pairs placed path time (Err end) = tt
 
   pairs-net : (net : Net) → AllByRecursion (λ kid. PairsUp (out-Kid kid).sim) (out-Net net).kids → PairsUp (sim.Net net)

@@ -6,9 +6,13 @@ use Rattle.dsde_sim_delivery.specs.Deliveries.{Delivery}
 use Rattle.dsde_sim_delivery.specs.Places.{begin_with}
 use Rattle.dsde_sim_movers.specs.Movers.{seat_behind}
 
--- The first is an executive, and the other stands beneath its network, in what stands at a path.
+-- The first path is an executive's, and the other stands beneath its network, in what stands at a path.
+abbrev pub is_over : Path → Path → Path → Bool
+is_over path own other = (seat_behind path own).is_boss && begin_with (seat_behind path own).names (seat_behind path other).names
+
+-- The same of those to whom it is delivered.
 abbrev pub is_above : Path → Delivery → Delivery → Bool
-is_above path own other = (seat_behind path own.path).is_boss && begin_with (seat_behind path own.path).names (seat_behind path other.path).names
+is_above path own other = is_over path own.path other.path
 
 -- Each executive comes after every other beneath its network.
 abbrev pub IsLawful : Path → List Delivery → Type 0
