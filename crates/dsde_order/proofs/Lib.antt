@@ -1,2 +1,3 @@
 pub mod Words
 pub mod Seats
+pub mod Ordered

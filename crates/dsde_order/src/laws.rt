@@ -1,16 +1,22 @@
 //! That it does not matter in which order the movers of a turn move. Each law is a call that does nothing.
 
 ghost use Rattle.std.specs.Prelude.{◌≡◌, ℕ, List, Ok};
-ghost use Rattle.std.specs.List.Sorted.{IsPermutation};
+ghost use Rattle.std.specs.List.{AllByRecursion};
+ghost use Rattle.std.specs.List.Sorted.{IsPermutation, IsStrictlySortedBy};
 ghost use Rattle.rand_pcg.specs.Lcg.{Lcg};
 ghost use Rattle.dsde_values.specs.declared.arrival.Item.{Item};
+ghost use Rattle.dsde_values.specs.declared.path.Path.{Path};
+ghost use Rattle.dsde_values.specs.Path.{IsPath, path_cmp, root};
 ghost use Rattle.dsde_formalism.specs.System.{System};
 ghost use Rattle.dsde_sim_tree.specs.declared.sim.Sim.{Sim};
 ghost use Rattle.dsde_sim_turns.specs.Turn.{turn};
 ghost use Rattle.dsde_sim_movers.specs.Names.{IsNamed};
+ghost use Rattle.dsde_drawing.specs.Drawing.{IsOrderly};
+ghost use Rattle.dsde_sim_orders.specs.Orders.{is_over};
 ghost use Rattle.dsde_order.specs.Free.{drawn_turn};
 
 use dsde_sim_orders::{drawn_orders_are_lawful, lawful_orders_are_drawn, orders_agree};
+use dsde_values::{one_name, orders_are_total};
 
 /// A turn in an order that is drawn comes to the tree of the turn in path order, and tells its events up to
 /// their order, where neither faults.
@@ -22,4 +28,13 @@ pub fn drawn_turns_agree()
     drawn_orders_are_lawful();
     lawful_orders_are_drawn();
     orders_agree();
+}
+
+/// Paths of components and executives that stand in path order, each once, are orderly for a draw: no executive
+/// stands before one beneath its network, and those beneath it stand side by side.
+pub fn paths_in_order_are_orderly()
+    ensures { (paths : List Path) → AllByRecursion IsPath paths → IsStrictlySortedBy path_cmp paths → IsOrderly (is_over root) paths }
+{
+    orders_are_total();
+    one_name();
 }

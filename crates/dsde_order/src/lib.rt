@@ -6,6 +6,6 @@ mod mover;
 mod order;
 mod seat;
 
-pub use laws::drawn_turns_agree;
+pub use laws::{drawn_turns_agree, paths_in_order_are_orderly};
 pub use mover::Mover;
 pub use order::order_of;

@@ -45,7 +45,7 @@ impl Waits for Waiting {
 /// The paths of those that move in a turn, in the order that the words of a generator draw: each word
 /// draws one of those that are left, of which an executive waits for all that stand beneath its network,
 /// counted in path order, by its rest at their count. No executive stands before one beneath its
-/// network, and those beneath it stand side by side, as they do in path order.
+/// network, and those beneath it stand side by side, as they do in path order (`paths_in_order_are_orderly`).
 ///
 /// The generator gives one word for each path; where memory runs out, it has given some of them.
 pub fn order_of(
