@@ -1,0 +1,3 @@
+mod WholeTexts
+mod Declaring
+mod LastNames
