@@ -1,5 +1,5 @@
 //! `dsde_test_calls`: gives the texts of tables to single calls on values, types, paths, names, decimals,
-//! lists and inputs, and compares what they answer with what is wanted.
+//! lists, entries and inputs, and compares what they answer with what is wanted.
 //!
 //! The words after the program's name are names of files of tables. It writes a line for each table,
 //! and one for each answer that differs.
@@ -15,6 +15,7 @@ mod memory;
 mod names;
 mod paths;
 mod places;
+mod survivals;
 mod types;
 mod values;
 
@@ -60,6 +61,7 @@ fn differences(alloc: Global, table: &Value, file: &Value) -> Result<String> {
         "names" => names::differences(alloc, table),
         "decimals" => decimals::differences(alloc, table),
         "lists" => lists::differences(alloc, table),
+        "survivals" => survivals::differences(alloc, table),
         "inputs" => inputs::differences(alloc, table),
         about => bail!("{about}: nothing that a table is about"),
     }

@@ -28,8 +28,8 @@ fn names_of(alloc: Global, words: &[Value]) -> Result<Vec<Name>> {
 }
 
 /// The name that a word spells: the last of the path that ends with it.
-fn name_of(alloc: Global, word: &Value) -> Result<Name> {
-    let word = word.as_str().context("ordered: no string")?;
+pub(crate) fn name_of(alloc: Global, word: &Value) -> Result<Name> {
+    let word = word.as_str().context("a name: no string")?;
     let text = format!(in alloc; "root/{word}")?;
     let path = ample(spelled(alloc, text.as_bytes()))?;
     path.and_then(|mut path| path.names.pop())
