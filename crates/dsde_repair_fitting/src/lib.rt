@@ -1,0 +1,11 @@
+//! Whether a change of a network fits a wiring.
+#![tactic(auto)]
+
+mod apart;
+mod fits;
+mod handles;
+mod names;
+mod wired;
+
+pub use fits::fits_change;
+pub use handles::{add_beneath, add_handles};
