@@ -1,0 +1,6 @@
+pub mod Counting
+pub mod Each
+pub mod Again
+pub mod Found
+pub mod Values
+pub mod LastNames

@@ -1,0 +1,125 @@
+//! Images, read from their text.
+
+ghost use Rattle.std.specs.Prelude.{◌≡◌, ◌≢◌, ◌&&◌, ◌^◌, nat_le, IfOk, IsErrOf};
+ghost use Rattle.serde_json.specs.Data.{Data};
+ghost use Rattle.serde_json.specs.View.{view, members_view};
+ghost use Rattle.dsde_image.specs.Image.{IsImage};
+ghost use Rattle.dsde_image.specs.declared.image.Image.{Image};
+ghost use Rattle.dsde_image_json.specs.Json.{image_data};
+ghost use Rattle.dsde_image_json.specs.Text.{IsReading};
+ghost use Rattle.dsde_image_reading.specs.Form.{GivesIt, image_of_members, image_of};
+ghost use Rattle.dsde_image_reading.specs.declared.image.ReadImage.TheVariants as read_image;
+
+use crate::fields::{
+    Members, moment_under, number_under, only_at_end, text_under, under, version_under,
+};
+use crate::misread::Misread;
+use crate::names::with_names;
+use crate::rows::rows_of;
+use dsde_image::Image;
+use dsde_values::Memory;
+use serde_json::{Category, Value};
+use std::alloc::Global;
+
+/// Why no image was read.
+#[derive(Clone, Copy, Debug, PartialEq, Eq)]
+pub enum ReadImage {
+    /// The bytes say no JSON value.
+    NotJson,
+    /// They say another one.
+    WrongForm,
+    Memory,
+}
+
+impl From<Memory> for ReadImage {
+    ghost from_gives = { λ _ why. why ≡ read_image.Memory };
+
+    fn from(_: Memory) -> ReadImage {
+        ReadImage::Memory
+    }
+}
+
+/// The image of version 1 or 2 that a text says. `NotJson` comes exactly where the bytes say no JSON
+/// value that nests at most 127 deep, and `WrongForm` exactly where they say one that is no image's.
+/// Blanks, the order of keys and the spelling of strings are free, and of a key that stands twice
+/// the last value counts; a whole number is written without sign, fraction and exponent.
+pub fn read_image(alloc: Global, bytes: &[u8]) -> Result<Image, ReadImage>
+    ensures image { IfOk result IsImage }
+    ensures says { IfOk result (λ image. IsReading bytes.now (image_data image)) }
+    ensures only { IfOk result (λ image. (other : Image) → IsImage other → IsReading bytes.now (image_data other) → other ≡ image) }
+    ensures not_json { IsErrOf result ReadImage.NotJson → (seen : Data) → ¬ IsReading bytes.now seen }
+    ensures wrong_form { IsErrOf result ReadImage.WrongForm → (seen : Data) × IsReading bytes.now seen × ((image : Image) → IsImage image → seen ≢ image_data image) }
+{
+    let value = value_of(alloc, bytes)?;
+    read_value(alloc, &value)
+}
+
+/// The JSON value that bytes say.
+fn value_of(alloc: Global, bytes: &[u8]) -> Result<Value, ReadImage>
+    ensures says { IfOk result (λ value. IsReading bytes.now (view value)) }
+    ensures not_json { IsErrOf result ReadImage.NotJson → (seen : Data) → ¬ IsReading bytes.now seen }
+    ensures other { IsErrOf result ReadImage.WrongForm → ⊥ }
+{
+    match Value::from_slice(alloc, bytes) {
+        Ok(value) => Ok(value),
+        Err(error) if error.classify() == Category::Memory => Err(ReadImage::Memory),
+        Err(_) => Err(ReadImage::NotJson),
+    }
+}
+
+/// The image that a JSON value is.
+fn read_value(alloc: Global, value: &Value) -> Result<Image, ReadImage>
+    ensures image { IfOk result IsImage }
+    ensures is { IfOk result (λ image. view value.now ≡ image_data image) }
+    ensures only { IfOk result (λ image. (other : Image) → IsImage other → view value.now ≡ image_data other → other ≡ image) }
+    ensures not_json { IsErrOf result ReadImage.NotJson → ⊥ }
+    ensures wrong_form { IsErrOf result ReadImage.WrongForm → (image : Image) → IsImage image → view value.now ≢ image_data image }
+{
+    match image_of(alloc, value) {
+        Ok(image) => with_names(alloc, image),
+        Err(Misread::Other) => Err(ReadImage::WrongForm),
+        Err(Misread::Memory) => Err(ReadImage::Memory),
+    }
+}
+
+#[tactic(auto, unfolding(crate::specs::Form::image_of))]
+fn image_of(alloc: Global, value: &Value) -> Result<Image, Misread>
+    ensures { GivesIt result (image_of (view value.now)) }
+{
+    let map = value.as_object().ok_or(Misread::Other)?;
+    image_of_members(alloc, map.iter())
+}
+
+#[tactic(auto, unfolding(crate::specs::Form::image_of_members))]
+fn image_of_members(alloc: Global, members: Members<'_>) -> Result<Image, Misread>
+    ensures { GivesIt result (image_of_members (members_view members.entry)) }
+{
+    let (kind, rest) = text_under(alloc, members, "kind")?;
+    let (parts, rest) = under(rest, "parts")?;
+    let (records, rest) = number_under(rest, "records")?;
+    let (time, rest) = moment_under(rest, "time")?;
+    let (turn, rest) = number_under(rest, "turn")?;
+    let (version, rest) = version_under(rest, "version")?;
+    let version = only_at_end(rest, version)?;
+    let parts = rows_of(alloc, version, parts)?;
+    if kind.as_slice() == b"dsde-save".as_slice() && are_bounded(records, turn) {
+        Ok(Image {
+            version,
+            turn,
+            time,
+            records,
+            parts,
+        })
+    } else {
+        Err(Misread::Other)
+    }
+}
+
+/// The most turns of an image.
+const MOST_TURNS: u64 = 1 << 62;
+
+fn are_bounded(records: u64, turn: u64) -> bool
+    ensures { result ≡ nat_le records turn && nat_le turn (2 ^ 62) }
+{
+    records <= turn && turn <= MOST_TURNS
+}
