@@ -105,7 +105,7 @@ module _ (declared : InfosAreDeclared) (model : Model) (number : ModelId) (info 
       own = found.own;
       found = found.found;
       fill = subst (λ (f : List Field). Fill (types_of model) f values) (fields_are ∙ found.is.params)
-        (values-typed (types_of model) spelled fields texts values (ap (λ (t : Types). values_of t fields texts) (sym types_are) ∙ sym is));
+          (values-typed (types_of model) spelled fields texts values (ap (λ (t : Types). values_of t fields texts) (sym types_are) ∙ sym is));
     }
 
     pub state-fits : (result : Answer) (types : Types) (fields : List Field) (texts : List (List ℕ)) → types ≡ types_of model → fields ≡ info.states →
@@ -116,5 +116,5 @@ module _ (declared : InfosAreDeclared) (model : Model) (number : ModelId) (info 
       own = found.own;
       found = found.found;
       fill = subst (λ (f : List Field). Fill (types_of model) f values) (fields_are ∙ found.is.states)
-        (values-typed (types_of model) spelled fields texts values (ap (λ (t : Types). values_of t fields texts) (sym types_are) ∙ sym is));
+          (values-typed (types_of model) spelled fields texts values (ap (λ (t : Types). values_of t fields texts) (sym types_are) ∙ sym is));
     }
