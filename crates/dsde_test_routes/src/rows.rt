@@ -2,6 +2,7 @@
 
 use dsde_lists::Memory;
 use dsde_routes_wiring::Row;
+use std::alloc::Global;
 
 /// A line for each row: its source and target by birth and port, its rank, and its translations.
 pub fn show(lines: &mut String, rows: &[Row]) -> Result<(), Memory> {
@@ -13,9 +14,10 @@ pub fn show(lines: &mut String, rows: &[Row]) -> Result<(), Memory> {
 
 fn show_row(lines: &mut String, row: &Row) -> Result<(), Memory> {
     let source = row.source.birth;
+    let out = row.source_port;
     let target = row.target.birth;
     let port = row.target_port;
-    write!(lines, "{source} to {target} {port} rank")?;
+    write!(lines, "{source} {out} to {target} {port} rank")?;
     for number in row.rank.as_slice() {
         write!(lines, " {number}")?;
     }
@@ -26,4 +28,16 @@ fn show_row(lines: &mut String, row: &Row) -> Result<(), Memory> {
     }
     writeln!(lines, "")?;
     Ok(())
+}
+
+/// A row equal to this one.
+pub fn copy_row(alloc: Global, row: &Row) -> Result<Row, Memory> {
+    Ok(Row {
+        source: row.source,
+        source_port: row.source_port,
+        target: row.target,
+        target_port: row.target_port,
+        rank: row.rank.copy(alloc)?,
+        chain: row.chain.copy(alloc)?,
+    })
 }
