@@ -31,7 +31,7 @@ holds-right name None own holds = absurd holds
 holds-right name (Some map) own holds = some-right (map name) own holds
 
 -- where no model was loaded though there is one, and the shelf did not fail, memory ran out
-cut-memory : (name : List ℕ) (held : Option Bytes) (ShelfFails : Type 0) (status : Status) → NoModel Refuses name held ShelfFails status → IsCut status → ¬ ShelfFails → status ≡ Memory
+pub cut-memory : (name : List ℕ) (held : Option Bytes) (ShelfFails : Type 0) (status : Status) → NoModel Refuses name held ShelfFails status → IsCut status → ¬ ShelfFails → status ≡ Memory
 cut-memory name held ShelfFails (Unread what.Model why.Failed) none cut shelf = absurd (shelf none)
 cut-memory name held ShelfFails Memory none cut shelf = refl
 cut-memory name held ShelfFails (Unread what.Model why.Absent) none cut shelf = absurd cut

@@ -1,4 +1,6 @@
 mod Completing
+mod Drawing
 pub mod Loads
 pub mod Outcomes
+mod Short
 pub mod Spots

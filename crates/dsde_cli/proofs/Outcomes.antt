@@ -175,11 +175,11 @@ pub no_task : (task : Task) → None ≡ Some task → ⊥
 no_task task same = cc same
 
 -- the whole answer is a front of it
-answers-whole : (answer written : List ℕ) (out : Option (List ℕ)) → out ≡ Some (written ++ answer) → AnswersFront answer written out
+pub answers-whole : (answer written : List ℕ) (out : Option (List ℕ)) → out ≡ Some (written ++ answer) → AnswersFront answer written out
 answers-whole answer written out writes = record { count = length answer; is = writes ∙ ap (λ text. Some (written ++ text)) (sym (take-length answer)) }
 
 -- nothing is a front of the answer
-answers-none : (answer written : List ℕ) (out : Option (List ℕ)) → out ≡ Some written → AnswersFront answer written out
+pub answers-none : (answer written : List ℕ) (out : Option (List ℕ)) → out ≡ Some written → AnswersFront answer written out
 answers-none answer written out same = record { count = 0; is = same ∙ ap Some (sym (append-nil written)) }
 
 -- Whatever comes of a check, a front of the answer was written.

@@ -1,4 +1,5 @@
 pub mod Answer
+pub mod Big
 pub mod Causes
 pub mod Delivered
 pub mod Loaded

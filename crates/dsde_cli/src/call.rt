@@ -1,13 +1,16 @@
 //! The top call: it does what the words ask for, and says how it ended.
 
-ghost use Rattle.std.specs.Prelude.{◌≡◌, ◌≢◌, ◌≤◌, ◌⊎◌, ℕ, [], map, string_bytes, None, IfSome};
+ghost use Rattle.std.specs.Prelude.{◌≡◌, ◌≢◌, ◌≤◌, ◌⊎◌, ℕ, [], map, string_bytes, Some, None, IfSome};
 ghost use Rattle.dsde_io.specs.Fault.{Rose};
 ghost use Rattle.dsde_input_records.specs.Records.{Records};
 ghost use Rattle.dsde_run.specs.Reading.{Told, TakesWanted};
-ghost use Rattle.dsde_run.specs.Run.{records_in};
-ghost use Rattle.dsde_cli_command.specs.Commands.{Asked, AsksCheck, command_of};
+ghost use Rattle.dsde_run.specs.Run.{records_in, run};
+ghost use Rattle.dsde_run_big.specs.Model.{big_text};
+ghost use Rattle.dsde_run_count.specs.Counting.{summary_text};
+ghost use Rattle.dsde_cli_command.specs.Commands.{Asked, AsksBig, AsksCheck, command_of};
 ghost use Rattle.dsde_cli_status.specs.Note.{Noted, WritesNoteFront};
 ghost use Rattle.dsde_cli.specs.Answer.{Checked, Answers, answer_of};
+ghost use Rattle.dsde_cli.specs.Big.{CauseBig, Drawn, Summarizes, run_of};
 ghost use Rattle.dsde_cli.specs.Causes.{Cause, CauseCheck, Has, HoldsNone, HoldsNoModel, IsBeforeRun, Tells};
 ghost use Rattle.dsde_cli_verdict.specs.declared.refusal.Refusal.{Refusal};
 ghost use Rattle.dsde_cli_verdict.specs.Verdict.{Refuses};
@@ -15,6 +18,7 @@ ghost use Rattle.dsde_cli.specs.Delivered.{IsDelivered};
 ghost use Rattle.dsde_cli.specs.Loaded.{Loaded, pick_in, pick_of, tells_of};
 ghost use Rattle.dsde_cli.specs.Outcome.{Comes, Completes, CompletesCheck, SaysEnd};
 
+use crate::big::run_big;
 use crate::check::load_and_check;
 use crate::run::load_and_run;
 use dsde_cli_command::{Command, Only, read_command};
@@ -30,6 +34,8 @@ use std::alloc::Global;
 /// or its text. `run MODEL --turns N` loads the model, runs it from its start on the input for at
 /// most N turns, and writes its trace to `out` as it comes: the lines of a turn before the next record
 /// of the input is wanted. With `--only outputs` or `--only structure` only those lines are written.
+/// `big SEED --turns N` runs the large model of a seed on an empty input, and writes the summary of its
+/// run to `out`: how many lines of each kind its trace has, and the last of them.
 /// Any other words spell no command. A write to `notes` that failed changes nothing; one that ran out
 /// of memory makes the status `Memory`.
 pub fn dsde<F: Shelf, R: Source, W: Sink, E: Sink>(
@@ -74,6 +80,15 @@ pub fn dsde<F: Shelf, R: Source, W: Sink, E: Sink>(
         Answers (answer_of checked.asked.check.print checked.model) written (W.written out.new) result) }
     ensures unread { AsksCheck (map string_bytes words.now) → input.new ≡ input.old }
 
+    // Of the large model of a seed the summary of its run on an empty input is written, and the status says
+    // how that run ends, which it does. Nothing is loaded, and nothing of the input is read.
+    ensures summarizes { (drawn : Drawn (map string_bytes words.now)) → IfSome (W.written out.old) (λ written.
+        Summarizes (summary_text drawn.own (run_of drawn)) written (W.written out.new) result) }
+    ensures ends_big { (drawn : Drawn (map string_bytes words.now)) → SaysEnd (run_of drawn).end (Some []) result }
+    ensures complete_big { (drawn : Drawn (map string_bytes words.now)) → ¬ (Rose (W.faults out.old) (W.faults out.new))
+        → Completes drawn.own (λ records. run drawn.own records drawn.asked.big.turns) (Some []) result }
+    ensures unread_big { AsksBig (map string_bytes words.now) → (shelf.new ≡ shelf.old) × (input.new ≡ input.old) }
+
     // Each status has its cause.
     ensures cause { (asked : Asked (map string_bytes words.now))
         → Cause asked.run.model (F.held shelf.old) (Rose (F.faults shelf.old) (F.faults shelf.new))
@@ -81,11 +96,15 @@ pub fn dsde<F: Shelf, R: Source, W: Sink, E: Sink>(
     ensures cause_check { (asked : AsksCheck (map string_bytes words.now))
         → CauseCheck asked.check.model (F.held shelf.old) (Rose (F.faults shelf.old) (F.faults shelf.new))
         (Rose (W.faults out.old) (W.faults out.new)) result }
+    ensures cause_big { (asked : AsksBig (map string_bytes words.now))
+        → CauseBig asked.big.seed (Rose (W.faults out.old) (W.faults out.new)) result }
     // A model that is refused is so exactly for what its bytes are refused for, and there.
     ensures refused { (asked : Asked (map string_bytes words.now)) → (kind : Refusal) → (line column : ℕ)
         → Has asked.run.model (F.held shelf.old) (λ bytes. Refuses bytes kind line column) → Tells kind line column result }
     ensures refused_check { (asked : AsksCheck (map string_bytes words.now)) → (kind : Refusal) → (line column : ℕ)
         → Has asked.check.model (F.held shelf.old) (λ bytes. Refuses bytes kind line column) → Tells kind line column result }
+    ensures refused_big { (asked : AsksBig (map string_bytes words.now)) → (kind : Refusal) → (line column : ℕ)
+        → Refuses (big_text asked.big.seed) kind line column → Tells kind line column result }
     ensures usage { command_of (map string_bytes words.now) ≡ None
         → ((result ≡ Status.Usage) ⊎ (result ≡ Status.Memory)) × (shelf.new ≡ shelf.old) × (input.new ≡ input.old) × (out.new ≡ out.old) }
 
@@ -114,6 +133,7 @@ pub fn dsde<F: Shelf, R: Source, W: Sink, E: Sink>(
         Some(Command::Run { model, turns, only }) => {
             load_and_run(alloc, model, pick_of(only), turns, shelf, input, out)
         }
+        Some(Command::Big { seed, turns }) => run_big(alloc, seed, turns, out),
         None => Status::Usage,
     };
     report(alloc, status, notes)

@@ -1,6 +1,7 @@
 //! The command line: what the program's words ask for, done over a shelf, a source and two sinks.
 #![tactic(auto)]
 
+mod big;
 mod call;
 mod check;
 mod load;

@@ -112,7 +112,7 @@ fn accepted(alloc: Global, bytes: &[u8]) -> Result<Model, Status>
 }
 
 /// The model of a text that is accepted, with its places.
-fn read_runnable(alloc: Global, bytes: &[u8]) -> Result<Runnable, Status>
+pub(crate) fn read_runnable(alloc: Global, bytes: &[u8]) -> Result<Runnable, Status>
     ensures runs { IfOk result (λ loaded. Runs bytes.now (own_of loaded)) }
     ensures only { IfOk result (λ loaded. (other : Running) → Runs bytes.now other → other ≡ own_of loaded) }
     ensures none { IfErr result (NoneIn Refuses bytes.now) }

@@ -124,7 +124,7 @@ fn write_run<R: Source, W: Sink>(
 }
 
 /// The status of a run that came to this.
-fn status_by(answer: Result<Finish, Cut>) -> Status
+pub(crate) fn status_by(answer: Result<Finish, Cut>) -> Status
     ensures { result ≡ status_by answer }
 {
     match answer {

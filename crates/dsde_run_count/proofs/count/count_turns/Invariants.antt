@@ -1,0 +1,18 @@
+use Rattle.std.proofs.Common.{◌≡◌, ◌≤◌, ◌+◌, ◌-◌, ◌*◌, ◌<◌, ◌^◌, true, []}
+use Rattle.std.specs.Prelude.{is_some}
+use Rattle.dsde_input_records.specs.Records.{end}
+use Rattle.dsde_trace.specs.declared.count.Summary.{Summary}
+use Rattle.dsde_run.specs.Run.{go}
+use Rattle.dsde_run_count.specs.declared.count.Ending.{Ending}
+use Rattle.dsde_run_count.specs.Counting.{EndsCounted, total}
+use Rattle.dsde_run_count.proofs.count.count_turns.Given as goal
+
+abbrev pub invariant-loop-turn : goal.invariant-loop-turn
+invariant-loop-turn l = record {
+  goes : (new : Summary) (ending : Ending) → EndsCounted l.summary (go l.own (l.turns - l._turn) end l.plain.engine) new ending → EndsCounted l.initial.summary (go l.own l.turns end l.initial.plain.engine) new ending;
+  program : l.plain.program ≡ l.own.model;
+  fresh : is_some l.plain.engine.tree ≡ true;
+  bounded : l.plain.engine.turn + (l.turns - l._turn) < 2 ^ 63;
+  room : total l.summary ≤ 2 ^ 64 + l._turn * 2 ^ 64;
+  empty : l.events ≡ [];
+}
