@@ -15,7 +15,9 @@ use Rattle.dsde_sim_tree.specs.declared.sim.Sim.{Sim}
 use Rattle.dsde_sim_tree.specs.Tree.{parts, model_of}
 use Rattle.dsde_sim_turns.specs.declared.step.TheConstants.{MOST_PARTS}
 use Rattle.dsde_sim_turns.specs.Engine.{Engine}
+use Rattle.dsde_system.specs.Program.{system}
 use Rattle.dsde_sim_moving.specs.Fitting.{FitsTree}
+use Rattle.dsde_sim_stands.specs.Stands.{StandsEngine}
 
 -- a program, and the engine that runs it
 pub record Working : Type 0 where
@@ -49,6 +51,12 @@ pub record Stands (model : Model) (tree : Sim) : Type 0 where
 abbrev pub StandsIf : Model → Option Sim → Type 0
 StandsIf model None = Unit {0}
 StandsIf model (Some tree) = Stands model tree
+
+-- An engine of this program stands at a moment of a run: its tree has the structures of its executives'
+-- states and times that go with its advances.
+pub record StandsAt (model : Model) (engine : Engine) : Type 0 where
+  pub stands : StandsEngine (system model) engine
+  pub moment : IsMoment engine.time
 
 -- The root of an engine's tree is of this model.
 abbrev pub IsRoot : ModelId → Engine → Type 0

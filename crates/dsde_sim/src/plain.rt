@@ -12,7 +12,9 @@ ghost use Rattle.dsde_sim_tree.specs.Tree.{model_of};
 ghost use Rattle.dsde_sim_turns.specs.Engine.{next_of};
 ghost use Rattle.dsde_sim_turns.specs.Turn.{start, started_tree, advance, turn_time};
 ghost use Rattle.dsde_sim_delivery.specs.Delivered.{IsTurnDelivered};
-ghost use Rattle.dsde_sim.specs.Working.{HeadComes, IsRoot, Stands, chosen_by};
+ghost use Rattle.dsde_values.specs.When.{IsMoment};
+ghost use Rattle.dsde_sim_stands.specs.Stands.{StandsTree};
+ghost use Rattle.dsde_sim.specs.Working.{HeadComes, IsRoot, Stands, StandsAt, StandsIf, chosen_by, working};
 
 use crate::heads::{is_taken, items_at, turn_time};
 use crate::turn::turn;
@@ -21,10 +23,12 @@ use dsde_program::Program;
 use dsde_sim_delivery::advances_are_delivered;
 use dsde_sim_events::{Event, TurnEnd};
 use dsde_sim_moving::{next_time, start};
+use dsde_sim_stands::trees_stand;
 use dsde_sim_telling::at;
 use dsde_sim_tree::{DEEPEST, Sim};
 use dsde_sim_turns::{MOST_PARTS, Step};
-use dsde_values::{Arrival, Path, Seq, Values};
+use dsde_sound_forward::programs_lead_on;
+use dsde_values::{Arrival, Memory, Path, Seq, Values};
 use std::alloc::Global;
 use std::marker::Model;
 
@@ -41,7 +45,7 @@ pub struct Plain<'p> {
 
 impl<'p> Model for Plain<'p> {
     ghost use Rattle.std.specs.Prelude.{◌≤◌};
-    ghost use Rattle.dsde_sim.specs.Working.{Working, working, StandsIf};
+    ghost use Rattle.dsde_sim.specs.Working.{Working, working, StandsAt, StandsIf};
     ghost use Rattle.dsde_syntax.specs.contracts.decl.Model as model;
     ghost use Rattle.dsde_sim_tree.specs.contracts.sim.Sim as sim;
     ghost use Rattle.std.specs.Coded.{codes};
@@ -57,7 +61,12 @@ impl<'p> Model for Plain<'p> {
       taken = plain.taken;
     }) };
 
-    ghost invariant = { λ plain. StandsIf plain.program.now plain.tree × (plain.taken ≤ plain.turn) };
+    ghost invariant = { λ plain. StandsIf plain.program.now plain.tree × (plain.taken ≤ plain.turn) × StandsAt plain.program.now (record {
+      tree = plain.tree;
+      turn = plain.turn;
+      time = plain.time;
+      taken = plain.taken;
+    }) };
 }
 
 /// The tree of the model that runs, which starts at time 0.
@@ -109,6 +118,8 @@ impl<'p> Plain<'p> {
         ensures err { IfErr result (λ end. Tells (start (system program.now)) events.old events.new (Err end)) }
         ensures root { IfOk result (λ plain. IsRoot (top_number program.now) plain.engine) }
     {
+        trees_stand();
+        programs_lead_on();
         let args = chosen(alloc, program)?;
         let tree = started(alloc, program, args, events)?;
         Ok(Plain {
@@ -119,6 +130,49 @@ impl<'p> Plain<'p> {
             time: 0,
             taken: 0,
         })
+    }
+
+    /// The engine of a program with this tree, after so many turns, the last of them at this time, and
+    /// so many records of the input taken: the tree is one of the program and stands at the time.
+    pub fn from_tree(
+        alloc: Global,
+        program: &'p Program<'p>,
+        tree: Sim,
+        turn: u64,
+        time: u64,
+        taken: u64,
+    ) -> Result<Plain<'p>, Memory>
+        requires fits { Stands program.now tree }
+        requires stands { StandsTree (system program.now) time tree }
+        requires moment { IsMoment time }
+        requires turn { turn < 2 ^ 63 }
+        requires taken { taken ≤ turn }
+        ensures { IfOk result (λ plain. plain ≡ working program.now (record { tree = Some tree; turn = turn; time = time; taken = taken })) }
+    {
+        Ok(Plain {
+            alloc,
+            program,
+            tree: Some(tree),
+            turn,
+            time,
+            taken,
+        })
+    }
+
+    /// A law: the tree is one of the program, with no more parts than may be alive, and stands at the
+    /// time of the last turn.
+    pub fn stands(&self)
+        ensures fits { StandsIf self.now.program self.now.engine.tree }
+        ensures stands { StandsAt self.now.program self.now.engine }
+    {
+        let _ = &self.tree;
+    }
+
+    /// The program at work.
+    pub fn program(&self) -> &'p Program<'p>
+        ensures { result.now ≡ self.now.program }
+    {
+        self.program
     }
 
     /// Takes one turn with this head of the input, and tells it: at the lesser of the time of the
@@ -148,6 +202,8 @@ impl<'p> Plain<'p> {
         ensures spent { is_none self.new.engine.tree ≡ is_err result }
     {
         advances_are_delivered();
+        trees_stand();
+        programs_lead_on();
         let Some(tree) = self.tree.take() else {
             unreachable!();
         };
