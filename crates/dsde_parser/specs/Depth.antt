@@ -45,7 +45,8 @@ abbrev pub innermost : List ℕ → ℕ
 innermost brackets = unwrap_or (slice_get brackets (length brackets - 1)) 0
 
 -- Behind a ":": unless it is that of a record's field, it ends what was opened in its brackets, in a
--- comprehension its condition, if there is one.
+-- comprehension its condition, if there is one. Where a component is named none is open in its
+-- brackets, so that the ":" of a soft entry ends none.
 abbrev pub behind_colon : ℕ → List ℕ → Last → ℕ
 behind_colon conditions brackets last.FieldName = conditions
 behind_colon conditions brackets _ = innermost brackets
