@@ -107,8 +107,7 @@ invariant_of-self-2 c =
     let took = is_taken (option_copied c.args.head) c.in-Some-turn_time.time in
     let counted : c.from.result ≡ (if c.is_taken-took_input.result then 1 else 0) = search rules in
     let count : c.from.result ≡ (if took then 1 else 0) = counted ∙ ap (λ (b : Bool). if b then 1 else 0) c.is_taken-took_input.ensures in
-    let after = goes-on c.trees_stand.ensures.advance c.programs_lead_on.ensures model engine (option_copied c.args.head) (Turned took) (turned engine c.in_ok-tree.tree c.in-Some-turn_time.time took) c.self.invariant.2 early tells.1 moment in
-    (
+    let after = goes-on c.trees_stand.ensures.advance c.programs_lead_on.ensures model engine (option_copied c.args.head) (Turned took) (turned engine c.in_ok-tree.tree c.in-Some-turn_time.time took) c.self.invariant.2 early tells.1 moment in (
       c.in_ok-tree.ensures.stands,
       counts took c.self.inside.taken c.self.inside.turn c.from.result c.self.invariant.1 count,
       subst (λ (n : ℕ). StandsAt model (record { tree = Some c.in_ok-tree.tree; turn = c.self.inside.turn + 1; time = c.in-Some-turn_time.time; taken = c.self.inside.taken + n })) (sym count) after,
