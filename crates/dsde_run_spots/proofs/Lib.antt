@@ -1,0 +1,4 @@
+mod Steps
+mod Opens
+mod Parts
+mod Runs
