@@ -1,0 +1,19 @@
+//! A law of the expressions of a structure.
+
+ghost use Rattle.dsde_sound_makes.specs.Spots.{MakesStand};
+
+use dsde_sound_expressions::expressions_agree;
+use dsde_sound_functions::functions_agree;
+use dsde_sound_places::{known_is_within, structures_stand};
+
+/// A law: in the tables of a model in which nothing is wrong the items of a network's structure have
+/// the numbers of its expressions in text order, and each expression stands at its number, over the
+/// names that it sees: an index as a whole number, a condition as a truth, and each other as of its type.
+pub fn makes_stand()
+    ensures { MakesStand }
+{
+    expressions_agree();
+    functions_agree();
+    known_is_within();
+    structures_stand();
+}
