@@ -6,3 +6,4 @@ mod Simple
 mod Choices
 mod Items
 mod Whole
+mod Evaluating

@@ -16,10 +16,13 @@ use Rattle.dsde_values.specs.declared.types.Ty.TheVariants as ty
 use Rattle.dsde_check_rules.specs.declared.known.Known.{Known}
 use Rattle.dsde_check_rules.specs.Right.{IsRight}
 use Rattle.dsde_declared.specs.Names.{with_slot, Scope}
-use Rattle.dsde_declared.specs.Models.{whole_of, Own, owns_of}
+use Rattle.dsde_declared.specs.Models.{whole_of, types_of, Own, owns_of}
 use Rattle.dsde_program_nodes.specs.declared.ids.ExprId.{ExprId}
 use Rattle.dsde_program_nodes.specs.Typing.{item_in}
 use Rattle.dsde_program_nodes.specs.Expressions.{resolve}
+use Rattle.dsde_eval_meaning.specs.Meaning.{Vars}
+use Rattle.dsde_eval_meaning.specs.Typed.{Fits, values_in}
+use Rattle.dsde_sound_places.specs.Conditions.{CanEval}
 use Rattle.dsde_sound_places.specs.Places.{IsExpr}
 use Rattle.dsde_sound_places.specs.Bodies.{body_slots}
 use Rattle.dsde_sound_places.specs.Structures.{HasStructure}
@@ -120,3 +123,14 @@ abbrev pub MakesStand : Type 0
 MakesStand =
     (model : Model) (number : ℕ) (own : Own) → IsRight model → slice_get (owns_of model.decls) number ≡ Some own → own.network ≡ true
     → HasSpots model number own
+
+-- The expression at a place among these has this number, and may be evaluated over values of what it sees.
+pub record HasSpot (model : Model) (spots : List Spot) (place : ℕ) (number : ExprId) : Type 0 where
+  pub spot : Spot
+  pub found : slice_get spots place ≡ Some spot
+  pub may : (vars : Vars) → Fits (types_of model) vars spot.slots → CanEval model number.0 (values_in vars)
+
+abbrev pub SpotsMayEval : Type 0
+SpotsMayEval =
+    (model : Model) (numbers : List ExprId) (spots : List Spot) (place : ℕ) (number : ExprId)
+    → SpotsStand model numbers spots → slice_get numbers place ≡ Some number → HasSpot model spots place number

@@ -1,6 +1,6 @@
-//! A law of the expressions of a structure.
+//! Laws of the expressions of a structure.
 
-ghost use Rattle.dsde_sound_makes.specs.Spots.{MakesStand};
+ghost use Rattle.dsde_sound_makes.specs.Spots.{MakesStand, SpotsMayEval};
 
 use dsde_sound_expressions::expressions_agree;
 use dsde_sound_functions::functions_agree;
@@ -17,3 +17,9 @@ pub fn makes_stand()
     known_is_within();
     structures_stand();
 }
+
+/// A law: an expression that stands at its number may be evaluated by it, over any values of the types
+/// of what it sees.
+pub fn spots_may_be_evaluated()
+    ensures { SpotsMayEval }
+{}

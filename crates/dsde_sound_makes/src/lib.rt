@@ -3,4 +3,4 @@
 
 mod law;
 
-pub use law::makes_stand;
+pub use law::{makes_stand, spots_may_be_evaluated};
