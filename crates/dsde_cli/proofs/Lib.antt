@@ -2,5 +2,4 @@ mod Completing
 mod Drawing
 pub mod Loads
 pub mod Outcomes
-mod Short
 pub mod Spots

@@ -21,6 +21,7 @@ use dsde_cli_verdict::one_verdict;
 use dsde_io::{Sink, SinkEnd, write_all};
 use dsde_program::resolve;
 use dsde_run::{Running, big_model};
+use dsde_run_big::large_models_are_short;
 use dsde_run_count::{Summarized, summarize};
 use dsde_sound_runs::{inputs_arrive, runs_end};
 use std::alloc::Global;
@@ -39,8 +40,10 @@ pub(crate) fn run_big<W: Sink>(alloc: Global, seed: u32, turns: u64, out: &mut W
     ensures untouched { IsBeforeRun result → out.new ≡ out.old }
     ensures out_counted { W.faults out.old ≤ W.faults out.new }
 {
-    // Laws: a text has one verdict, and the runs of an accepted model end.
+    // Laws: a text has one verdict, that of the large model is short, and the runs of an accepted
+    // model end.
     one_verdict();
+    large_models_are_short();
     runs_end();
     inputs_arrive();
     match load_big(alloc, seed) {

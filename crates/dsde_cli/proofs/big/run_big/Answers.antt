@@ -6,7 +6,6 @@ use Rattle.dsde_cli.specs.Big.{Summarizes, big_run}
 use Rattle.dsde_cli.specs.Loaded.{own_of}
 use Rattle.dsde_cli.specs.Outcome.{SaysEnd}
 use Rattle.dsde_cli_status.specs.declared.status.Status.TheVariants.{Memory}
-use Rattle.dsde_cli.proofs.Short.{big-short}
 use Rattle.dsde_cli.proofs.Drawing.{big-completes, big-memory, big-refused, big-unrefused, cause-made, cause-none, summary-none}
 use Rattle.dsde_cli.proofs.big.run_big.Goals as goal
 
@@ -41,7 +40,7 @@ pub returns-in-Ok-clause-cause : goal.returns-in-Ok-clause-cause
 returns-in-Ok-clause-cause g c = cause-made c.args.seed _ c.run_loaded.result (record { own = own_of c.in-Ok.loaded; runs = c.in-Ok.ensures.runs }) c.run_loaded.ensures.cause
 
 pub returns-in-Err-clause-cause : goal.returns-in-Err-clause-cause
-returns-in-Err-clause-cause g c = cause-none c.args.seed _ c.in-Err.status (big-short c.args.seed) c.in-Err.ensures.none
+returns-in-Err-clause-cause g c = cause-none c.args.seed _ c.in-Err.status (c.large_models_are_short.ensures c.args.seed) c.in-Err.ensures.none
 
 pub returns-in-Ok-clause-refused : goal.returns-in-Ok-clause-refused
 returns-in-Ok-clause-refused g c = λ kind line column refuses.
