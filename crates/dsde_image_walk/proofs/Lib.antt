@@ -1,0 +1,5 @@
+mod Opening
+mod Lasting
+mod Fitting
+mod Kids
+mod Whole

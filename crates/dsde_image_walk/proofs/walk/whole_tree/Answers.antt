@@ -1,0 +1,13 @@
+use Rattle.std.proofs.Common.{false}
+use Rattle.dsde_sim_tree.specs.declared.sim.TheConstants.{DEEPEST}
+use Rattle.dsde_sim_turns.specs.declared.step.TheConstants.{MOST_PARTS}
+use Rattle.dsde_system.specs.Program.{system}
+use Rattle.dsde_image_texts.specs.Script.{script}
+use Rattle.dsde_image_walk.specs.Walks.{HasLocation}
+use Rattle.dsde_image_walk.proofs.Lasting.{first-of-last}
+use Rattle.dsde_image_walk.proofs.walk.whole_tree.Goals as goal
+
+pub left_over-requires : goal.left_over-requires
+left_over-requires c =
+    let left = c.left_are_last.ensures (system c.args.program.now) (script c.args.program.now) c.args.version c.args.time DEEPEST false _ c.args.args c.in_ok-root.root (c.args.rows.now, MOST_PARTS) (c.in_ok-tree.tree, (c.in_ok-tree.rest.now, c.in_ok-tree._room)) c.in_ok-tree.ensures.walks in
+    first-of-last (HasLocation c.args.version) c.args.rows.now left.0 c.in_ok-tree.rest.now _ c.in-Some.row.now left.1 c.in-Some.ensures.cases.0 c.requires.locations

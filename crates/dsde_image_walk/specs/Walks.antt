@@ -1,0 +1,72 @@
+-- What the functions that restore a tree answer.
+use Rattle.std.specs.Prelude.{◌≡◌, ℕ, Bool, false, List, Result, Ok, Err}
+use Rattle.dsde_syntax.specs.declared.decl.Model.{Model}
+use Rattle.dsde_values.specs.declared.path.Path.{Path}
+use Rattle.dsde_values.specs.declared.value.Value.{Value}
+use Rattle.dsde_values.specs.Path.{path_text, root}
+use Rattle.dsde_declared.specs.declared.ids.ModelId.{ModelId}
+use Rattle.dsde_formalism.specs.declared.leaf.Leaf.{Leaf}
+use Rattle.dsde_formalism.specs.System.{System}
+use Rattle.dsde_structure.specs.declared.plan.Entry.{Entry}
+use Rattle.dsde_system.specs.Fitting.{FitsLeaf}
+use Rattle.dsde_sim_events.specs.Told.{below}
+use Rattle.dsde_sim_tree.specs.declared.sim.Kid.{Kid}
+use Rattle.dsde_sim_tree.specs.declared.sim.Sim.{Sim}
+use Rattle.dsde_sim_tree.specs.declared.sim.TheConstants.{DEEPEST}
+use Rattle.dsde_sim_tree.specs.Start.{kid_of}
+use Rattle.dsde_sim_turns.specs.declared.step.TheConstants.{MOST_PARTS}
+use Rattle.dsde_image.specs.Image.{IsLocation}
+use Rattle.dsde_image.specs.declared.image.Row.{Row}
+use Rattle.dsde_image.specs.declared.image.Version.{Version}
+use Rattle.dsde_image_fits.specs.Rows.{Script}
+use Rattle.dsde_image_fits.specs.Walk.{Left, Walked, ◌>>=◌, restored, only_at_end}
+use Rattle.dsde_image_walk.specs.declared.ends.RestoreEnd.{RestoreEnd}
+use Rattle.dsde_image_walk.specs.declared.ends.RestoreEnd.TheVariants as restore_end
+use denote.Ref.{Bor}
+
+-- The answer is what is restored, or the first path that does not fit, or memory ran out.
+abbrev pub Walks : {X A : Type 0} → (X → A) → Result X RestoreEnd → Walked A → Type 0
+Walks view (Ok x) expected = expected ≡ Ok (view x)
+Walks view (Err (restore_end.DoesNotFit path)) expected = expected ≡ Err (path_text path)
+Walks view (Err restore_end.Memory) expected = Unit {0}
+
+-- what is restored, and the rows and the room that are left
+abbrev pub with_left : {A : Type 0} → A × Bor (List Row) × ℕ → A × Left
+with_left one = (one.0, (one.1.now, one.2))
+
+abbrev pub WalksOn : {A : Type 0} → Result (A × Bor (List Row) × ℕ) RestoreEnd → Walked (A × Left) → Type 0
+WalksOn = Walks with_left
+
+-- the path does not fit, or memory ran out
+abbrev pub Misses : Path → RestoreEnd → Type 0
+Misses path (restore_end.DoesNotFit own) = own ≡ path
+Misses path restore_end.Memory = Unit {0}
+
+-- the path of this text does not fit, or memory ran out
+abbrev pub IsLeftOver : List ℕ → RestoreEnd → Type 0
+IsLeftOver text (restore_end.DoesNotFit path) = path_text path ≡ text
+IsLeftOver text restore_end.Memory = Unit {0}
+
+-- a row of an image of this version stands somewhere
+abbrev pub HasLocation : Version → Row → Type 0
+HasLocation version row = IsLocation version row.location
+
+-- the component that an entry wants
+abbrev pub restored_kid : (Bool → ModelId → List Value → Path → Left → Walked (Sim × Left)) → Entry → Path → Left → Walked (Kid × Left)
+restored_kid walker entry path here = walker entry.soft entry.model entry.args (below path entry.name) here >>= λ one. Ok (kid_of entry.name one.0, one.1)
+
+-- the tree of a root of this model with these arguments
+abbrev pub whole_tree : System → Script → Version → ℕ → ModelId → List Value → List Row → Walked Sim
+whole_tree system script version time model args rows =
+    restored system script version time DEEPEST false model args root (rows, MOST_PARTS) >>= λ one. only_at_end one.0 one.1.0
+
+-- A component or an executive of a program, of this model.
+pub record FitsComponent (model : Model) (number : ModelId) (boss : Bool) (leaf : Leaf) : Type 0 where
+  pub fits : FitsLeaf model leaf
+  pub model_is : leaf.model ≡ number
+  pub boss_is : leaf.boss ≡ boss
+
+-- and with these arguments
+pub record FitsOwn (model : Model) (number : ModelId) (boss : Bool) (args : List Value) (leaf : Leaf) : Type 0 where
+  pub component : FitsComponent model number boss leaf
+  pub args_are : leaf.args ≡ args
