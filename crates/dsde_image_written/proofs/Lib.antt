@@ -1,0 +1,3 @@
+mod Opens
+mod Ascii
+mod Writing

@@ -1,0 +1,46 @@
+//! The text of the image of an engine.
+
+ghost use Rattle.std.specs.Prelude.{◌≡◌, is_some, true, IfOk, IfSome};
+ghost use Rattle.serde_json.specs.Written.{compact_text};
+ghost use Rattle.dsde_image.specs.declared.image.Version.TheVariants as version;
+ghost use Rattle.dsde_image_json.specs.Json.{image_data};
+ghost use Rattle.dsde_image_json.specs.Text.{IsReading};
+ghost use Rattle.dsde_save.specs.Saved.{image_of};
+
+use dsde_image::{Image, Version};
+use dsde_image_json::write_image;
+use dsde_image_rows::list;
+use dsde_image_written::images_are_written;
+use dsde_sim::Plain;
+use dsde_values::{Memory, Path, Seq, Text};
+use std::alloc::Global;
+
+/// The text of the image, of version 2, of an engine between two turns, without blanks.
+pub fn save(alloc: Global, engine: &Plain) -> Result<Text, Memory>
+    requires { is_some engine.now.engine.tree ≡ true }
+    ensures text { IfOk result (λ text. IfSome engine.now.engine.tree (λ tree. text ≡ compact_text (image_data (image_of engine.now.program version.Two engine.now.engine tree)))) }
+    ensures read { IfOk result (λ text. IfSome engine.now.engine.tree (λ tree. IsReading text (image_data (image_of engine.now.program version.Two engine.now.engine tree)))) }
+{
+    images_are_written();
+    engine.stands();
+    let program = engine.program();
+    program.right();
+    let root = Path::root(alloc)?;
+    let mut parts = Seq::new(alloc);
+    list(
+        alloc,
+        program,
+        Version::Two,
+        engine.tree(),
+        &root,
+        &mut parts,
+    )?;
+    let image = Image {
+        version: Version::Two,
+        turn: engine.turn(),
+        time: engine.time(),
+        records: engine.taken(),
+        parts,
+    };
+    write_image(alloc, &image)
+}
