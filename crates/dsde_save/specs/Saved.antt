@@ -1,5 +1,5 @@
 -- Which bytes are the image of an engine, and which engine they are the image of. This project's profile.
-use Rattle.std.specs.Prelude.{◌≡◌, ℕ, List, Some, Ok, Err}
+use Rattle.std.specs.Prelude.{◌≡◌, ℕ, List, Some, Result, Ok, Err}
 use Rattle.dsde_syntax.specs.declared.decl.Model.{Model}
 use Rattle.dsde_values.specs.Path.{root, path_text}
 use Rattle.dsde_sim_tree.specs.declared.sim.Sim.{Sim}
@@ -54,6 +54,11 @@ abbrev pub IsMisfitOf : Model → Image → RestoreError → Type 0
 IsMisfitOf program image (restore_error.DoesNotFit path) = fitting program image ≡ Err (path_text path)
 IsMisfitOf program image restore_error.Memory = Unit {0}
 IsMisfitOf program image _ = ⊥
+
+-- The answer where the bytes say this image: its engine, or its first path that does not fit, or memory ran out.
+abbrev pub Answers : Model → Image → Result Working RestoreError → Type 0
+Answers program image (Ok own) = IsOf program image own
+Answers program image (Err why) = IsMisfitOf program image why
 
 -- The bytes say an image that does not fit the program, and this is the text of the first path.
 pub record Misfits (program : Model) (bytes path : List ℕ) : Type 0 where

@@ -6,7 +6,7 @@ ghost use Rattle.dsde_image.specs.Image.{IsImage};
 ghost use Rattle.dsde_image.specs.declared.image.Image.{Image};
 ghost use Rattle.dsde_image_json.specs.Json.{image_data};
 ghost use Rattle.dsde_image_json.specs.Text.{IsReading};
-ghost use Rattle.dsde_save.specs.Saved.{IsMisfit, IsMisfitOf, IsOf, IsRestored};
+ghost use Rattle.dsde_save.specs.Saved.{Answers, IsMisfit, IsMisfitOf, IsOf, IsRestored, Says};
 
 use dsde_image::Image;
 use dsde_image_reading::{ReadImage, read_image};
@@ -89,6 +89,7 @@ pub fn restore<'p>(
     ensures not_json { IsErrOf result RestoreError.NotJson → (seen : Data) → ¬ IsReading bytes.now seen }
     ensures wrong_form { IsErrOf result RestoreError.WrongForm → (seen : Data) × IsReading bytes.now seen × ((image : Image) → IsImage image → seen ≢ image_data image) }
     ensures misfit { IfErr result (IsMisfit program.now bytes.now) }
+    ensures exact { (image : Image) → Says bytes.now image → Answers program.now image result }
 {
     match read_image(alloc, bytes) {
         Ok(image) => with_image(alloc, program, &image),
