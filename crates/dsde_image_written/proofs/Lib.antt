@@ -1,3 +1,4 @@
 mod Opens
 mod Ascii
 mod Writing
+mod Restoring

@@ -1,6 +1,7 @@
-//! That the image of a tree of a program may be written. Definitions and laws; no code.
+//! The images of the trees of a program: they may be written, and they give the trees again.
+//! Definitions and laws; no code.
 #![tactic(auto)]
 
 mod laws;
 
-pub use laws::images_are_written;
+pub use laws::{images_are_restored, images_are_written};

@@ -15,7 +15,7 @@ use Rattle.dsde_image_json.specs.Json.{image_data}
 use Rattle.dsde_image_json.specs.Text.{IsReading}
 use Rattle.dsde_image_walk.specs.declared.ends.RestoreEnd.{RestoreEnd}
 use Rattle.dsde_image_walk.specs.declared.ends.RestoreEnd.TheVariants as restore_end
-use Rattle.dsde_sim.specs.Working.{Working, working}
+use Rattle.dsde_sim.specs.Working.{StandsAt, StandsIf, Working, working}
 use Rattle.dsde_save.specs.declared.restoring.RestoreError.{RestoreError}
 use Rattle.dsde_save.specs.declared.restoring.RestoreError.TheVariants as restore_error
 
@@ -69,6 +69,18 @@ pub record Misfits (program : Model) (bytes path : List ℕ) : Type 0 where
 abbrev pub IsMisfit : Model → List ℕ → RestoreError → Type 0
 IsMisfit program bytes (restore_error.DoesNotFit path) = Misfits program bytes (path_text path)
 IsMisfit program bytes _ = Unit {0}
+
+-- The answer is this engine, or memory ran out.
+abbrev pub IsAgain : Working → Result Working RestoreError → Type 0
+IsAgain own (Ok found) = found ≡ own
+IsAgain own (Err restore_error.Memory) = Unit {0}
+IsAgain own (Err _) = ⊥
+
+-- Where the bytes say the image of an engine at work, of either version, the answer is this engine.
+abbrev pub GivesAgain : Model → List ℕ → Result Working RestoreError → Type 0
+GivesAgain program bytes result =
+    (version : Version) (engine : Engine) (tree : Sim) → engine.tree ≡ Some tree → StandsIf program engine.tree → StandsAt program engine
+    → Says bytes (image_of program version engine tree) → IsAgain (working program engine) result
 
 -- why no tree was restored, as why no engine was
 abbrev pub told_as : RestoreEnd → RestoreError

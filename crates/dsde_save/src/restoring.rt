@@ -6,11 +6,12 @@ ghost use Rattle.dsde_image.specs.Image.{IsImage};
 ghost use Rattle.dsde_image.specs.declared.image.Image.{Image};
 ghost use Rattle.dsde_image_json.specs.Json.{image_data};
 ghost use Rattle.dsde_image_json.specs.Text.{IsReading};
-ghost use Rattle.dsde_save.specs.Saved.{Answers, IsMisfit, IsMisfitOf, IsOf, IsRestored, Says};
+ghost use Rattle.dsde_save.specs.Saved.{Answers, GivesAgain, IsMisfit, IsMisfitOf, IsOf, IsRestored, Says};
 
 use dsde_image::Image;
 use dsde_image_reading::{ReadImage, read_image};
 use dsde_image_walk::{RestoreEnd, restored_tree};
+use dsde_image_written::images_are_restored;
 use dsde_program::Program;
 use dsde_sim::Plain;
 use dsde_values::{Memory, Path};
@@ -74,13 +75,8 @@ fn with_image<'p>(
     Ok(engine)
 }
 
-/// The engine of a program that the bytes of an image of either version say: of its tree, turn, time
-/// and records taken, and ready for its next turn.
-///
-/// `NotJson` comes exactly where the bytes say no JSON value that nests at most 127 deep, `WrongForm`
-/// exactly where they say one that is no image's, and `DoesNotFit` exactly where its rows are those of
-/// no tree of the program that stands at its time.
-pub fn restore<'p>(
+/// The engine that bytes say, with each cause of another answer.
+fn answered<'p>(
     alloc: Global,
     program: &'p Program<'p>,
     bytes: &[u8],
@@ -97,4 +93,27 @@ pub fn restore<'p>(
         Err(ReadImage::WrongForm) => Err(RestoreError::WrongForm),
         Err(ReadImage::Memory) => Err(RestoreError::Memory),
     }
+}
+
+/// The engine of a program that the bytes of an image of either version say: of its tree, turn, time
+/// and records taken, and ready for its next turn.
+///
+/// `NotJson` comes exactly where the bytes say no JSON value that nests at most 127 deep, `WrongForm`
+/// exactly where they say one that is no image's, and `DoesNotFit` exactly where its rows are those of
+/// no tree of the program that stands at its time. So the image of an engine gives an equal one.
+pub fn restore<'p>(
+    alloc: Global,
+    program: &'p Program<'p>,
+    bytes: &[u8],
+) -> Result<Plain<'p>, RestoreError>
+    ensures restored { IfOk result (IsRestored program.now bytes.now) }
+    ensures not_json { IsErrOf result RestoreError.NotJson → (seen : Data) → ¬ IsReading bytes.now seen }
+    ensures wrong_form { IsErrOf result RestoreError.WrongForm → (seen : Data) × IsReading bytes.now seen × ((image : Image) → IsImage image → seen ≢ image_data image) }
+    ensures misfit { IfErr result (IsMisfit program.now bytes.now) }
+    ensures exact { (image : Image) → Says bytes.now image → Answers program.now image result }
+    ensures again { GivesAgain program.now bytes.now result }
+{
+    images_are_restored();
+    program.right();
+    answered(alloc, program, bytes)
 }
