@@ -1,0 +1,4 @@
+pub mod Behind
+pub mod Lacking
+pub mod Pairing
+pub mod Searching
