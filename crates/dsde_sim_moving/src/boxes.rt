@@ -27,7 +27,7 @@ use dsde_values::{Memory, Path, Seq, Values};
 use std::alloc::Global;
 
 /// What the links of a network carry from, which has received these values.
-pub(crate) fn sources_in(
+pub fn sources_in(
     alloc: Global,
     program: &Program,
     net: &Net,
@@ -62,7 +62,7 @@ fn few(gots: &[Seq<Values>]) -> Result<(), Memory>
 }
 
 /// What comes to the executive of a network and to its components, before any of them moves.
-pub(crate) fn boxes_in(
+pub fn boxes_in(
     alloc: Global,
     program: &Program,
     net: &Net,

@@ -27,7 +27,7 @@ fn has_come(got: &[Values]) -> bool
 
 /// Which transition a component or an executive takes at this time: none where it is not due and
 /// nothing came.
-pub(crate) fn kind_of(leaf: &Leaf, time: u64, got: &[Values]) -> Option<MoveKind>
+pub fn kind_of(leaf: &Leaf, time: u64, got: &[Values]) -> Option<MoveKind>
     ensures { result ≡ kind_of leaf.now time got.now }
 {
     match (is_due(leaf, time), has_come(got)) {
@@ -66,7 +66,7 @@ fn moved(
 }
 
 /// Tells what a component or an executive receives, takes its transition, and tells its move.
-pub(crate) fn take_move(
+pub fn take_move(
     alloc: Global,
     program: &Program,
     leaf: &Leaf,

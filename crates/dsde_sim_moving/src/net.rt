@@ -93,7 +93,7 @@ fn after_boss(
 }
 
 /// A network whose components have moved: its executive moves, and where it did, its structure follows.
-pub(crate) fn boss_moves(
+pub fn boss_moves(
     alloc: Global,
     program: &Program,
     model: ModelId,
