@@ -1,0 +1,9 @@
+pub mod Shown
+pub mod Places
+pub mod Stands
+pub mod Change
+pub mod Named
+pub mod Grafts
+pub mod Scheduled
+pub mod Handles
+pub mod lemmas

@@ -1,0 +1,22 @@
+-- Lemmas that the crates above cite.
+pub mod Opened
+pub mod Frame
+pub mod Context
+pub mod Names
+pub mod Beneath
+pub mod Called
+pub mod Mixing
+pub mod Keeping
+pub mod Groves
+pub mod Moves
+pub mod Grafting
+pub mod Growing
+pub mod Inside
+pub mod Closing
+pub mod Counting
+pub mod Apart
+pub mod Live
+pub mod Least
+pub mod Pairs
+pub mod Few
+pub mod Waiting

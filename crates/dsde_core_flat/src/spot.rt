@@ -1,0 +1,12 @@
+//! What the grove holds of a part.
+
+use dsde_declared::ModelId;
+use dsde_formalism::Leaf;
+use dsde_values::Values;
+
+/// An atomic component or an executive, or a network without what is beneath it.
+#[derive(Debug, Drop)]
+pub enum Spot {
+    Leaf(Leaf),
+    Net { model: ModelId, args: Values },
+}
