@@ -1,0 +1,7 @@
+mod Members
+mod SameList
+mod Seats
+mod Rising
+mod DueOnes
+mod Taking
+mod Stale
