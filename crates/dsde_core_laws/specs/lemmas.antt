@@ -1,0 +1,4 @@
+-- Lemmas that the crates above cite.
+pub mod Meeting
+pub mod Component
+pub mod Executive
