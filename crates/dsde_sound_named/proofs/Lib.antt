@@ -1,0 +1,6 @@
+mod Laid
+mod Does
+mod Items
+mod Simple
+mod Choices
+mod Whole

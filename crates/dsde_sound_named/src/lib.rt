@@ -1,0 +1,7 @@
+//! The law that the components of each plan of a program have names that are no words of the language
+//! and whose indices are below 2^63. No code.
+#![tactic(auto)]
+
+mod laws;
+
+pub use laws::names_are_allowed;
