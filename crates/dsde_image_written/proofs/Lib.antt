@@ -2,3 +2,4 @@ mod Opens
 mod Ascii
 mod Writing
 mod Restoring
+mod Rows

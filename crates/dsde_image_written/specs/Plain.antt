@@ -8,6 +8,7 @@ use Rattle.dsde_system.specs.Program.{system}
 use Rattle.dsde_sim_starting.specs.Fitting.{FitsTree}
 use Rattle.dsde_sim_stands.specs.Stands.{Stands, StandsTree}
 use Rattle.dsde_sim_tree.specs.declared.sim.Sim.{Sim}
+use Rattle.dsde_image.specs.Image.{IsRow}
 use Rattle.dsde_image.specs.Written.{IsWrittenRow}
 use Rattle.dsde_image.specs.declared.image.Version.{Version}
 use Rattle.dsde_image.specs.declared.image.Version.TheVariants.{Two}
@@ -20,6 +21,13 @@ abbrev pub ImagesAreWritten : Type 0
 ImagesAreWritten =
     (model : Model) → IsRight model → (time : ℕ) (tree : Sim) → FitsTree model tree → StandsTree (system model) time tree
     → AllByRecursion IsWrittenRow (rows (script model) Two tree root)
+
+-- The rows of a tree of a program are rows of an image of either version: each has a path that a model can
+-- have, and times of a run.
+abbrev pub RowsAreRight : Type 0
+RowsAreRight =
+    (model : Model) → IsRight model → (version : Version) (time : ℕ) (tree : Sim) → FitsTree model tree → StandsTree (system model) time tree
+    → AllByRecursion (IsRow version) (rows (script model) version tree root)
 
 -- A tree of a program that stands is restored of its rows, of either version.
 abbrev pub ImagesAreRestored : Type 0

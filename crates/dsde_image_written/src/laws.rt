@@ -1,9 +1,10 @@
 //! The images of the trees of a program. Each law is a call that does nothing.
 
-ghost use Rattle.dsde_image_written.specs.Plain.{ImagesAreRestored, ImagesAreWritten};
+ghost use Rattle.dsde_image_written.specs.Plain.{ImagesAreRestored, ImagesAreWritten, RowsAreRight};
 
 use dsde_image_fits::images_fit;
 use dsde_image_texts::{components_are_called, scripts_are_exact, texts_are_ascii};
+use dsde_sound_named::names_are_allowed;
 
 /// The texts of the image of a tree of a program are UTF-8.
 pub fn images_are_written()
@@ -11,6 +12,15 @@ pub fn images_are_written()
 {
     texts_are_ascii();
     components_are_called();
+}
+
+/// The rows of a tree of a program are rows of an image of either version: each has a path that a model
+/// can have, and times of a run.
+pub fn rows_are_right()
+    ensures { RowsAreRight }
+{
+    components_are_called();
+    names_are_allowed();
 }
 
 /// The rows of a tree of a program that stands are restored to it, of either version.
