@@ -1,4 +1,3 @@
 pub mod Turning
 pub mod Going
-pub mod Flooring
 pub mod Standing

@@ -15,8 +15,9 @@ use Rattle.dsde_sim_turns.specs.Engine.{Engine, next_of}
 use Rattle.dsde_sim_turns.specs.Turn.{advance, turn_time}
 use Rattle.dsde_run_meaning.specs.Run.{records_in}
 use Rattle.dsde_run_cuts.specs.Cut.{Standing, standing, reached, records_behind}
-use Rattle.dsde_run_cuts.proofs.Turning.{Answer, took_turn, Turns, turn-is}
-use Rattle.dsde_run_cuts.proofs.Flooring.{no-end, passed, opened, floored, unfloored, passed-skipped, passed-more}
+use Rattle.dsde_run_cuts.specs.Turns.{Turns}
+use Rattle.dsde_run_cuts.proofs.Turning.{Answer, took_turn, turn-is}
+use Rattle.dsde_input_skip.specs.lemmas.Flooring.{no-end, passed, opened, floored, unfloored, passed-skipped, passed-more}
 
 module _ (system : System) (ports : List Field) (types : Types) (bytes : List ℕ) where
   -- These records are what is left behind those that the engine has taken, also with the floor at its time.

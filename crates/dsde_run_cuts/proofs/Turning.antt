@@ -11,6 +11,7 @@ use Rattle.dsde_sim_tree.specs.declared.sim.Sim.{Sim}
 use Rattle.dsde_sim_turns.specs.declared.step.Step.{Step}
 use Rattle.dsde_sim_turns.specs.declared.step.Step.TheVariants.{Turned, Quiet}
 use Rattle.dsde_sim_turns.specs.Engine.{Engine, next_of, turned}
+use Rattle.dsde_run_cuts.specs.Turns.{Turns}
 use Rattle.dsde_sim_turns.specs.Turn.{advance, advance_tree, after_turn, turn, turn_time, is_taken, items_at}
 
 abbrev pub Answer : Type 0
@@ -31,14 +32,6 @@ not-quiet took is = absurd (cc is)
 turned-is : (a b : Bool) → (let own : Step = Turned a in own ≡ Turned b) → a ≡ b
 turned-is a b is = cc
 
--- An engine took a turn: at the time that comes next, with the head where it is at that time.
-pub record Turns (engine : Engine) (head : Option Arrival) (took : Bool) (after : Engine) : Type 0 where
-  pub time : ℕ
-  pub next : turn_time (next_of engine) head ≡ Some time
-  pub at : after.time ≡ time
-  pub takes : took ≡ is_taken head time
-  pub taken : after.taken ≡ engine.taken + (if took then 1 else 0)
-
 module _ (system : System) (engine : Engine) (head : Option Arrival) where
   after-quiet : (time : ℕ) (events : List Event) (end : Result Sim TurnEnd) (after : Engine) →
       (let step : Told Sim = record { events = events; end = end } in (step then after_turn engine head time).end ≡ fell_quiet after) → ⊥
@@ -56,6 +49,7 @@ module _ (system : System) (engine : Engine) (head : Option Arrival) where
         next = next;
         at = ap (λ (e : Engine). e.time) (sym after_is);
         takes = sym took_is;
+        counted = ap (λ (e : Engine). e.turn) (sym after_is);
         taken = ap (λ (e : Engine). e.taken) (sym after_is) ∙ ap (λ (b : Bool). engine.taken + (if b then 1 else 0)) took_is;
       }
   after-turned time events (Err why) took after next is = absurd (cc is)

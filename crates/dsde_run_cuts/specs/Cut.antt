@@ -1,11 +1,10 @@
 -- A run that is cut between two turns and goes on later. This project's profile.
-use Rattle.std.specs.Prelude.{ℕ, zero, suc, Bool, if◌then◌else◌, ◌+◌, ◌≡◌, ◌≤◌, ◌⊎◌, max, List, [], ◌∷◌, ◌++◌, Option, Some, None, unwrap_or, Result, Ok, Err}
+use Rattle.std.specs.Prelude.{ℕ, zero, suc, Bool, if◌then◌else◌, ◌+◌, ◌≡◌, ◌≤◌, ◌⊎◌, List, [], ◌∷◌, ◌++◌, Option, Some, None, Result, Ok, Err}
 use Rattle.dsde_values.specs.declared.arrival.Arrival.{Arrival}
 use Rattle.dsde_values.specs.declared.types.Field.{Field}
 use Rattle.dsde_values.specs.declared.types.Types.{Types}
-use Rattle.dsde_input_records.specs.declared.end.InputEnd.{InputEnd}
-use Rattle.dsde_input_records.specs.Lines.{lines}
-use Rattle.dsde_input_records.specs.Records.{Records, end, bad, one, next_number, line_record, before, records_of}
+use Rattle.dsde_input_records.specs.Records.{Records, end, bad, one}
+use Rattle.dsde_input_skip.specs.Skipped.{Unskipped, floored_in, skipped}
 use Rattle.dsde_formalism.specs.System.{System}
 use Rattle.dsde_sim_events.specs.declared.event.Event.{Event}
 use Rattle.dsde_sim_events.specs.declared.event.Event.TheVariants as event
@@ -40,30 +39,10 @@ reached system (suc turns) end engine =
 reached system (suc turns) (one head later) engine =
     stands_on system engine (Some head) (standing engine (one head later)) (λ took_input after. reached system turns (if took_input then later else one head later) after)
 
--- the records of lines, as in a run; but from the record of this number on, none may be before the floor
-abbrev pub records_from : List Field → Types → ℕ → ℕ → List (List ℕ) → ℕ → Option ℕ → Records
-records_from ports types zero floor all number last = records_of ports types floor all number last
-records_from ports types (suc count) floor [] number last = end
-records_from ports types (suc count) floor (line ∷ all) number last =
-    before (line_record ports types (next_number number) (max (unwrap_or last 0) 0) line)
-    (λ arrival. records_from ports types count floor all (next_number number) (Some arrival.time))
-
--- why records cannot be skipped: the first bad line among them, or there are too few
-pub data Unskipped : Type 0 where
-  few : Unskipped
-  offence : InputEnd → Unskipped
-
--- the records behind the first, of which there are so many
-abbrev pub skipped : ℕ → Records → Result Records Unskipped
-skipped zero records = Ok records
-skipped (suc count) end = Err few
-skipped (suc count) (bad why) = Err (offence why)
-skipped (suc count) (one first later) = skipped count later
-
 -- the records that an engine goes on with, which has taken some of them at a time
 abbrev pub records_behind : List Field → Types → List ℕ → Engine → Result Records Unskipped
 records_behind ports types bytes engine =
-    skipped engine.taken (records_from ports types engine.taken engine.time (lines bytes) 0 None)
+    skipped engine.taken (floored_in ports types engine.taken engine.time bytes)
 
 -- A run can go on for so many turns: it was cut by its bound, or fell quiet and goes on for some.
 abbrev pub CanGoOn : Run → ℕ → Type 0

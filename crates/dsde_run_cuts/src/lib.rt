@@ -3,4 +3,4 @@
 
 mod laws;
 
-pub use laws::runs_can_be_cut;
+pub use laws::{runs_can_be_cut, turns_are_taken};

@@ -10,7 +10,7 @@ use Rattle.dsde_input_records.specs.declared.end.InputEnd.TheVariants.{Backwards
 use Rattle.dsde_input_records.specs.Lines.{without_last}
 use Rattle.dsde_input_records.specs.Record.{record_of}
 use Rattle.dsde_input_records.specs.Records.{Records, end, one, next_number, judged, line_record, before, records_of}
-use Rattle.dsde_run_cuts.specs.Cut.{Unskipped, records_from, skipped}
+use Rattle.dsde_input_skip.specs.Skipped.{Unskipped, records_from, skipped}
 
 abbrev Line : Type 0
 Line = Result Arrival InputEnd
