@@ -11,3 +11,4 @@ mod Times
 mod Turning
 mod Running
 mod Arriving
+mod Fitting

@@ -1,5 +1,5 @@
 -- What comes to a model that runs, and that its runs end.
-use Rattle.std.specs.Prelude.{◌≡◌, ℕ, false, List, [], Some, slice_get}
+use Rattle.std.specs.Prelude.{◌≡◌, ℕ, false, List, [], Option, Some, Ok, IfSome, slice_get}
 use Rattle.dsde_syntax.specs.declared.decl.Model.{Model}
 use Rattle.dsde_values.specs.declared.arrival.Arrival.{Arrival}
 use Rattle.dsde_values.specs.declared.arrival.Item.{Item}
@@ -9,6 +9,12 @@ use Rattle.dsde_check_rules.specs.Right.{IsRight}
 use Rattle.dsde_input.specs.Reader.{IsOffence}
 use Rattle.dsde_input_records.specs.Records.{Records, end, bad, one}
 use Rattle.dsde_sim_events.specs.declared.event.Finish.{Finish}
+use Rattle.dsde_sim_starting.specs.Fitting.{FitsTree}
+use Rattle.dsde_sim_tree.specs.declared.sim.Sim.{Sim}
+use Rattle.dsde_sim_tree.specs.Tree.{model_of}
+use Rattle.dsde_sim_turns.specs.declared.step.Step.{Step}
+use Rattle.dsde_sim_turns.specs.Engine.{Engine}
+use Rattle.dsde_sim_turns.specs.Turn.{advance, start}
 use Rattle.dsde_eval_meaning.specs.Typed.{AllSent}
 use Rattle.dsde_run_meaning.specs.Run.{Run, Spots, run, records_in}
 use Rattle.dsde_system.specs.Plans.{ways}
@@ -43,3 +49,19 @@ RunsEnd =
 
 abbrev pub InputsArrive : Type 0
 InputsArrive = (model : Model) (bytes : List ℕ) → IsRight model → AllArrive model (records_in (top_ins model) (types_of model) bytes)
+
+-- An engine has a tree of the program, and its root is of the model that runs.
+pub record FitsEngine (model : Model) (engine : Engine) : Type 0 where
+  pub tree : Sim
+  pub is : engine.tree ≡ Some tree
+  pub fits : FitsTree model tree
+  pub root : model_of tree ≡ top_number model
+
+-- An engine that starts has one, and one that has it keeps it in its next turn, whatever record comes.
+abbrev pub StartFits : Type 0
+StartFits = (model : Model) (engine : Engine) → IsRight model → (start (system model)).end ≡ Ok engine → FitsEngine model engine
+
+abbrev pub AdvanceFits : Type 0
+AdvanceFits =
+    (model : Model) (engine : Engine) (head : Option Arrival) (answer : Step × Engine)
+    → IsRight model → FitsEngine model engine → IfSome head (Arrives model) → (advance (system model) engine head).end ≡ Ok answer → FitsEngine model answer.1

@@ -1,6 +1,6 @@
 //! Laws of whole runs. Each is a call that does nothing.
 
-ghost use Rattle.dsde_sound_runs.specs.Ends.{InputsArrive, RunsEnd};
+ghost use Rattle.dsde_sound_runs.specs.Ends.{AdvanceFits, InputsArrive, RunsEnd, StartFits};
 
 use dsde_input_records::record_is_spelled;
 use dsde_sound_components::{components_are_sure, structures_are_sure, top_is_sure};
@@ -15,6 +15,22 @@ use dsde_values::one_name;
 /// without a fault, which an answer for want of memory could hide behind.
 pub fn runs_end()
     ensures { RunsEnd }
+{
+    components_are_sure();
+    structures_are_sure();
+    top_is_sure();
+    gathered_fits();
+    sent_fits();
+    reach_covers();
+    survivors_keep_their_roles();
+    one_name();
+}
+
+/// A law: of a model in which nothing is wrong an engine that starts has a tree of the program, and keeps
+/// one in each turn.
+pub fn engines_fit()
+    ensures start { StartFits }
+    ensures advance { AdvanceFits }
 {
     components_are_sure();
     structures_are_sure();

@@ -3,4 +3,4 @@
 
 mod laws;
 
-pub use laws::{inputs_arrive, runs_end};
+pub use laws::{engines_fit, inputs_arrive, runs_end};
