@@ -21,9 +21,9 @@ use Rattle.dsde_structure.specs.Survival.{AreInOrder}
 use Rattle.std.specs.List.Sorted.{IsStrictlySortedBy}
 use Rattle.dsde_routes_wiring.specs.Opened.{Beneath}
 use Rattle.dsde_repair_laws.proofs.Counting.{wired-named}
-use Rattle.dsde_repair_laws.proofs.Changes.{changed-chain, kids-there}
+use Rattle.dsde_repair_laws.proofs.Changes.{changed-chain, kids-there, me-after}
 use Rattle.dsde_repair_laws.proofs.Shapes.{KidEach, net-of, changed-each, nets-each}
-use Rattle.dsde_repair_laws.proofs.Repairs.{rows-after, me-after}
+use Rattle.dsde_repair_laws.proofs.Repairs.{rows-after}
 use Rattle.dsde_repair_laws.proofs.Touching.{bound-before, bound-after}
 use Rattle.dsde_repair.proofs.Crossings.{kids-below-wired}
 use Rattle.dsde_repair_walks.specs.Found.{InOrder}

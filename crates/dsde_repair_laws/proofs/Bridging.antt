@@ -1,5 +1,5 @@
 -- Ways with steps, and ways with ranks alone.
-use Rattle.std.proofs.Common.{◌≡◌, ℕ, ◌+◌, ◌≤◌, ◌==◌, ◌&&◌, Bool, true, false, if◌then◌else◌, List, [], ◌∷◌, ◌++◌, map, refl, sym, ap, ap₂, ◌∙◌, subst, arith, zero-add, add-zero, append-nil, append_assoc, eqb-true, eq-eqb, ne_eqb, true≢false, Option, Some, None}
+use Rattle.std.proofs.Common.{◌≡◌, ℕ, ◌+◌, ◌≤◌, ◌==◌, ◌&&◌, Bool, true, false, if◌then◌else◌, List, [], ◌∷◌, ◌++◌, map, refl, sym, ap, ap₂, ◌∙◌, arith, add-zero, append-nil, append_assoc, eqb-true, eq-eqb, ne_eqb, true≢false, Option, Some, None}
 use Rattle.std.proofs.lemmas.List.{map-append}
 use Rattle.std.specs.List.{flat_map, enumerate_from, AllByRecursion}
 use Rattle.std.proofs.lemmas.Cmp.{eq_by_cmp_equiv}
@@ -13,15 +13,15 @@ use Rattle.dsde_structure.specs.declared.plan.Part.{Part}
 use Rattle.dsde_structure.specs.declared.plan.Part.TheVariants as part
 use Rattle.dsde_structure.specs.Gather.{is_same_name, is_part, is_end}
 use Rattle.dsde_routes_wiring.specs.declared.row.Row.{Row}
-use Rattle.dsde_routes_wiring.specs.declared.side.Side.TheVariants.{Out, Into}
+use Rattle.dsde_routes_wiring.specs.declared.side.Side.TheVariants.{Out}
 use Rattle.dsde_routes_wiring.specs.declared.wiring.WiredKid.{WiredKid}
 use Rattle.dsde_routes_wiring.specs.declared.wiring.Wiring.{Wiring}
 use Rattle.dsde_routes_wiring.specs.declared.wiring.WiredKid.TheFolds.{fold-roll-Wiring, fold-roll-WiredKid}
-use Rattle.dsde_routes_wiring.specs.declared.wiring.WiredKid.TheOpen.{Wiring-F, WiredKid-F}
-use Rattle.dsde_routes_wiring.specs.declared.wiring.WiredKid.TheViews.{out-Wiring, out-WiredKid, roll-Wiring, roll-WiredKid, roll-out-Wiring, roll-out-WiredKid}
-use Rattle.dsde_routes_wiring.specs.Routes.{Way, Route, Ways, Around, Inner, Numbered, own, no_ways, step_from, numbered, links_of, around_of, within, extended, met, row_of, rank_of, ways_by, net_ways, at_part, at_end, of_kid, inner_of, inner_of_kid, below_step, routes, routed}
-use Rattle.dsde_routes_wiring.specs.Gathered.{Arrivals, arrived, arriving_by, arriving, ended, at_port, entry, reach_below, reach, kid_reach, gathered}
-use Rattle.dsde_repair_laws.specs.Weights.{weight, weight-append, weight-flat, weight-map, weight-same}
+use Rattle.dsde_routes_wiring.specs.declared.wiring.WiredKid.TheOpen.{Wiring-F}
+use Rattle.dsde_routes_wiring.specs.declared.wiring.WiredKid.TheViews.{out-Wiring, out-WiredKid, roll-WiredKid, roll-out-Wiring, roll-out-WiredKid}
+use Rattle.dsde_routes_wiring.specs.Routes.{Way, Route, Ways, Around, Inner, Numbered, own, no_ways, step_from, numbered, links_of, within, extended, row_of, rank_of, at_part, at_end, of_kid, inner_of, inner_of_kid, below_step, routes, routed}
+use Rattle.dsde_routes_wiring.specs.Gathered.{Arrivals, arrived, arriving_by, arriving, ended, at_port, entry, reach_below, reach, kid_reach}
+use Rattle.dsde_repair_laws.specs.Weights.{weight, weight-append, weight-flat, weight-map}
 use Rattle.dsde_repair_laws.specs.Bounds.{AreNamed}
 use Rattle.dsde_repair_laws.proofs.Opens.{below_inner, inner-is, kid-is}
 use Rattle.dsde_routes_wiring.specs.Opened.{Beneath, each_wiring}

@@ -1,5 +1,5 @@
 -- A wiring that is changed at a place, and changed again there.
-use Rattle.std.proofs.Common.{◌≡◌, ℕ, ◌+◌, Bool, true, false, if◌then◌else◌, List, [], ◌∷◌, ◌++◌, map, refl, sym, ap, ◌∙◌, arith, append_assoc, append-nil, subst, Option, Some, None}
+use Rattle.std.proofs.Common.{◌≡◌, Bool, true, false, if◌then◌else◌, List, [], ◌∷◌, ◌++◌, map, refl, sym, ap, ◌∙◌, append_assoc, append-nil, subst, Option, Some, None}
 use Rattle.std.specs.List.{flat_map}
 use Rattle.dsde_values.specs.declared.name.Name.{Name}
 use Rattle.dsde_structure.specs.declared.plan.Link.{Link}
@@ -124,3 +124,23 @@ kids-given links kids place wiring net is =
     place-after (λ (own : Wiring). (out-Wiring own).kids) (λ _. kids) (renewed links kids)
     (λ x. ap (λ (z : Wiring-F WiredKid Wiring). z.kids) (out-roll-Wiring (record (out-Wiring x) { links = links; kids = kids }))) place wiring
     ∙ place-nets (λ (_ : Wiring). kids) place wiring ∙ ap (flat_map (λ (_ : Wiring). kids)) is ∙ append-nil kids
+
+-- and the networks there are those that it makes of the ones before
+pub nets-given : (f : Wiring → Wiring) (place : List Name) (wiring net : Wiring) → nets_at place wiring ≡ net ∷ [] → nets_at place (changed place f wiring) ≡ f net ∷ []
+nets-given f place wiring net is =
+    place-after (λ own. own ∷ []) (λ own. f own ∷ []) f (λ own. refl) place wiring
+    ∙ place-nets (λ own. f own ∷ []) place wiring ∙ ap (flat_map (λ own. f own ∷ [])) is
+
+-- a change keeps the handle of the whole
+pub me-changed : (f : Wiring → Wiring) → ((own : Wiring) → (out-Wiring (f own)).me ≡ (out-Wiring own).me) → (place : List Name) (wiring : Wiring) → (out-Wiring (changed place f wiring)).me ≡ (out-Wiring wiring).me
+me-changed f keeps [] wiring = keeps wiring
+me-changed f keeps (name ∷ place) wiring = ap (λ (z : Wiring-F WiredKid Wiring). z.me) (out-roll-Wiring (record (out-Wiring wiring) { kids = map (kid_changed name (changed place f)) (out-Wiring wiring).kids }))
+
+pub me-renewed : (links : List Link) (kids : List WiredKid) (wiring : Wiring) → (out-Wiring (renewed links kids wiring)).me ≡ (out-Wiring wiring).me
+me-renewed links kids wiring = ap (λ (z : Wiring-F WiredKid Wiring). z.me) (out-roll-Wiring (record (out-Wiring wiring) { links = links; kids = kids }))
+
+pub me-bared : (wiring : Wiring) → (out-Wiring (bared wiring)).me ≡ (out-Wiring wiring).me
+me-bared wiring = ap (λ (z : Wiring-F WiredKid Wiring). z.me) (out-roll-Wiring (record (out-Wiring wiring) { links = []; kids = [] }))
+
+pub me-after : (place : List Name) (links : List Link) (kids : List WiredKid) (wiring : Wiring) → (out-Wiring (changed place (renewed links kids) wiring)).me ≡ (out-Wiring wiring).me
+me-after place links kids wiring = me-changed (renewed links kids) (me-renewed links kids) place wiring

@@ -1,9 +1,8 @@
 -- Items that are distinct stand at most once, and so a wiring whose networks have their components in order has each name once.
-use Rattle.std.proofs.Common.{◌≡◌, ℕ, ◌+◌, ◌≤◌, ◌==◌, ◌&&◌, Bool, true, false, if◌then◌else◌, List, [], ◌∷◌, map, refl, sym, ap, ap₂, ◌∙◌, subst, arith, eqb-true, eq-eqb, rules}
+use Rattle.std.proofs.Common.{◌≡◌, ◌+◌, ◌≤◌, ◌==◌, ◌&&◌, Bool, true, false, if◌then◌else◌, List, [], ◌∷◌, map, refl, sym, ap, ◌∙◌, subst, arith, eqb-true, eq-eqb, rules}
 use Rattle.std.specs.Cmp.{IsTotalOrder, IsEquivalence}
 use Rattle.std.specs.Cmp.Rules.{comparing}
 use Rattle.std.specs.List.{AllByRecursion, IsDistinct}
-use Rattle.std.specs.List.Sorted.{IsStrictlySortedBy}
 use Rattle.std.proofs.lemmas.Cmp.{eq_by_cmp_equiv}
 use Rattle.std.proofs.lemmas.Map.Keys.{IsDistinct-head, IsDistinct-tail, IsDistinct-from_sorted}
 use Rattle.dsde_bank.specs.declared.handle.Handle.{Handle}
@@ -13,7 +12,7 @@ use Rattle.dsde_structure.specs.Gather.{is_same_name}
 use Rattle.dsde_structure.specs.Survival.{AreInOrder}
 use Rattle.dsde_routes_wiring.specs.declared.wiring.Wiring.{Wiring}
 use Rattle.dsde_routes_wiring.specs.Wired.{Shape, shapes, is_same_handle, IsWired, AreWired}
-use Rattle.dsde_repair_laws.specs.Weights.{weight, weight-same}
+use Rattle.dsde_repair_laws.specs.Weights.{weight-same}
 use Rattle.dsde_repair_laws.specs.Bounds.{count, counted, AreDistinct, OneEach, IsNamed, AreNamed}
 use Rattle.dsde_repair_laws.proofs.Each.{each-weaker}
 

@@ -1,5 +1,5 @@
 -- No two routes to one port have one rank, and so no two routes are one row.
-use Rattle.std.proofs.Common.{◌≡◌, ℕ, suc, ◌+◌, ◌≤◌, ◌<◌, ◌==◌, ◌&&◌, Bool, true, false, if◌then◌else◌, List, [], ◌∷◌, ◌++◌, map, refl, sym, ap, ap₂, ◌∙◌, subst, arith, zero-add, add-zero, Option, Some, None, eqb-true, ne_eqb, lt_irrefl, le_refl}
+use Rattle.std.proofs.Common.{◌≡◌, ℕ, ◌+◌, ◌≤◌, ◌<◌, ◌==◌, ◌&&◌, Bool, true, false, if◌then◌else◌, List, [], ◌∷◌, map, refl, sym, ap, ◌∙◌, subst, arith, zero-add, add-zero, Option, Some, None, eqb-true, ne_eqb, lt_irrefl, le_refl}
 use Rattle.std.specs.List.{flat_map, AllByRecursion, enumerate_from}
 use Rattle.dsde_bank.specs.declared.handle.Handle.{Handle}
 use Rattle.dsde_values.specs.declared.name.Name.{Name}
@@ -8,27 +8,23 @@ use Rattle.dsde_structure.specs.declared.plan.Link.{Link}
 use Rattle.dsde_structure.specs.declared.plan.Part.{Part}
 use Rattle.dsde_structure.specs.declared.plan.Part.TheVariants as part
 use Rattle.dsde_structure.specs.Gather.{is_same_name, is_part}
-use Rattle.dsde_routes_wiring.specs.declared.side.Side.{Side}
-use Rattle.dsde_routes_wiring.specs.declared.side.Side.TheVariants.{Out, Into}
+use Rattle.dsde_routes_wiring.specs.declared.side.Side.TheVariants.{Out}
 use Rattle.dsde_routes_wiring.specs.declared.wiring.WiredKid.{WiredKid}
 use Rattle.dsde_routes_wiring.specs.declared.wiring.Wiring.{Wiring}
-use Rattle.dsde_routes_wiring.specs.declared.wiring.WiredKid.TheFolds.{fold-roll-Wiring, fold-roll-WiredKid}
-use Rattle.dsde_routes_wiring.specs.declared.wiring.WiredKid.TheOpen.{Wiring-F, WiredKid-F}
-use Rattle.dsde_routes_wiring.specs.declared.wiring.WiredKid.TheViews.{out-Wiring, out-WiredKid, roll-Wiring, roll-WiredKid, roll-out-Wiring, roll-out-WiredKid}
-use Rattle.dsde_routes_wiring.specs.Side.{near, far}
-use Rattle.dsde_routes_wiring.specs.Routes.{Step, Way, Route, Ways, Around, Inner, Numbered, step_from, rank_of, own, no_ways, links_of, numbered, around_of, within, is_border, extended, ways_by, net_ways, routes, at_part, at_end, of_kid, inner_of, inner_of_kid, below_step}
-use Rattle.dsde_routes_wiring.specs.Gathered.{Arrivals, arrived, arriving_by, arriving, ended, at_port, entry, reach_below, reach, kid_reach, gathered}
+use Rattle.dsde_routes_wiring.specs.declared.wiring.WiredKid.TheOpen.{Wiring-F}
+use Rattle.dsde_routes_wiring.specs.declared.wiring.WiredKid.TheViews.{out-Wiring, out-WiredKid}
+use Rattle.dsde_routes_wiring.specs.Routes.{Way, Route, Ways, Around, Inner, Numbered, step_from, rank_of, own, no_ways, links_of, numbered, within, is_border, extended, ways_by, net_ways, routes, at_part, at_end, of_kid, inner_of, inner_of_kid, below_step}
+use Rattle.dsde_routes_wiring.specs.Gathered.{Arrivals, arrived, arriving_by, arriving, ended, at_port, entry, reach_below, reach, kid_reach}
 use Rattle.dsde_routes_wiring.specs.Wired.{is_same_handle, Wired}
 use Rattle.dsde_routes_wiring.specs.Touched.{handles_of, handles_of_kid}
 use Rattle.dsde_routes_wiring.specs.Keys.{is_same_rank, has_key}
-use Rattle.dsde_repair_laws.specs.Weights.{weight, weight-append, weight-flat, weight-map, weight-same, weight-adds, weight-zero}
+use Rattle.dsde_repair_laws.specs.Weights.{weight, weight-append, weight-flat, weight-map, weight-same, weight-zero}
 use Rattle.dsde_repair_laws.specs.Bounds.{counted, count, IsNamed, AreNamed}
 use Rattle.dsde_repair_laws.proofs.Opens.{below_inner, inner-is, kid-is}
 use Rattle.dsde_routes_wiring.specs.Opened.{Beneath, each_wiring}
 use Rattle.dsde_repair_laws.proofs.Handles.{below_known, handles-is, kid-handles}
 use Rattle.dsde_repair_laws.proofs.Gathers.{below_reach, kid-reach-is, entered, reach-opened, routes-gathered}
 use Rattle.dsde_repair_laws.proofs.Shapes.{wired_of, net-here, net-below}
-use Rattle.dsde_repair_laws.proofs.Each.{each-front, each-back, each-pieces, each-weaker}
 
 pub weight-le : {X : Type 0} (f g : X → ℕ) → ((x : X) → f x ≤ g x) → (xs : List X) → weight f xs ≤ weight g xs
 weight-le f g le [] = omega arith

@@ -1,5 +1,5 @@
 -- Facts of each item of lists.
-use Rattle.std.proofs.Common.{◌≡◌, ℕ, ◌+◌, Bool, true, false, ◌||◌, if◌then◌else◌, List, [], ◌∷◌, ◌++◌, map, refl}
+use Rattle.std.proofs.Common.{◌≡◌, Bool, true, false, cond, ◌||◌, if◌then◌else◌, List, [], ◌∷◌, ◌++◌, map, filter, refl, ap, ◌∙◌}
 use Rattle.std.specs.List.{flat_map, AllByRecursion, list_any}
 
 pub each-append : {X : Type 0} (P : X → Type 0) (xs ys : List X) → AllByRecursion P xs → AllByRecursion P ys → AllByRecursion P (xs ++ ys)
@@ -38,6 +38,13 @@ pub each-pieces : {X Y : Type 0} (P : Y → Type 0) (f : X → List Y) (xs : Lis
 each-pieces P f [] each = tt
 each-pieces P f (x ∷ xs) each = (each-front P (f x) (flat_map f xs) each, each-pieces P f xs (each-back P (f x) (flat_map f xs) each))
 
+pub each-filter : {X : Type 0} (P : X → Type 0) (test : X → Bool) (xs : List X) → AllByRecursion P xs → AllByRecursion P (filter test xs)
+each-filter P test [] each = tt
+each-filter P test (x ∷ xs) each = by (test x) (each-filter P test xs each.1) where
+  by : (b : Bool) → AllByRecursion P (filter test xs) → AllByRecursion P (cond b (x ∷ filter test xs) (filter test xs))
+  by true others = (each.0, others)
+  by false others = others
+
 -- whether any of two lists passes
 pub any-left : {X : Type 0} (test : X → Bool) (xs ys : List X) → list_any test xs ≡ true → list_any test (xs ++ ys) ≡ true
 any-left test [] ys is = cc
@@ -61,3 +68,13 @@ any-head test x xs is = by (test x) is where
 
 pub any-tail : {X : Type 0} (test : X → Bool) (x : X) (xs : List X) → list_any test xs ≡ true → list_any test (x ∷ xs) ≡ true
 any-tail test x xs is = any-right test (x ∷ []) xs is
+
+pub none-head : {X : Type 0} (test : X → Bool) (x : X) (xs : List X) → test x ≡ false → list_any test xs ≡ false → list_any test (x ∷ xs) ≡ false
+none-head test x xs is none = ap (λ (b : Bool). b || list_any test xs) is ∙ none
+
+pub none-append : {X : Type 0} (test : X → Bool) (xs ys : List X) → list_any test xs ≡ false → list_any test ys ≡ false → list_any test (xs ++ ys) ≡ false
+none-append test [] ys first later = later
+none-append test (x ∷ xs) ys first later = by (test x) first (none-append test xs ys) where
+  by : (b : Bool) → b || list_any test xs ≡ false → (list_any test xs ≡ false → list_any test ys ≡ false → list_any test (xs ++ ys) ≡ false) → b || list_any test (xs ++ ys) ≡ false
+  by true h others = h
+  by false h others = others h later

@@ -1,5 +1,5 @@
 -- Routes that are put together where they cross over are those that are gathered from their targets.
-use Rattle.std.proofs.Common.{◌≡◌, ℕ, ◌+◌, ◌==◌, ◌&&◌, Bool, true, false, if◌then◌else◌, List, [], ◌∷◌, ◌++◌, map, refl, sym, ap, ap₂, ◌∙◌, subst, arith, zero-add, add-zero, append_assoc, append-nil, Option, Some, None}
+use Rattle.std.proofs.Common.{◌≡◌, ℕ, ◌+◌, ◌==◌, ◌&&◌, Bool, true, false, if◌then◌else◌, List, [], ◌∷◌, ◌++◌, map, refl, sym, ap, ap₂, ◌∙◌, arith, zero-add, add-zero, append_assoc, Option, Some, None}
 use Rattle.std.specs.List.{flat_map, AllByRecursion}
 use Rattle.std.specs.Option.{option_to_list}
 use Rattle.dsde_bank.specs.declared.handle.Handle.{Handle}
@@ -9,16 +9,14 @@ use Rattle.dsde_structure.specs.declared.plan.Part.{Part}
 use Rattle.dsde_structure.specs.declared.plan.Part.TheVariants as part
 use Rattle.dsde_structure.specs.declared.plan.Via.{Via}
 use Rattle.dsde_structure.specs.Gather.{is_same_name, is_part}
-use Rattle.dsde_routes_wiring.specs.declared.side.Side.{Side}
 use Rattle.dsde_routes_wiring.specs.declared.side.Side.TheVariants.{Out, Into}
 use Rattle.dsde_routes_wiring.specs.declared.wiring.WiredKid.{WiredKid}
 use Rattle.dsde_routes_wiring.specs.declared.wiring.Wiring.{Wiring}
 use Rattle.dsde_routes_wiring.specs.declared.wiring.WiredKid.TheFolds.{para-roll-Wiring, para-roll-WiredKid}
 use Rattle.dsde_routes_wiring.specs.declared.wiring.WiredKid.TheOpen.{Wiring-F, WiredKid-F}
-use Rattle.dsde_routes_wiring.specs.declared.wiring.WiredKid.TheViews.{out-Wiring, out-WiredKid, roll-Wiring, roll-WiredKid, roll-out-Wiring, roll-out-WiredKid}
-use Rattle.dsde_routes_wiring.specs.Side.{near, far}
-use Rattle.dsde_routes_wiring.specs.Routes.{Step, Way, Route, Ways, Around, Inner, Numbered, own, no_ways, links_of, numbered, around_of, within, is_border, extended, met, crossed, crossed_by, crossing, ways_by, net_ways, routes_in, routes_by, routes, at_part, at_end, of_kid, inner_of, inner_of_kid, inner_net, below_step}
-use Rattle.dsde_routes_wiring.specs.Gathered.{Arrivals, arrived, arriving_by, arriving, ended, at_port, entry, NetReach, KidReach, reach_net, reach_below, reach_of_net, reach_of_kid, reach, kid_reach, gathered}
+use Rattle.dsde_routes_wiring.specs.declared.wiring.WiredKid.TheViews.{out-Wiring, out-WiredKid, roll-WiredKid, roll-out-Wiring, roll-out-WiredKid}
+use Rattle.dsde_routes_wiring.specs.Routes.{Step, Way, Route, Around, Inner, Numbered, own, no_ways, links_of, around_of, within, extended, met, crossed, crossed_by, crossing, ways_by, net_ways, routes_in, routes, at_part, at_end, of_kid, inner_of, inner_of_kid, below_step}
+use Rattle.dsde_routes_wiring.specs.Gathered.{Arrivals, arriving_by, arriving, ended, at_port, entry, NetReach, KidReach, reach_net, reach_below, reach_of_net, reach_of_kid, reach, kid_reach, gathered}
 use Rattle.dsde_repair_laws.specs.Weights.{weight, weight-append, weight-flat, weight-map, weight-same, weight-adds, weight-zero, weight-swap}
 use Rattle.dsde_repair_laws.proofs.Opens.{below_inner, inner-is, kid-is}
 use Rattle.dsde_repair_laws.proofs.Adding.{crossed_passing, AddsAround, rows-add, crossed-weight}

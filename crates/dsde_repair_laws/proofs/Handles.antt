@@ -1,11 +1,8 @@
 -- The handles of a wiring: those of its routes, and how a change changes them.
-use Rattle.std.proofs.Common.{◌≡◌, ℕ, ◌+◌, ◌≤◌, Bool, true, false, ◌&&◌, ◌||◌, not, ap₂, eq-eqb, if◌then◌else◌, List, [], ◌∷◌, ◌++◌, map, refl, sym, ap, ◌∙◌, subst, arith, zero-add, Option, Some, None}
-use Rattle.std.specs.List.{flat_map, AllByRecursion, list_any}
+use Rattle.std.proofs.Common.{◌≡◌, ℕ, ◌+◌, Bool, true, false, ◌&&◌, ap₂, eq-eqb, if◌then◌else◌, List, [], ◌∷◌, ◌++◌, map, refl, sym, ap, ◌∙◌, subst, arith, zero-add, Option, Some, None}
+use Rattle.std.specs.List.{flat_map, AllByRecursion}
 use Rattle.dsde_bank.specs.declared.handle.Handle.{Handle}
 use Rattle.dsde_values.specs.declared.name.Name.{Name}
-use Rattle.dsde_structure.specs.declared.plan.End.{End}
-use Rattle.dsde_structure.specs.declared.plan.Part.{Part}
-use Rattle.dsde_structure.specs.declared.plan.Part.TheVariants as part
 use Rattle.dsde_structure.specs.Gather.{is_same_name}
 use Rattle.dsde_routes_wiring.specs.declared.side.Side.{Side}
 use Rattle.dsde_routes_wiring.specs.declared.side.Side.TheVariants.{Out, Into}
@@ -13,16 +10,16 @@ use Rattle.dsde_routes_wiring.specs.declared.wiring.WiredKid.{WiredKid}
 use Rattle.dsde_routes_wiring.specs.declared.wiring.Wiring.{Wiring}
 use Rattle.dsde_routes_wiring.specs.declared.wiring.WiredKid.TheFolds.{fold-roll-Wiring, fold-roll-WiredKid}
 use Rattle.dsde_routes_wiring.specs.declared.wiring.WiredKid.TheOpen.{Wiring-F, WiredKid-F}
-use Rattle.dsde_routes_wiring.specs.declared.wiring.WiredKid.TheViews.{out-Wiring, out-WiredKid, roll-Wiring, roll-WiredKid, roll-out-Wiring, roll-out-WiredKid, out-roll-Wiring, out-roll-WiredKid}
-use Rattle.dsde_routes_wiring.specs.Side.{near, far}
-use Rattle.dsde_routes_wiring.specs.Routes.{Way, Route, Around, Inner, Numbered, links_of, around_of, within, no_ways, is_border, extended, met, crossed, crossed_by, crossing, ways_by, net_ways, routes_in, at_part, at_end, of_kid, inner_of, inner_of_kid, inner_net, below_step}
+use Rattle.dsde_routes_wiring.specs.declared.wiring.WiredKid.TheViews.{out-Wiring, out-WiredKid, roll-Wiring, roll-WiredKid, roll-out-Wiring, roll-out-WiredKid}
+use Rattle.dsde_routes_wiring.specs.Routes.{Way, Route, Ways, Inner, Numbered, links_of, within, extended, met, routes_by, routes_in, inner_of, inner_of_kid, inner_net, below_step}
 use Rattle.dsde_routes_wiring.specs.Places.{changed, kid_changed, below_changed, bared, kids_at, kid_at, below_at, inside}
 use Rattle.dsde_routes_wiring.specs.Wired.{is_same_handle}
-use Rattle.dsde_routes_wiring.specs.Touched.{knows, kid_handles, net_handles, below_handles, handles_of, handles_of_kid}
-use Rattle.dsde_repair_laws.specs.Weights.{weight, weight-append, weight-flat, weight-map}
+use Rattle.dsde_routes_wiring.specs.Touched.{knows, kid_handles, net_handles, handles_of, handles_of_kid}
+use Rattle.dsde_repair_laws.specs.Weights.{weight, weight-append, weight-flat}
 use Rattle.dsde_repair_laws.proofs.Opens.{below_inner, inner-is, kid-is}
 use Rattle.dsde_routes_wiring.specs.Opened.{Beneath, each_wiring}
-use Rattle.dsde_repair_laws.proofs.Each.{each-append, each-flat, each-of, each-weaker, each-map, each-if, any-left, any-right, any-head, any-tail}
+use Rattle.dsde_repair_laws.proofs.Each.{each-flat, each-of, each-weaker, any-left, any-right, any-head, any-tail}
+use Rattle.dsde_repair_laws.proofs.Keeping.{Keeps, routes-keep, net-keeps}
 
 flat-map-id : {X Y : Type 0} (f : X → List Y) (xs : List X) → flat_map (λ ys. ys) (map f xs) ≡ flat_map f xs
 flat-map-id f [] = refl
@@ -101,74 +98,62 @@ handles-split (name ∷ place) g wiring =
     ∙ two (g y.me) (g y.boss) (weight g (flat_map handles_of_kid y.kids)) _ _ (kids-splits name place (handles-split place) g y.kids)
     ∙ ap (λ handles. weight g handles + weight g (flat_map handles_of_kid (kids_at (name ∷ place) wiring))) (sym (handles-roll (record y { kids = map (kid_changed name (changed place bared)) y.kids })))
 
--- a part whose routes have known handles
-pub record IsKnown (handles : List Handle) (inner : Inner) : Type 0 where
-  pub ways : (side : Side) (port : ℕ) → AllByRecursion (λ way. knows handles way.handle ≡ true) (inner.ways side port)
-  pub routes : AllByRecursion (λ route. (knows handles route.source ≡ true) × (knows handles route.target ≡ true)) inner.routes
+-- a part whose ways and routes have known handles
+abbrev pub WayKnown : List Handle → Way → Type 0
+WayKnown handles way = knows handles way.handle ≡ true
 
-abbrev Wider : List Handle → List Handle → Type 0
+abbrev pub RouteKnown : List Handle → Route → Type 0
+RouteKnown handles route = (knows handles route.source ≡ true) × (knows handles route.target ≡ true)
+
+abbrev IsKnown : List Handle → Inner → Type 0
+IsKnown handles inner = Keeps (WayKnown handles) (RouteKnown handles) inner
+
+abbrev pub Wider : List Handle → List Handle → Type 0
 Wider handles others = (handle : Handle) → knows handles handle ≡ true → knows others handle ≡ true
+
+pub route-wider : (handles others : List Handle) → Wider handles others → (own_routes : List Route) → AllByRecursion (RouteKnown handles) own_routes → AllByRecursion (RouteKnown others) own_routes
+route-wider handles others wider own_routes known = each-weaker (RouteKnown handles) (RouteKnown others) (λ route is. (wider route.source is.0, wider route.target is.1)) own_routes known
 
 known-wider : (handles others : List Handle) (inner : Inner) → Wider handles others → IsKnown handles inner → IsKnown others inner
 known-wider handles others inner wider known = record {
-  ways = λ side port. each-weaker _ _ (λ way is. wider way.handle is) (inner.ways side port) (known.ways side port);
-  routes = each-weaker _ _ (λ route is. (wider route.source is.0, wider route.target is.1)) inner.routes known.routes;
+  ways = λ side port. each-weaker (WayKnown handles) (WayKnown others) (λ way is. wider way.handle is) (inner.ways side port) (known.ways side port);
+  routes = route-wider handles others wider inner.routes known.routes;
 }
 
 pub same-self : (handle : Handle) → is_same_handle handle handle ≡ true
 same-self handle = ap₂ (λ (a b : Bool). a && b) (eq-eqb handle.birth handle.birth refl) (eq-eqb handle.slot handle.slot refl)
 
 module _ (handles : List Handle) where
-  abbrev WayKnown : Way → Type 0
-  WayKnown way = knows handles way.handle ≡ true
+  abbrev AnyLink : Numbered → Type 0
+  AnyLink link = Unit {0}
 
-  abbrev RouteKnown : Route → Type 0
-  RouteKnown route = (knows handles route.source ≡ true) × (knows handles route.target ≡ true)
+  any-links : (links : List Numbered) → AllByRecursion AnyLink links
+  any-links links = each-of AnyLink (λ link. tt) links
 
-  abbrev AllKnown : Around → Type 0
-  AllKnown around = (side : Side) (end : End) → AllByRecursion WayKnown (at_end side around end)
+  goes-on : (side : Side) (link : Numbered) (way : Way) → AnyLink link → WayKnown handles way → WayKnown handles (extended side link way)
+  goes-on Out link way any is = is
+  goes-on Into link way any is = is
 
-  extended-known : (side : Side) (link : Numbered) (way : Way) → WayKnown way → WayKnown (extended side link way)
-  extended-known Out link way is = is
-  extended-known Into link way is = is
-
-  ways-known : (around : Around) → AllKnown around → (links : List Numbered) (side : Side) (port : ℕ) → AllByRecursion WayKnown (net_ways around links side port)
-  ways-known around all links side port =
-      each-flat WayKnown (ways_by side around port) links
-      (each-of _ (λ link. each-if WayKnown (is_border port (near side link.1)) (map (extended side link) (at_end side around (far side link.1))) (each-map WayKnown (extended side link) (at_end side around (far side link.1)) (each-weaker WayKnown _ (λ way is. extended-known side link way is) (at_end side around (far side link.1)) (all side (far side link.1))))) links)
-
-  crossing-known : (around : Around) → AllKnown around → (links : List Numbered) → AllByRecursion RouteKnown (crossing around links)
-  crossing-known around all links =
-      each-flat RouteKnown (crossed_by around) links
-      (each-of _ (λ link. each-flat RouteKnown (λ before. map (λ after. met (extended Out link before) after) (at_end Into around link.1.to)) (at_end Out around link.1.from)
-      (each-weaker WayKnown _ (λ before is. each-map RouteKnown (λ after. met (extended Out link before) after) (at_end Into around link.1.to)
-      (each-weaker WayKnown _ (λ after also. (is, also)) (at_end Into around link.1.to) (all Into link.1.to))) (at_end Out around link.1.from) (all Out link.1.from))) links)
+  meets : (before after : Way) → WayKnown handles before → WayKnown handles after → RouteKnown handles (met before after)
+  meets before after is also = (is, also)
 
   abbrev KidKnown : Name × Inner → Type 0
   KidKnown kid = IsKnown handles kid.1
 
-  around-known : (boss : Handle) (kids : List (Name × Inner)) → knows handles boss ≡ true → AllByRecursion KidKnown kids → AllKnown (within no_ways boss kids)
-  around-known boss kids is known side end = by end.part where
-    by : (own_part : Part) → AllByRecursion WayKnown (at_part side (within no_ways boss kids) own_part end.port)
-    by part.Net = tt
-    by part.Boss = (is, tt)
-    by (part.Kid wanted) = each-flat WayKnown (of_kid side wanted end.port) kids
-        (each-weaker KidKnown (λ (kid : Name × Inner). AllByRecursion WayKnown (of_kid side wanted end.port kid)) (λ kid own. each-if WayKnown (is_same_name kid.0 wanted) (kid.1.ways side end.port) (own.ways side end.port)) kids known)
-
   net-known : (boss : Handle) (kids : List (Name × Inner)) (links : List Numbered) → knows handles boss ≡ true → AllByRecursion KidKnown kids → IsKnown handles (inner_net boss kids links)
-  net-known boss kids links is known =
-      let around : Around = within no_ways boss kids in
-      let all : AllKnown around = around-known boss kids is known in
-      record {
-        ways = ways-known around all links;
-        routes = each-append RouteKnown (crossing around links) (flat_map (λ (kid : Name × Inner). kid.1.routes) kids) (crossing-known around all links)
-            (each-flat RouteKnown (λ (kid : Name × Inner). kid.1.routes) kids (each-weaker KidKnown (λ (kid : Name × Inner). AllByRecursion RouteKnown kid.1.routes) (λ kid own. own.routes) kids known));
-      }
+  net-known boss kids links is known = net-keeps (WayKnown handles) (RouteKnown handles) AnyLink goes-on meets boss kids links (λ side port. (is, tt)) known (any-links links)
+
+  around-known : (net : Ways) (boss : Handle) (kids : List (Name × Inner)) (links : List Numbered) → ((side : Side) (port : ℕ) → AllByRecursion (WayKnown handles) (net side port)) → knows handles boss ≡ true → AllByRecursion KidKnown kids →
+      AllByRecursion (RouteKnown handles) (routes_by (within net boss kids) links)
+  around-known net boss kids links outside is known = routes-keep (WayKnown handles) (RouteKnown handles) AnyLink goes-on meets net boss kids links outside (λ side port. (is, tt)) known (any-links links)
 
 abbrev Known : Wiring → Type 0
 Known wiring = IsKnown (handles_of wiring) (inner_of wiring)
 
-kid-known : (kid : WiredKid) → Beneath Known (out-WiredKid kid).below → IsKnown (handles_of_kid kid) (inner_of_kid kid).1
+abbrev BelowKnown : WiredKid → Type 0
+BelowKnown kid = Beneath Known (out-WiredKid kid).below
+
+kid-known : (kid : WiredKid) → BelowKnown kid → IsKnown (handles_of_kid kid) (inner_of_kid kid).1
 kid-known kid known =
     let y : WiredKid-F WiredKid Wiring = out-WiredKid kid in
     subst (λ handles. IsKnown handles (inner_of_kid kid).1) (sym (kid-handles kid))
@@ -178,36 +163,57 @@ kid-known kid known =
     by None own = record { ways = λ side port. (any-head (is_same_handle (out-WiredKid kid).handle) (out-WiredKid kid).handle [] (same-self (out-WiredKid kid).handle), tt); routes = tt }
     by (Some wiring) own = own
 
-kids-known : (handles : List Handle) (kids : List WiredKid) → Wider (flat_map handles_of_kid kids) handles → AllByRecursion (λ kid. Beneath Known (out-WiredKid kid).below) kids → AllByRecursion (KidKnown handles) (map inner_of_kid kids)
+kids-known : (handles : List Handle) (kids : List WiredKid) → Wider (flat_map handles_of_kid kids) handles → AllByRecursion BelowKnown kids → AllByRecursion (KidKnown handles) (map inner_of_kid kids)
 kids-known handles [] wider known = tt
 kids-known handles (kid ∷ kids) wider known = (
   known-wider (handles_of_kid kid) handles (inner_of_kid kid).1 (λ handle is. wider handle (any-left (is_same_handle handle) (handles_of_kid kid) (flat_map handles_of_kid kids) is)) (kid-known kid known.0),
   kids-known handles kids (λ handle is. wider handle (any-right (is_same_handle handle) (handles_of_kid kid) (flat_map handles_of_kid kids) is)) known.1,
 )
 
--- all routes inside a wiring have its handles
-pub inner-known : (wiring : Wiring) → Known wiring
-inner-known = each_wiring Known (λ wiring known.
+-- a wiring knows its own handle, that of its executive, and those of its components
+pub me-known : (wiring : Wiring) → knows (handles_of wiring) (out-Wiring wiring).me ≡ true
+me-known wiring =
     let y : Wiring-F WiredKid Wiring = out-Wiring wiring in
-    let handles : List Handle = y.me ∷ y.boss ∷ flat_map handles_of_kid y.kids in
-    subst (λ own. IsKnown own (inner_of wiring)) (sym (handles-is wiring)) (subst (IsKnown handles) (sym (inner-is wiring))
-    (net-known handles y.boss (map inner_of_kid y.kids) (links_of wiring)
+    subst (λ handles. knows handles y.me ≡ true) (sym (handles-is wiring)) (any-head (is_same_handle y.me) y.me (y.boss ∷ flat_map handles_of_kid y.kids) (same-self y.me))
+
+boss-known : (wiring : Wiring) → knows (handles_of wiring) (out-Wiring wiring).boss ≡ true
+boss-known wiring =
+    let y : Wiring-F WiredKid Wiring = out-Wiring wiring in
+    subst (λ handles. knows handles y.boss ≡ true) (sym (handles-is wiring))
     (any-tail (is_same_handle y.boss) y.me (y.boss ∷ flat_map handles_of_kid y.kids) (any-head (is_same_handle y.boss) y.boss (flat_map handles_of_kid y.kids) (same-self y.boss)))
-    (kids-known handles y.kids (λ handle is. any-tail (is_same_handle handle) y.me (y.boss ∷ flat_map handles_of_kid y.kids) (any-tail (is_same_handle handle) y.boss (flat_map handles_of_kid y.kids) is)) known))))
+
+kids-wider : (wiring : Wiring) → Wider (flat_map handles_of_kid (out-Wiring wiring).kids) (handles_of wiring)
+kids-wider wiring handle is =
+    let y : Wiring-F WiredKid Wiring = out-Wiring wiring in
+    subst (λ handles. knows handles handle ≡ true) (sym (handles-is wiring))
+    (any-tail (is_same_handle handle) y.me (y.boss ∷ flat_map handles_of_kid y.kids) (any-tail (is_same_handle handle) y.boss (flat_map handles_of_kid y.kids) is))
+
+-- all routes inside a wiring have its handles
+inner-known : (wiring : Wiring) → Known wiring
+inner-known = each_wiring Known (λ wiring known.
+    subst (IsKnown (handles_of wiring)) (sym (inner-is wiring))
+    (net-known (handles_of wiring) (out-Wiring wiring).boss (map inner_of_kid (out-Wiring wiring).kids) (links_of wiring) (boss-known wiring) (kids-known (handles_of wiring) (out-Wiring wiring).kids (kids-wider wiring) known)))
+
+each-known : (kids : List WiredKid) → AllByRecursion BelowKnown kids
+each-known kids = each-of BelowKnown (λ kid. by (out-WiredKid kid).below) kids where
+  by : (below : Option Wiring) → Beneath Known below
+  by None = tt
+  by (Some wiring) = inner-known wiring
+
+-- and so do those where ways outside begin and end at known handles
+pub open-known : (net : Ways) (wiring : Wiring) → ((side : Side) (port : ℕ) → AllByRecursion (WayKnown (handles_of wiring)) (net side port)) → AllByRecursion (RouteKnown (handles_of wiring)) (routes_in net wiring)
+open-known net wiring outside =
+    around-known (handles_of wiring) net (out-Wiring wiring).boss (map inner_of_kid (out-Wiring wiring).kids) (links_of wiring) outside (boss-known wiring)
+    (kids-known (handles_of wiring) (out-Wiring wiring).kids (kids-wider wiring) (each-known (out-Wiring wiring).kids))
 
 -- of components
-pub inside-known : (kids : List WiredKid) → AllByRecursion (λ route. knows (flat_map handles_of_kid kids) route.source ≡ true) (inside kids)
+pub inside-known : (kids : List WiredKid) → AllByRecursion (RouteKnown (flat_map handles_of_kid kids)) (inside kids)
 inside-known kids =
-    let handles : List Handle = flat_map handles_of_kid kids in
-    each-flat (λ (route : Route). knows handles route.source ≡ true) (λ kid. (inner_of_kid kid).1.routes) kids (by kids (λ handle is. is))
+    each-flat (RouteKnown (flat_map handles_of_kid kids)) (λ kid. (inner_of_kid kid).1.routes) kids (by kids (λ handle is. is) (each-known kids))
   where
-    below : (below : Option Wiring) → Beneath Known below
-    below None = tt
-    below (Some wiring) = inner-known wiring
-
-    by : (own : List WiredKid) → Wider (flat_map handles_of_kid own) (flat_map handles_of_kid kids) → AllByRecursion (λ kid. AllByRecursion (λ (route : Route). knows (flat_map handles_of_kid kids) route.source ≡ true) (inner_of_kid kid).1.routes) own
-    by [] wider = tt
-    by (kid ∷ others) wider = (
-      each-weaker _ _ (λ route is. wider route.source (any-left (is_same_handle route.source) (handles_of_kid kid) (flat_map handles_of_kid others) is.0)) (inner_of_kid kid).1.routes (kid-known kid (below (out-WiredKid kid).below)).routes,
-      by others (λ handle is. wider handle (any-right (is_same_handle handle) (handles_of_kid kid) (flat_map handles_of_kid others) is)),
+    by : (own_kids : List WiredKid) → Wider (flat_map handles_of_kid own_kids) (flat_map handles_of_kid kids) → AllByRecursion BelowKnown own_kids → AllByRecursion (λ kid. AllByRecursion (RouteKnown (flat_map handles_of_kid kids)) (inner_of_kid kid).1.routes) own_kids
+    by [] wider known = tt
+    by (kid ∷ others) wider known = (
+      route-wider (handles_of_kid kid) (flat_map handles_of_kid kids) (λ handle is. wider handle (any-left (is_same_handle handle) (handles_of_kid kid) (flat_map handles_of_kid others) is)) (inner_of_kid kid).1.routes (kid-known kid known.0).routes,
+      by others (λ handle is. wider handle (any-right (is_same_handle handle) (handles_of_kid kid) (flat_map handles_of_kid others) is)) known.1,
     )

@@ -3,8 +3,10 @@ pub mod Adding
 pub mod Passes
 pub mod Changes
 pub mod Each
+pub mod Keeping
 pub mod Shapes
 pub mod Handles
+pub mod Elsewhere
 pub mod Gathers
 pub mod Distinct
 pub mod Repairs
@@ -14,3 +16,4 @@ pub mod Touches
 pub mod Bridging
 pub mod Counting
 pub mod Sets
+pub mod Sizes

@@ -1,21 +1,19 @@
 -- The routes of a wiring, by those that pass a place.
 use Rattle.std.proofs.Common.{◌≡◌, ℕ, ◌+◌, Bool, true, false, if◌then◌else◌, List, [], ◌∷◌, ◌++◌, map, refl, sym, ap, ◌∙◌, arith, zero-add, add-zero, subst, Option, Some, None}
-use Rattle.std.specs.List.{flat_map, enumerate_from}
+use Rattle.std.specs.List.{flat_map}
 use Rattle.dsde_bank.specs.declared.handle.Handle.{Handle}
 use Rattle.dsde_values.specs.declared.name.Name.{Name}
-use Rattle.dsde_structure.specs.declared.plan.End.{End}
-use Rattle.dsde_structure.specs.declared.plan.Link.{Link}
 use Rattle.dsde_structure.specs.declared.plan.Part.{Part}
 use Rattle.dsde_structure.specs.declared.plan.Part.TheVariants as part
 use Rattle.dsde_structure.specs.Gather.{is_same_name}
 use Rattle.dsde_routes_wiring.specs.declared.side.Side.{Side}
 use Rattle.dsde_routes_wiring.specs.declared.wiring.WiredKid.{WiredKid}
 use Rattle.dsde_routes_wiring.specs.declared.wiring.Wiring.{Wiring}
-use Rattle.dsde_routes_wiring.specs.declared.wiring.WiredKid.TheOpen.{Wiring-F, WiredKid-F}
-use Rattle.dsde_routes_wiring.specs.declared.wiring.WiredKid.TheViews.{out-Wiring, out-WiredKid, roll-Wiring, roll-WiredKid, out-roll-Wiring, out-roll-WiredKid}
-use Rattle.dsde_routes_wiring.specs.Routes.{Way, Route, numbered, links_of, Ways, Around, Inner, within, around_of, no_ways, own, of_kid, at_part, at_end, crossing, routes_by, routes_in, inner_net, inner_of, inner_of_kid, below_step}
-use Rattle.dsde_routes_wiring.specs.Places.{changed, with_kids, kid_changed, below_changed, bared, kids_at, kid_at, below_at, nothing, only, passing, passing_kid, passing_below, routes_passing, through}
-use Rattle.dsde_repair_laws.specs.Weights.{weight, weight-append, weight-flat, weight-map, weight-same, weight-adds}
+use Rattle.dsde_routes_wiring.specs.declared.wiring.WiredKid.TheOpen.{Wiring-F}
+use Rattle.dsde_routes_wiring.specs.declared.wiring.WiredKid.TheViews.{out-Wiring, out-WiredKid, roll-WiredKid, out-roll-Wiring}
+use Rattle.dsde_routes_wiring.specs.Routes.{Way, Route, numbered, links_of, Ways, Around, Inner, within, around_of, no_ways, own, of_kid, at_part, crossing, routes_by, routes_in, inner_net, inner_of, inner_of_kid, below_step}
+use Rattle.dsde_routes_wiring.specs.Places.{changed, kid_changed, below_changed, bared, kids_at, kid_at, below_at, nothing, only, passing, passing_kid, passing_below, routes_passing, through}
+use Rattle.dsde_repair_laws.specs.Weights.{weight, weight-append, weight-flat}
 use Rattle.dsde_repair_laws.proofs.Opens.{below_inner, inner-roll, inner-is, kid-roll, kid-is}
 use Rattle.dsde_repair_laws.proofs.Adding.{passing-splits, Adds, AddsAround, ways-add, rows-add, tested-add}
 

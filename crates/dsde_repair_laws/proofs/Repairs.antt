@@ -1,5 +1,5 @@
 -- The rows of a wiring after a change, from those before.
-use Rattle.std.proofs.Common.{◌≡◌, ℕ, ◌+◌, ◌≤◌, ◌<◌, ◌==◌, Bool, true, false, ◌&&◌, ◌||◌, not, if◌then◌else◌, ltb, lt-ltb, ltb-true, ltb-false, zero-add, eq-eqb, List, [], ◌∷◌, ◌++◌, map, refl, sym, ap, ◌∙◌, subst, arith, Less, Equal, Greater, Ordering}
+use Rattle.std.proofs.Common.{◌≡◌, ℕ, ◌+◌, ◌≤◌, ◌==◌, Bool, true, false, ◌&&◌, ◌||◌, not, if◌then◌else◌, ltb, lt-ltb, ltb-true, ltb-false, zero-add, eq-eqb, List, [], ◌∷◌, ◌++◌, map, refl, sym, ap, ◌∙◌, subst, arith, Less, Equal, Greater, Ordering}
 use Rattle.std.specs.List.{flat_map, list_any}
 use Rattle.std.specs.Ordering.{is_eq}
 use Rattle.dsde_bank.specs.declared.handle.Handle.{Handle}
@@ -8,10 +8,9 @@ use Rattle.dsde_structure.specs.declared.plan.Link.{Link}
 use Rattle.dsde_routes_wiring.specs.declared.row.Row.{Row}
 use Rattle.dsde_routes_wiring.specs.declared.wiring.WiredKid.{WiredKid}
 use Rattle.dsde_routes_wiring.specs.declared.wiring.Wiring.{Wiring}
-use Rattle.dsde_routes_wiring.specs.declared.wiring.WiredKid.TheOpen.{Wiring-F, WiredKid-F}
-use Rattle.dsde_routes_wiring.specs.declared.wiring.WiredKid.TheViews.{out-Wiring, out-roll-Wiring}
-use Rattle.dsde_routes_wiring.specs.Routes.{Route, Ways, own, rank_of, row_of, routes, routes_in, routed}
-use Rattle.dsde_routes_wiring.specs.Places.{changed, kid_changed, renewed, nets_at, going, staying, inside, touched, left, through}
+use Rattle.dsde_routes_wiring.specs.declared.wiring.WiredKid.TheViews.{out-Wiring}
+use Rattle.dsde_routes_wiring.specs.Routes.{Route, own, rank_of, row_of, routes, routes_in, routed}
+use Rattle.dsde_routes_wiring.specs.Places.{changed, renewed, nets_at, going, staying, inside, left, through}
 use Rattle.dsde_routes_wiring.specs.Wired.{is_same_handle}
 use Rattle.dsde_routes_wiring.specs.Touched.{handles_of, handles_of_kid}
 use Rattle.dsde_routes_wiring.specs.Keys.{has_key, is_same_rank}
@@ -19,6 +18,7 @@ use Rattle.dsde_routes_wiring.specs.Sets.{row_cmp, row_cmp-same}
 use Rattle.dsde_routes_wiring.specs.Rows.{is_same_row, among}
 use Rattle.dsde_repair_laws.specs.Weights.{weight, weight-append, weight-map}
 use Rattle.dsde_repair_laws.specs.Bounds.{counted, count, AreDistinct, AreNamed}
+use Rattle.dsde_repair_laws.proofs.Changes.{me-after}
 use Rattle.dsde_repair_laws.proofs.Touches.{touched-before, touched-after}
 use Rattle.dsde_repair_laws.proofs.Distinct.{routes-once, weight-le}
 
@@ -30,10 +30,10 @@ any-some test (x ∷ xs) = by (test x) (any-some test xs) where
   by false is = is ∙ ap (ltb 0) (sym (zero-add _))
 
 -- how often a row stands among routes
-abbrev times : Row → List Route → ℕ
+abbrev pub times : Row → List Route → ℕ
 times row own_routes = weight (λ route. counted (is_same_row row) (row_of route)) own_routes
 
-among-times : (row : Row) (own_routes : List Route) → among (map row_of own_routes) row ≡ ltb 0 (times row own_routes)
+pub among-times : (row : Row) (own_routes : List Route) → among (map row_of own_routes) row ≡ ltb 0 (times row own_routes)
 among-times row own_routes = any-some (is_same_row row) (map row_of own_routes) ∙ ap (ltb 0) (weight-map (counted (is_same_row row)) row_of own_routes)
 
 -- at most once where handles and names are distinct
@@ -69,13 +69,8 @@ at-most-once wiring named distinct row =
     let most = distinct row.target in
     omega arith
 
-distinct-front : (xs ys : List Handle) → AreDistinct (xs ++ ys) → AreDistinct xs
+pub distinct-front : (xs ys : List Handle) → AreDistinct (xs ++ ys) → AreDistinct xs
 distinct-front xs ys distinct handle = let sum = weight-append (counted (is_same_handle handle)) xs ys in let most = distinct handle in omega arith
-
--- a change keeps the handle of the whole
-pub me-after : (place : List Name) (links : List Link) (kids : List WiredKid) (wiring : Wiring) → (out-Wiring (changed place (renewed links kids) wiring)).me ≡ (out-Wiring wiring).me
-me-after [] links kids wiring = ap (λ (z : Wiring-F WiredKid Wiring). z.me) (out-roll-Wiring (record (out-Wiring wiring) { links = links; kids = kids }))
-me-after (name ∷ place) links kids wiring = ap (λ (z : Wiring-F WiredKid Wiring). z.me) (out-roll-Wiring (record (out-Wiring wiring) { kids = map (kid_changed name (changed place (renewed links kids))) (out-Wiring wiring).kids }))
 
 -- some of a sum
 bools : (a b c d l : ℕ) → a + b + l ≤ 1 → ltb 0 (d + c + l) ≡ ltb 0 d || (ltb 0 c || (ltb 0 (a + b + l) && not (ltb 0 a) && not (ltb 0 b)))

@@ -1,10 +1,8 @@
 -- The rows of a wiring as a set.
-use Rattle.std.proofs.Common.{◌≡◌, ℕ, Bool, List, map, refl, sym, ap, ◌∙◌, ltb}
+use Rattle.std.proofs.Common.{◌≡◌, sym, ap, ◌∙◌, ltb}
 use Rattle.std.specs.FinSet as set
-use Rattle.std.specs.List.{list_any}
 use Rattle.dsde_routes_wiring.specs.declared.row.Row.{Row}
 use Rattle.dsde_routes_wiring.specs.declared.wiring.Wiring.{Wiring}
-use Rattle.dsde_routes_wiring.specs.declared.wiring.WiredKid.TheViews.{out-Wiring}
 use Rattle.dsde_routes_wiring.specs.Flatten.{rows, flatten}
 use Rattle.dsde_routes_wiring.specs.Routes.{routed}
 use Rattle.dsde_routes_wiring.specs.Rows.{among, is_same_row}

@@ -1,17 +1,15 @@
 -- What each network of a wiring keeps, by the networks beneath it, and where one of them is changed.
-use Rattle.std.proofs.Common.{◌≡◌, Bool, true, false, cond, if◌then◌else◌, List, [], ◌∷◌, ◌++◌, map, filter, refl, sym, ap, ap₂, ◌∙◌, subst, Option, Some, None}
+use Rattle.std.proofs.Common.{◌≡◌, Bool, true, false, if◌then◌else◌, List, [], ◌∷◌, map, refl, sym, ap, ap₂, ◌∙◌, subst, Option, Some, None}
 use Rattle.std.specs.Option.{option_map}
 use Rattle.std.specs.List.{flat_map, AllByRecursion}
 use Rattle.dsde_values.specs.declared.name.Name.{Name}
-use Rattle.dsde_structure.specs.declared.plan.Link.{Link}
 use Rattle.dsde_structure.specs.Gather.{is_same_name}
 use Rattle.dsde_routes_wiring.specs.declared.wiring.WiredKid.{WiredKid}
 use Rattle.dsde_routes_wiring.specs.declared.wiring.Wiring.{Wiring}
 use Rattle.dsde_routes_wiring.specs.declared.wiring.WiredKid.TheOpen.{Wiring-F, WiredKid-F}
 use Rattle.dsde_routes_wiring.specs.declared.wiring.WiredKid.TheViews.{out-Wiring, out-WiredKid, roll-Wiring, roll-WiredKid, out-roll-Wiring, out-roll-WiredKid}
 use Rattle.dsde_routes_wiring.specs.Opened.{Beneath, shapes-opens, shapes_kid-opens}
-use Rattle.dsde_routes_wiring.specs.Places.{changed, kid_changed, below_changed, bared, renewed, nets_at, kid_at, below_at}
-use Rattle.dsde_routes_wiring.specs.Wired as shape
+use Rattle.dsde_routes_wiring.specs.Places.{changed, kid_changed, below_changed, nets_at, kid_at, below_at}
 use Rattle.dsde_routes_wiring.specs.Wired.{Shape, KidShapes, Wired, shapes, shapes_of_kid}
 use Rattle.dsde_repair_laws.proofs.Each.{each-append, each-front, each-back}
 

@@ -1,12 +1,11 @@
 -- What a change at a place touches, and what it leaves.
-use Rattle.std.proofs.Common.{◌≡◌, ℕ, ◌+◌, Bool, true, false, cond, not, List, [], ◌∷◌, ◌++◌, map, filter, refl, sym, ap, ◌∙◌, arith}
-use Rattle.std.specs.List.{flat_map}
+use Rattle.std.proofs.Common.{◌≡◌, ℕ, ◌+◌, Bool, true, false, cond, not, List, [], ◌∷◌, filter, refl, sym, ap, ◌∙◌, arith}
 use Rattle.dsde_values.specs.declared.name.Name.{Name}
 use Rattle.dsde_structure.specs.declared.plan.Link.{Link}
 use Rattle.dsde_routes_wiring.specs.declared.wiring.WiredKid.{WiredKid}
 use Rattle.dsde_routes_wiring.specs.declared.wiring.Wiring.{Wiring}
 use Rattle.dsde_routes_wiring.specs.declared.wiring.WiredKid.TheViews.{out-Wiring}
-use Rattle.dsde_routes_wiring.specs.Routes.{Route, Ways, inner_of_kid, routes_in}
+use Rattle.dsde_routes_wiring.specs.Routes.{Route, Ways, routes_in}
 use Rattle.dsde_routes_wiring.specs.Places.{changed, bared, renewed, nets_at, has_name, going, staying, inside, touched, left, through}
 use Rattle.dsde_repair_laws.specs.Weights.{weight, weight-append, weight-flat}
 use Rattle.dsde_repair_laws.proofs.Passes.{rows-split, rows_of}

@@ -1,6 +1,6 @@
 -- Each route that passes a place goes over a link of the network there.
-use Rattle.std.proofs.Common.{◌≡◌, ℕ, ◌+◌, Bool, true, false, if◌then◌else◌, List, [], ◌∷◌, ◌++◌, map, refl, sym, ap, ◌∙◌, subst, Option, Some, None}
-use Rattle.std.specs.List.{flat_map, AllByRecursion, list_any, enumerate_from}
+use Rattle.std.proofs.Common.{◌≡◌, ℕ, Bool, true, false, if◌then◌else◌, List, [], ◌∷◌, ◌++◌, map, sym, subst, Option, Some, None}
+use Rattle.std.specs.List.{flat_map, AllByRecursion, enumerate_from}
 use Rattle.dsde_bank.specs.declared.handle.Handle.{Handle}
 use Rattle.dsde_values.specs.declared.name.Name.{Name}
 use Rattle.dsde_structure.specs.declared.plan.End.{End}
@@ -14,12 +14,12 @@ use Rattle.dsde_routes_wiring.specs.declared.wiring.WiredKid.{WiredKid}
 use Rattle.dsde_routes_wiring.specs.declared.wiring.Wiring.{Wiring}
 use Rattle.dsde_routes_wiring.specs.declared.wiring.WiredKid.TheViews.{out-Wiring, out-WiredKid}
 use Rattle.dsde_routes_wiring.specs.Side.{near, far}
-use Rattle.dsde_routes_wiring.specs.Routes.{Step, Way, Route, Ways, Around, Inner, Numbered, step_from, numbered, links_of, around_of, within, no_ways, is_border, extended, met, crossed, crossed_by, crossing, ways_by, net_ways, at_part, at_end, of_kid, inner_of, inner_of_kid}
-use Rattle.dsde_routes_wiring.specs.Places.{changed, bared, nets_at, kid_at, below_at, passing, passing_kid, passing_below, nothing, only, crossed_between, routes_passing, through}
+use Rattle.dsde_routes_wiring.specs.Routes.{Step, Way, Route, Ways, Around, Inner, Numbered, step_from, links_of, around_of, no_ways, is_border, extended, met, crossed, crossed_by, crossing, ways_by, net_ways, at_part, at_end, of_kid}
+use Rattle.dsde_routes_wiring.specs.Places.{changed, bared, nets_at, kid_at, below_at, passing, passing_kid, passing_below, nothing, only, crossed_between, through}
 use Rattle.dsde_routes_wiring.specs.Wired.{is_same_handle}
-use Rattle.dsde_routes_wiring.specs.Touched.{passes, uses}
+use Rattle.dsde_routes_wiring.specs.Touched.{passes}
 use Rattle.dsde_repair_laws.proofs.Opens.{inner-is}
-use Rattle.dsde_repair_laws.proofs.Each.{each-append, each-flat, each-of, each-weaker, each-map, each-if, each-front, each-back, each-pieces, any-left, any-right, any-head, any-tail}
+use Rattle.dsde_repair_laws.proofs.Each.{each-append, each-flat, each-of, each-weaker, each-map, each-if, each-front, each-back, any-left, any-right, any-head, any-tail}
 
 module _ (m : Handle) where
   abbrev test : Step → Bool

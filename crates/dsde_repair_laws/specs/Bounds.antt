@@ -1,5 +1,5 @@
 -- How many items pass a test, and lists of handles that are distinct.
-use Rattle.std.specs.Prelude.{ℕ, ◌+◌, ◌≤◌, Bool, if◌then◌else◌, List, map}
+use Rattle.std.specs.Prelude.{ℕ, ◌≤◌, Bool, if◌then◌else◌, List, map}
 use Rattle.dsde_bank.specs.declared.handle.Handle.{Handle}
 use Rattle.std.specs.List.{AllByRecursion}
 use Rattle.dsde_values.specs.declared.name.Name.{Name}

@@ -1,5 +1,5 @@
 -- Sums over lists. Two lists have the same items, each as often, where all sums over them agree.
-use Rattle.std.proofs.Common.{◌≡◌, ℕ, ◌+◌, Bool, true, false, if◌then◌else◌, List, [], ◌∷◌, ◌++◌, map, refl, sym, ap, ◌∙◌, arith, zero-add, add_assoc}
+use Rattle.std.proofs.Common.{◌≡◌, ℕ, ◌+◌, List, [], ◌∷◌, ◌++◌, map, refl, sym, ap, ◌∙◌, arith, zero-add, add_assoc}
 use Rattle.std.specs.List.{flat_map}
 
 abbrev pub weight : {X : Type 0} → (X → ℕ) → List X → ℕ

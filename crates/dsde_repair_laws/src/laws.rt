@@ -42,6 +42,18 @@ pub fn a_change_touches_few()
         length (touched net place fresh (changed place (renewed links kids) wiring)) ≤ count (is_touched (out-Wiring here).me (handles_of wiring)) (routes_in net (changed place (renewed links kids) wiring)) }
 {}
 
+/// And it touches all of these: where the root's own ports are sources and targets, the routes that it
+/// touches are as many as those over a link of the changed network, or with a source or a target that only
+/// one of the two wirings has.
+pub fn a_change_touches_these()
+    ensures before { (place : List Name) (gone : List Name) (links : List Link) (kids fresh : List WiredKid) (wiring here : Wiring) → nets_at place wiring ≡ here ∷ [] →
+        ((h : WiredKid → ℕ) → weight h kids ≡ weight h fresh + weight h (staying gone (out-Wiring here).kids)) → AreDistinct (handles_of wiring ++ flat_map handles_of_kid fresh) →
+        length (touched (own (out-Wiring wiring).me) place (going gone (out-Wiring here).kids) wiring) ≡ count (is_touched (out-Wiring here).me (handles_of (changed place (renewed links kids) wiring))) (routes wiring) }
+    ensures after { (place : List Name) (gone : List Name) (links : List Link) (kids fresh : List WiredKid) (wiring here : Wiring) → nets_at place wiring ≡ here ∷ [] →
+        ((h : WiredKid → ℕ) → weight h kids ≡ weight h fresh + weight h (staying gone (out-Wiring here).kids)) → AreDistinct (handles_of wiring ++ flat_map handles_of_kid fresh) →
+        length (touched (own (out-Wiring wiring).me) place fresh (changed place (renewed links kids) wiring)) ≡ count (is_touched (out-Wiring here).me (handles_of wiring)) (routes (changed place (renewed links kids) wiring)) }
+{}
+
 /// Routes that are put together where they cross over are those that are gathered from their targets.
 pub fn routes_are_gathered()
     ensures { (g : Route → ℕ) (wiring : Wiring) → weight g (routes wiring) ≡ weight g (gathered wiring) }
@@ -68,3 +80,9 @@ pub fn rows_are_routes()
 {
     orders_are_total();
 }
+
+/// Where names are distinct in each network, and no link leads from the root's own ports to them, and where
+/// all handles are distinct, a wiring has as many rows as routes.
+pub fn rows_are_counted()
+    ensures { (wiring : Wiring) → AreWired wiring → AreDistinct (handles_of wiring) → set.len (flatten wiring) ≡ length (routes wiring) }
+{}

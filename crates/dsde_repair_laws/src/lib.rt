@@ -4,6 +4,6 @@
 mod laws;
 
 pub use laws::{
-    a_change_leaves_the_others, a_change_touches_few, routes_are_gathered, rows_are_routes,
-    rows_follow_a_change,
+    a_change_leaves_the_others, a_change_touches_few, a_change_touches_these, routes_are_gathered,
+    rows_are_counted, rows_are_routes, rows_follow_a_change,
 };

@@ -2,3 +2,4 @@ pub mod Serving
 pub mod Searching
 pub mod Finding
 pub mod Walking
+mod Ticking

@@ -8,3 +8,4 @@ abbrev pub invariant-loop-row : goal.invariant-loop-row
 invariant-loop-row g l =
     ((other : Row) → among l.row-iterator.rest.items other || set.contains l.table other ≡ among l.fn.rows other || set.contains l.fn.table other)
     × (l.changes + length l.row-iterator.rest.items ≤ l.fn.changes + length l.fn.rows)
+    × (l.changes + set.len l.fn.table ≡ l.fn.changes + set.len l.table)
