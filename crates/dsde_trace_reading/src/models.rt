@@ -1,6 +1,6 @@
 //! What a program says of its models.
 
-ghost use Rattle.std.specs.Prelude.{◌≡◌, ◌<◌, ℕ, Bool, Some, length};
+ghost use Rattle.std.specs.Prelude.{◌≡◌, ◌<◌, ℕ, Bool, length};
 ghost use Rattle.dsde_declared.specs.Models.{top_outs, types_of};
 ghost use Rattle.dsde_program_nodes.specs.Models.{infos_of};
 ghost use Rattle.dsde_values.specs.Value.{IsLawful};

@@ -1,6 +1,6 @@
 //! Lines of turns, of what is sent and received, of moves and of drops.
 
-ghost use Rattle.std.specs.Prelude.{◌≡◌, ◌≢◌, ◌++◌, ◌∷◌, ℕ, List, decimal, IfOk, IfSome};
+ghost use Rattle.std.specs.Prelude.{decimal, IfOk};
 ghost use Rattle.dsde_syntax.specs.declared.decl.Model.{Model};
 ghost use Rattle.dsde_values.specs.Path.{IsPath, path_text};
 ghost use Rattle.dsde_trace_words.specs.Words.{Inverts, IsCount, NoneBefore, Pairs};

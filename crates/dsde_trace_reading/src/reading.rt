@@ -3,7 +3,6 @@
 ghost use Rattle.std.specs.Prelude.{◌≡◌, Err, IfOk};
 ghost use Rattle.dsde_sim_events.specs.declared.event.Event.{Event};
 ghost use Rattle.dsde_trace_words.specs.Words.{Finds};
-ghost use Rattle.dsde_trace_words.specs.declared.names.LineWord.TheVariants as line_word;
 ghost use Rattle.dsde_trace_reading.specs.Lines.{ComesBefore, IsFirst, IsLine};
 ghost use Rattle.dsde_trace_reading.specs.Parts.{Reads};
 ghost use Rattle.dsde_trace_reading.specs.declared.reading.ReadEvent.TheVariants as read_event;
