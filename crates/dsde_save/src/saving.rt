@@ -1,27 +1,30 @@
 //! The text of the image of an engine.
 
-ghost use Rattle.std.specs.Prelude.{◌≡◌, is_some, true, IfOk, IfSome};
+ghost use Rattle.std.specs.Prelude.{◌≡◌, ◌≤◌, ◌^◌, is_some, true, IfOk, IfSome};
 ghost use Rattle.serde_json.specs.Written.{compact_text};
 ghost use Rattle.dsde_image.specs.declared.image.Version.TheVariants as version;
 ghost use Rattle.dsde_image_json.specs.Json.{image_data};
 ghost use Rattle.dsde_image_json.specs.Text.{IsReading};
-ghost use Rattle.dsde_save.specs.Saved.{image_of};
+ghost use Rattle.dsde_save.specs.Saved.{Says, image_of};
 
 use dsde_image::{Image, Version};
 use dsde_image_json::write_image;
 use dsde_image_rows::list;
-use dsde_image_written::images_are_written;
+use dsde_image_written::{images_are_written, rows_are_right};
 use dsde_sim::Plain;
 use dsde_values::{Memory, Path, Seq, Text};
 use std::alloc::Global;
 
-/// The text of the image, of version 2, of an engine between two turns, without blanks.
+/// The text of the image, of version 2, of an engine between two turns, without blanks. Where at most 2^62
+/// turns are done, it says this image, and `restore` gives an equal engine again.
 pub fn save(alloc: Global, engine: &Plain) -> Result<Text, Memory>
     requires { is_some engine.now.engine.tree ≡ true }
     ensures text { IfOk result (λ text. IfSome engine.now.engine.tree (λ tree. text ≡ compact_text (image_data (image_of engine.now.program version.Two engine.now.engine tree)))) }
+    ensures says { engine.now.engine.turn ≤ 2 ^ 62 → IfOk result (λ text. IfSome engine.now.engine.tree (λ tree. Says text (image_of engine.now.program version.Two engine.now.engine tree))) }
     ensures read { IfOk result (λ text. IfSome engine.now.engine.tree (λ tree. IsReading text (image_data (image_of engine.now.program version.Two engine.now.engine tree)))) }
 {
     images_are_written();
+    rows_are_right();
     engine.stands();
     let program = engine.program();
     program.right();
