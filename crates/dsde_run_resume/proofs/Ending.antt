@@ -1,0 +1,22 @@
+-- The turns of a run that is taken up end as it does.
+use Rattle.std.proofs.Common.{◌≡◌, refl}
+use Rattle.std.specs.Prelude.{Result, Ok}
+use Rattle.dsde_sim_events.specs.declared.event.Finish.{Finish}
+use Rattle.dsde_sim_events.specs.declared.event.Finish.TheVariants as how
+use Rattle.dsde_run.specs.declared.ends.RunEnd.{RunEnd}
+use Rattle.dsde_run.specs.declared.ends.RunEnd.TheVariants as run_end
+use Rattle.dsde_run.specs.Ends.{answer_of}
+use Rattle.dsde_run_resume.specs.declared.resuming.Unresumed.{Unresumed}
+use Rattle.dsde_run_resume.specs.Resuming.{taken_up}
+
+abbrev Back : Type 0
+Back = Result Finish Unresumed
+
+pub turns-quiet : (end : RunEnd) → (let back : Back = Ok how.Quiet in taken_up (answer_of end) ≡ back) → end ≡ run_end.Quiet
+turns-quiet run_end.Bound is = absurd (cc is)
+turns-quiet run_end.Quiet is = refl
+turns-quiet (run_end.BadInput kind line) is = absurd (cc is)
+turns-quiet (run_end.Fault fault) is = absurd (cc is)
+turns-quiet run_end.ReadFault is = absurd (cc is)
+turns-quiet run_end.Unwritten is = absurd (cc is)
+turns-quiet run_end.Memory is = absurd (cc is)

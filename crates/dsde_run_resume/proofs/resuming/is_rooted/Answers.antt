@@ -1,0 +1,12 @@
+use Rattle.std.proofs.Common.{subst}
+use Rattle.dsde_check_rules.specs.Right.{IsRight}
+use Rattle.dsde_syntax.specs.declared.decl.Model.{Model}
+use Rattle.dsde_system.specs.Program.{system}
+use Rattle.dsde_sim_stands.specs.Stands.{StandsEngine}
+use Rattle.dsde_run_resume.proofs.Rooted.{rooted}
+use Rattle.dsde_run_resume.proofs.resuming.is_rooted.Goals as goal
+
+pub returns : goal.returns
+returns c =
+    rooted c.args.own.now.model (c.top_is_sure.ensures c.args.own.now.model (subst IsRight c.program.ensures c.right.ensures)) c.args.plain.now.engine.time c.args.plain.now.engine.tree
+    (subst (λ (model : Model). StandsEngine (system model) c.args.plain.now.engine) c.requires c.stands.ensures.stands.stands)
