@@ -6,6 +6,7 @@ mod mover;
 mod order;
 mod seat;
 
-pub use laws::{drawn_turns_agree, paths_in_order_are_orderly};
+pub use laws::{drawn_advances_agree, drawn_turns_agree, paths_in_order_are_orderly};
 pub use mover::Mover;
 pub use order::order_of;
+pub use seat::seat_of;

@@ -19,7 +19,7 @@ pub(crate) fn is_over(own: &Path, other: &Path) -> bool
 
 /// The names of the component at a path, or of the network whose executive stands there; and whether it is an
 /// executive.
-pub(crate) fn seat_of(path: &Path) -> (&[Name], bool)
+pub fn seat_of(path: &Path) -> (&[Name], bool)
     ensures names { result.0.now ≡ (seat_behind root path.now).names }
     ensures boss { result.1 ≡ (seat_behind root path.now).is_boss }
 {
