@@ -1,0 +1,2 @@
+mod Valued
+mod Leaving
