@@ -10,7 +10,10 @@ use Rattle.dsde_input_records.specs.Records.{Records, bad}
 use Rattle.dsde_sim_events.specs.declared.event.Event.TheVariants as event
 use Rattle.dsde_sim_events.specs.declared.event.Finish.{Finish}
 use Rattle.dsde_sim_events.specs.declared.event.Finish.TheVariants as how
+use Rattle.dsde_sim_events.specs.Told.{Told}
+use Rattle.dsde_sim_turns.specs.declared.step.Step.{Step}
 use Rattle.dsde_sim_turns.specs.Engine.{Engine}
+use Rattle.dsde_values.specs.declared.arrival.Arrival.{Arrival}
 use Rattle.dsde_input.specs.Reader.{Reader, IsOffence}
 use Rattle.dsde_trace.specs.declared.pick.Pick.{Pick}
 use Rattle.dsde_run.specs.declared.run.Cut.{Cut}
@@ -20,7 +23,7 @@ use Rattle.dsde_run.specs.declared.run.Head.TheVariants.{Wanted, Over, Is}
 use Rattle.dsde_run.specs.declared.run.After.TheVariants.{Turned, Ended}
 use Rattle.dsde_run.specs.declared.run.Unready.{Unready}
 use Rattle.dsde_run.specs.declared.run.Unready.TheVariants as unready
-use Rattle.dsde_run.specs.Run.{Running, event_text, go, kept_text}
+use Rattle.dsde_run.specs.Run.{Running, event_text, go_by, kept_text}
 use Rattle.dsde_run_meaning.specs.Run.{Run, ended, offended}
 use Rattle.dsde_run_meaning.specs.Run as run
 use Rattle.dsde_run.specs.Reading.{TakesWanted, Tells, IsCutShort, IsFront, Comes}
@@ -58,20 +61,20 @@ module _ (own : Running) (pick : Pick) (tells : Records → Run) (all : Records)
       subst (λ result. Comes own pick tells all engine old new result from.held before after) (sym is) (unwritten_by rest engine after head text why stands failed other)
 
   -- The run ended with a turn.
-  pub comes-ended : (turns : ℕ) (engine after_engine : Engine) (head : Head) (how : Finish) (text more after : List ℕ) →
-      Stands own pick tells (λ records. go own (suc turns) records engine) all from reader head old sink text before after → head ≢ Wanted →
-      Turns own pick engine (record_of head) after_engine text more (Ended how) → (result : Result Finish Cut) →
+  pub comes-ended : {State : Type 0} (engine_of : State → Engine) (advance : State → Option Arrival → Told (Step × State)) (turns : ℕ) (state after_state : State) (head : Head) (how : Finish) (text more after : List ℕ) →
+      Stands own pick tells (λ records. go_by engine_of advance own (suc turns) records state) all from reader head old sink text before after → head ≢ Wanted →
+      Turns engine_of advance own pick state (record_of head) after_state text more (Ended how) → (result : Result Finish Cut) →
       IfOk result (λ answer. (answer ≡ how) × Gains sink new more) → OnErr result (GainsFront sink new more) → IfErr result (λ why. why ≢ cut.ReadFault) →
-      Comes own pick tells all after_engine old new result from.held before after
-  comes-ended turns engine after_engine head how text more after stands known ended (Ok answer) ok failed other =
-      subst (Tells own pick (tells all) after_engine old new) (sym ok.0)
-      (tells-ended own pick tells turns engine from reader all head after_engine how old sink new text more [] before after stands known ended
+      Comes own pick tells all (engine_of after_state) old new result from.held before after
+  comes-ended engine_of advance turns state after_state head how text more after stands known ended (Ok answer) ok failed other =
+      subst (Tells own pick (tells all) (engine_of after_state) old new) (sym ok.0)
+      (tells-ended own pick tells engine_of advance turns state from reader all head after_state how old sink new text more [] before after stands known ended
       (record { piece = more; gained = ok.1; split = sym (append-nil more) }) refl)
-  comes-ended turns engine after_engine head how text more after stands known ended (Err cut.ReadFault) ok failed other = absurd (other refl)
-  comes-ended turns engine after_engine head how text more after stands known ended (Err cut.Unwritten) ok failed other =
-      front-ended own pick tells turns engine from reader all head after_engine how old sink new text more before after stands known ended failed
-  comes-ended turns engine after_engine head how text more after stands known ended (Err cut.Memory) ok failed other =
-      front-ended own pick tells turns engine from reader all head after_engine how old sink new text more before after stands known ended failed
+  comes-ended engine_of advance turns state after_state head how text more after stands known ended (Err cut.ReadFault) ok failed other = absurd (other refl)
+  comes-ended engine_of advance turns state after_state head how text more after stands known ended (Err cut.Unwritten) ok failed other =
+      front-ended own pick tells engine_of advance turns state from reader all head after_state how old sink new text more before after stands known ended failed
+  comes-ended engine_of advance turns state after_state head how text more after stands known ended (Err cut.Memory) ok failed other =
+      front-ended own pick tells engine_of advance turns state from reader all head after_state how old sink new text more before after stands known ended failed
 
   -- The run ended at its bound.
   pub comes-bound : (rest : Records → Run) (engine : Engine) (head : Head) (turns time : ℕ) (text after : List ℕ) →

@@ -11,6 +11,8 @@ use Rattle.dsde_input_records.specs.Records.{Records, end, bad, one}
 use Rattle.dsde_sim_events.specs.declared.event.Event.TheVariants as event
 use Rattle.dsde_sim_events.specs.declared.event.Finish.{Finish}
 use Rattle.dsde_sim_events.specs.declared.event.Finish.TheVariants as how
+use Rattle.dsde_sim_events.specs.Told.{Told}
+use Rattle.dsde_sim_turns.specs.declared.step.Step.{Step}
 use Rattle.dsde_sim_turns.specs.Engine.{Engine}
 use Rattle.dsde_input.specs.Reader.{Reader, IsOffence, has_line, with_more, TakesOfLine}
 use Rattle.dsde_trace.specs.declared.pick.Pick.{Pick}
@@ -18,7 +20,7 @@ use Rattle.dsde_trace.specs.declared.pick.Pick.TheVariants.{Outputs}
 use Rattle.dsde_run.specs.declared.run.Head.{Head}
 use Rattle.dsde_run.specs.declared.run.Head.TheVariants.{Wanted, Over, Is}
 use Rattle.dsde_run.specs.declared.run.After.TheVariants.{Turned, Ended}
-use Rattle.dsde_run.specs.Run.{Running, event_text, go, turn_on, kept_text}
+use Rattle.dsde_run.specs.Run.{Running, event_text, go_by, turn_by, kept_text}
 use Rattle.dsde_run_meaning.specs.Run.{Run, ended, cut, offended}
 use Rattle.dsde_run.specs.Reading.{feeds, cut_after, IsWhole, TakesWanted, Tells, IsCutShort, IsFront}
 use Rattle.dsde_run.specs.Steps.{HandsOn, GoesOn, EndsIn, Turns, Stops, line_of, record_of, with_head, passed, to_give, ahead, Asked, Refused, IsReady, Stands}
@@ -285,21 +287,21 @@ module _ (own : Running) (pick : Pick) (tells : Records → Run) where
       by input_end.ReadFault stands is refused front = nothing stands front
       by input_end.Memory stands is refused front = nothing stands front
 
-  module _ (turns : ℕ) (engine : Engine) (from reader : Reader) where
-    abbrev later_on : Head → Records → Bool → Engine → Run
-    later_on Wanted later took_input after = go own turns later after
-    later_on Over later took_input after = go own turns end after
-    later_on (Is head) later took_input after = go own turns (cond took_input later (one head later)) after
+  module _ {State : Type 0} (engine_of : State → Engine) (advance : State → Option Arrival → Told (Step × State)) (turns : ℕ) (state : State) (from reader : Reader) where
+    abbrev later_on : Head → Records → Bool → State → Run
+    later_on Wanted later took_input after = go_by engine_of advance own turns later after
+    later_on Over later took_input after = go_by engine_of advance own turns end after
+    later_on (Is head) later took_input after = go_by engine_of advance own turns (cond took_input later (one head later)) after
 
     -- a turn is on its head
-    go-turn_on : (head : Head) (later : Records) → head ≢ Wanted → (head ≡ Over → later ≡ end) → go own (suc turns) (with_head head later) engine ≡ turn_on own engine (record_of head) (later_on head later)
-    go-turn_on Wanted later known over = absurd (known refl)
-    go-turn_on Over later known over = rw (over refl) refl
-    go-turn_on (Is head) later known over = refl
+    go-turn_by : (head : Head) (later : Records) → head ≢ Wanted → (head ≡ Over → later ≡ end) → go_by engine_of advance own (suc turns) (with_head head later) state ≡ turn_by engine_of advance own state (record_of head) (later_on head later)
+    go-turn_by Wanted later known over = absurd (known refl)
+    go-turn_by Over later known over = rw (over refl) refl
+    go-turn_by (Is head) later known over = refl
 
     -- behind it the records are those behind the head that is left
-    later_on-passed : (head : Head) (later : Records) (took_input : Bool) (after : Engine) → head ≢ Wanted → (head ≡ Over → later ≡ end) →
-        later_on head later took_input after ≡ go own turns (with_head (passed head took_input) later) after
+    later_on-passed : (head : Head) (later : Records) (took_input : Bool) (after : State) → head ≢ Wanted → (head ≡ Over → later ≡ end) →
+        later_on head later took_input after ≡ go_by engine_of advance own turns (with_head (passed head took_input) later) after
     later_on-passed Wanted later took_input after known over = absurd (known refl)
     later_on-passed Over later took_input after known over = rw (over refl) refl
     later_on-passed (Is head) later true after known over = refl
@@ -317,11 +319,11 @@ module _ (own : Running) (pick : Pick) (tells : Records → Run) where
     was_over (Is head) false same = absurd (cc same)
 
     -- One turn is done.
-    pub stands-turned : (all : Records) (head : Head) (after_engine : Engine) (took_input : Bool) (old sink : Option (List ℕ)) (text more before after : List ℕ) →
-        Stands own pick tells (λ records. go own (suc turns) records engine) all from reader head old sink text before after → head ≢ Wanted →
-        Turns own pick engine (record_of head) after_engine text more (Turned took_input) →
-        Stands own pick tells (λ records. go own turns records after_engine) all from reader (passed head took_input) old sink more before after
-    stands-turned all head after_engine took_input old sink text more before after stands known turned = record {
+    pub stands-turned : (all : Records) (head : Head) (after_state : State) (took_input : Bool) (old sink : Option (List ℕ)) (text more before after : List ℕ) →
+        Stands own pick tells (λ records. go_by engine_of advance own (suc turns) records state) all from reader head old sink text before after → head ≢ Wanted →
+        Turns engine_of advance own pick state (record_of head) after_state text more (Turned took_input) →
+        Stands own pick tells (λ records. go_by engine_of advance own turns records after_state) all from reader (passed head took_input) old sink more before after
+    stands-turned all head after_state took_input old sink text more before after stands known turned = record {
       given = stands.given;
       known = stands.known;
       takes = stands.takes;
@@ -330,32 +332,32 @@ module _ (own : Running) (pick : Pick) (tells : Records → Run) where
       read_out = stands.read_out;
       goes = λ later over.
           let none : head ≡ Over → later ≡ end = λ same. over (still_over head took_input same) in
-          let first = rw (go-turn_on head later known none) at (stands.goes later none) in
-          let second = rw (later_on-passed head later took_input after_engine known none) at (turned (later_on head later)) in
-          GoesOn-turned own pick (tells (ahead stands.given later)) (turn_on own engine (record_of head) (later_on head later))
-          (go own turns (with_head (passed head took_input) later) after_engine) old sink text more first second;
+          let first = rw (go-turn_by head later known none) at (stands.goes later none) in
+          let second = rw (later_on-passed head later took_input after_state known none) at (turned (later_on head later)) in
+          GoesOn-turned own pick (tells (ahead stands.given later)) (turn_by engine_of advance own state (record_of head) (later_on head later))
+          (go_by engine_of advance own turns (with_head (passed head took_input) later) after_state) old sink text more first second;
     }
 
     on_head : (all : Records) (head : Head) (old sink : Option (List ℕ)) (text before after : List ℕ) →
-        Stands own pick tells (λ records. go own (suc turns) records engine) all from reader head old sink text before after → head ≢ Wanted →
-        GoesOn own pick (tells all) (turn_on own engine (record_of head) (later_on head (to_give own reader after))) old sink text
+        Stands own pick tells (λ records. go_by engine_of advance own (suc turns) records state) all from reader head old sink text before after → head ≢ Wanted →
+        GoesOn own pick (tells all) (turn_by engine_of advance own state (record_of head) (later_on head (to_give own reader after))) old sink text
     on_head all head old sink text before after stands known =
-        rw (go-turn_on head (to_give own reader after) known (λ same. (stands.over same).0)) at
-        (all-stands (λ records. go own (suc turns) records engine) all from reader head old sink text before after stands)
+        rw (go-turn_by head (to_give own reader after) known (λ same. (stands.over same).0)) at
+        (all-stands (λ records. go_by engine_of advance own (suc turns) records state) all from reader head old sink text before after stands)
 
     -- The run ended with a turn, and all is written.
-    pub tells-ended : (all : Records) (head : Head) (after_engine : Engine) (how : Finish) (old sink new : Option (List ℕ)) (text more left before after : List ℕ) →
-        Stands own pick tells (λ records. go own (suc turns) records engine) all from reader head old sink text before after → head ≢ Wanted →
-        Turns own pick engine (record_of head) after_engine text more (Ended how) → HandsOn sink new more left → left ≡ [] → Tells own pick (tells all) after_engine old new how
-    tells-ended all head after_engine how old sink new text more left before after stands known ended hands empty =
-        Tells-ended own pick (tells all) (turn_on own engine (record_of head) (later_on head (to_give own reader after))) after_engine how old sink new text more
+    pub tells-ended : (all : Records) (head : Head) (after_state : State) (how : Finish) (old sink new : Option (List ℕ)) (text more left before after : List ℕ) →
+        Stands own pick tells (λ records. go_by engine_of advance own (suc turns) records state) all from reader head old sink text before after → head ≢ Wanted →
+        Turns engine_of advance own pick state (record_of head) after_state text more (Ended how) → HandsOn sink new more left → left ≡ [] → Tells own pick (tells all) (engine_of after_state) old new how
+    tells-ended all head after_state how old sink new text more left before after stands known ended hands empty =
+        Tells-ended own pick (tells all) (turn_by engine_of advance own state (record_of head) (later_on head (to_give own reader after))) (engine_of after_state) how old sink new text more
         (on_head all head old sink text before after stands known) (ended (later_on head (to_give own reader after))) (subst (HandsOn sink new more) empty hands)
 
     -- The run ended with a turn, and not all could be written.
-    pub front-ended : (all : Records) (head : Head) (after_engine : Engine) (how : Finish) (old sink new : Option (List ℕ)) (text more before after : List ℕ) →
-        Stands own pick tells (λ records. go own (suc turns) records engine) all from reader head old sink text before after → head ≢ Wanted →
-        Turns own pick engine (record_of head) after_engine text more (Ended how) → GainsFront sink new more → IsFront old new (kept_text own pick (tells all).events)
-    front-ended all head after_engine how old sink new text more before after stands known ended failed =
-        let run = turn_on own engine (record_of head) (later_on head (to_give own reader after)) in
+    pub front-ended : (all : Records) (head : Head) (after_state : State) (how : Finish) (old sink new : Option (List ℕ)) (text more before after : List ℕ) →
+        Stands own pick tells (λ records. go_by engine_of advance own (suc turns) records state) all from reader head old sink text before after → head ≢ Wanted →
+        Turns engine_of advance own pick state (record_of head) after_state text more (Ended how) → GainsFront sink new more → IsFront old new (kept_text own pick (tells all).events)
+    front-ended all head after_state how old sink new text more before after stands known ended failed =
+        let run = turn_by engine_of advance own state (record_of head) (later_on head (to_give own reader after)) in
         front-failed own pick (tells all) run old sink new text more (on_head all head old sink text before after stands known) []
         (sym (ended (later_on head (to_give own reader after))).text ∙ sym (append-nil more)) (IsFront-failed sink new more failed)

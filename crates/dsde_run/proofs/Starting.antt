@@ -1,6 +1,6 @@
 -- A whole run: its start, and then its turns.
-use Rattle.std.proofs.Common.{◌≡◌, ◌≢◌, ℕ, true, List, [], ◌++◌, length, take, drop, refl, sym, subst, ◌∙◌, ap, arith, append_assoc}
-use Rattle.std.specs.Prelude.{Option, Some, None, is_some, Result, Ok, Err, IfOk, IfErr, OnErr}
+use Rattle.std.proofs.Common.{◌≡◌, ◌≢◌, ℕ, List, [], ◌++◌, length, take, drop, refl, sym, subst, ◌∙◌, ap, arith, append_assoc}
+use Rattle.std.specs.Prelude.{Option, Some, None, Result, Ok, Err, IfOk, IfErr, OnErr}
 use Rattle.std.proofs.lemmas.Grind.{flat_map-append}
 use Rattle.std.proofs.lemmas.List.{append-nil, take-append-drop}
 use Rattle.std.proofs.Math.Seq.{take-append_seam}
@@ -17,42 +17,44 @@ use Rattle.dsde_sim_events.specs.declared.event.Finish.TheVariants as how
 use Rattle.dsde_sim_events.specs.declared.fault.TurnEnd.{TurnEnd}
 use Rattle.dsde_sim_events.specs.declared.fault.TurnEnd.TheVariants as turn_end
 use Rattle.dsde_sim_events.specs.Told as turn
-use Rattle.dsde_sim_turns.specs.Engine.{Engine, begun}
-use Rattle.dsde_sim_turns.specs.Turn as turning
-use Rattle.dsde_sim_turns.specs.Turn.{started_tree}
-use Rattle.dsde_sim_events.specs.Told.{at, told, quietly, ◌then◌}
-use Rattle.dsde_formalism.specs.System.{System, Chosen}
-use Rattle.dsde_values.specs.Path.{root}
+use Rattle.dsde_sim_turns.specs.declared.step.Step.{Step}
+use Rattle.dsde_sim_turns.specs.Engine.{Engine}
+use Rattle.dsde_values.specs.declared.arrival.Arrival.{Arrival}
 use Rattle.dsde_trace.specs.declared.pick.Pick.{Pick}
 use Rattle.dsde_run.specs.declared.run.Cut.{Cut}
 use Rattle.dsde_run.specs.declared.run.Cut.TheVariants as cut
-use Rattle.dsde_run.specs.Run.{Running, event_text, run, start, go, faulted, kept_line, kept_text}
+use Rattle.dsde_run.specs.Run.{Running, event_text, go_by, run_by, faulted, kept_line, kept_text}
 use Rattle.dsde_run_meaning.specs.Run.{Run, preceded, ended, unstarted}
 use Rattle.dsde_run.specs.Reading.{cut_after, feeds, IsWhole, TakesWanted, Tells, IsCutShort, IsFront, Comes, ComesWhole, StartsFaulted}
+use Rattle.dsde_run.specs.Reading as source
 use Rattle.dsde_run.specs.Steps.{HandsOn, GoesOn}
+use Rattle.dsde_run.proofs.Tolds.{Told-weaker}
 use Rattle.dsde_run.proofs.Handing.{Gains-then, Gains-same, IsFront-more, IsFront-within, IsFront-failed, IsFront-none}
 
-run-started : (own : Running) (records : Records) (turns : ℕ) (engine : Engine) → (start own).end ≡ Ok engine → run own records turns ≡ preceded (start own).events (go own turns records engine)
-run-started own records turns engine e = rw e
+run-started : {State : Type 0} (engine_of : State → Engine) (advance : State → Option Arrival → turn.Told (Step × State)) (begins : turn.Told State) (own : Running) (records : Records) (turns : ℕ) (state : State) → begins.end ≡ Ok state →
+    run_by engine_of advance begins own records turns ≡ preceded begins.events (go_by engine_of advance own turns records state)
+run-started engine_of advance begins own records turns state e = rw e
 
-run-faulted : (own : Running) (records : Records) (turns : ℕ) (why : TurnEnd) → (start own).end ≡ Err why → run own records turns ≡ preceded (start own).events (faulted own why 0 0 unstarted)
-run-faulted own records turns why e = rw e
+run-faulted : {State : Type 0} (engine_of : State → Engine) (advance : State → Option Arrival → turn.Told (Step × State)) (begins : turn.Told State) (own : Running) (records : Records) (turns : ℕ) (why : TurnEnd) → begins.end ≡ Err why →
+    run_by engine_of advance begins own records turns ≡ preceded begins.events (faulted own why 0 0 unstarted)
+run-faulted engine_of advance begins own records turns why e = rw e
 
 -- the start of a run comes before its turns
-pub GoesOn-start : (own : Running) (pick : Pick) (turns : ℕ) (engine : Engine) (begun told : List Event) (empty text left : List ℕ) (old new : Option (List ℕ)) →
-    begun ≡ [] → turn.Tells (start own) begun told (Ok engine) → empty ≡ [] → text ≡ empty ++ kept_text own pick told → HandsOn old new text left → left ≡ [] →
-    (records : Records) → GoesOn own pick (run own records turns) (go own turns records engine) old new []
-GoesOn-start own pick turns engine begun told empty text left old new none tells bare written hands all records =
-    let events : told ≡ (start own).events = tells.0 ∙ ap (λ events. events ++ (start own).events) none in
-    let whole = run-started own records turns engine tells.1 in
+pub GoesOn-start : {State : Type 0} (engine_of : State → Engine) (advance : State → Option Arrival → turn.Told (Step × State)) (begins : turn.Told State) (own : Running) (pick : Pick) (turns : ℕ) (state : State) (told : List Event) (empty text left : List ℕ) (old new : Option (List ℕ)) →
+    turn.Tells begins [] told (Ok state) → empty ≡ [] → text ≡ empty ++ kept_text own pick told → HandsOn old new text left → left ≡ [] →
+    (records : Records) → GoesOn own pick (run_by engine_of advance begins own records turns) (go_by engine_of advance own turns records state) old new []
+GoesOn-start engine_of advance begins own pick turns state told empty text left old new tells bare written hands all records =
+    let events : told ≡ begins.events = tells.0 in
+    let later = go_by engine_of advance own turns records state in
+    let whole = run-started engine_of advance begins own records turns state tells.1 in
     let piece : hands.piece ≡ kept_text own pick told = sym (append-nil hands.piece) ∙ ap (λ l. hands.piece ++ l) (sym all) ∙ sym hands.split ∙ written ∙ ap (λ l. l ++ kept_text own pick told) bare in
     record {
       piece = hands.piece;
       gained = hands.gained;
       text =
           ap (λ run. kept_text own pick run.events) whole
-          ∙ flat_map-append (kept_line own pick) (start own).events (go own turns records engine).events
-          ∙ ap (λ l. l ++ kept_text own pick (go own turns records engine).events) (ap (kept_text own pick) (sym events) ∙ sym piece ∙ sym (append-nil hands.piece));
+          ∙ flat_map-append (kept_line own pick) begins.events later.events
+          ∙ ap (λ l. l ++ kept_text own pick later.events) (ap (kept_text own pick) (sym events) ∙ sym piece ∙ sym (append-nil hands.piece));
       end = ap (λ run. run.end) whole;
       state = ap (λ run. run.state) whole;
     }
@@ -105,69 +107,65 @@ pub wanted-none : (tells : Records → Run) (records : Records) (held bytes : Li
 wanted-none tells records held bytes = record { needed = []; past = []; split = refl; size = omega arith; wanted = λ some. absurd (some refl) }
 
 -- The start's lines could not be handed on.
-pub front-start : (own : Running) (pick : Pick) (turns : ℕ) (engine : Engine) (begun told : List Event) (empty text : List ℕ) (old new : Option (List ℕ)) →
-    begun ≡ [] → turn.Tells (start own) begun told (Ok engine) → empty ≡ [] → text ≡ empty ++ kept_text own pick told → GainsFront old new text →
-    (records : Records) → IsFront old new (kept_text own pick (run own records turns).events)
-front-start own pick turns engine begun told empty text old new none tells bare written failed records =
-    let events : told ≡ (start own).events = tells.0 ∙ ap (λ events. events ++ (start own).events) none in
-    let whole = run-started own records turns engine tells.1 in
-    IsFront-within old new text (kept_text own pick (go own turns records engine).events) (kept_text own pick (run own records turns).events)
+pub front-start : {State : Type 0} (engine_of : State → Engine) (advance : State → Option Arrival → turn.Told (Step × State)) (begins : turn.Told State) (own : Running) (pick : Pick) (turns : ℕ) (state : State) (told : List Event) (empty text : List ℕ) (old new : Option (List ℕ)) →
+    turn.Tells begins [] told (Ok state) → empty ≡ [] → text ≡ empty ++ kept_text own pick told → GainsFront old new text →
+    (records : Records) → IsFront old new (kept_text own pick (run_by engine_of advance begins own records turns).events)
+front-start engine_of advance begins own pick turns state told empty text old new tells bare written failed records =
+    let later = go_by engine_of advance own turns records state in
+    let whole = run-started engine_of advance begins own records turns state tells.1 in
+    IsFront-within old new text (kept_text own pick later.events) (kept_text own pick (run_by engine_of advance begins own records turns).events)
     (ap (λ run. kept_text own pick run.events) whole
-    ∙ flat_map-append (kept_line own pick) (start own).events (go own turns records engine).events
-    ∙ ap (λ l. l ++ kept_text own pick (go own turns records engine).events) (ap (kept_text own pick) (sym events) ∙ sym (written ∙ ap (λ l. l ++ kept_text own pick told) bare)))
+    ∙ flat_map-append (kept_line own pick) begins.events later.events
+    ∙ ap (λ l. l ++ kept_text own pick later.events) (ap (kept_text own pick) (sym tells.0) ∙ sym (written ∙ ap (λ l. l ++ kept_text own pick told) bare)))
     (IsFront-failed old new text failed)
 
 -- what comes behind a start, by what the start came to
-abbrev later_of : Running → Records → ℕ → Result Engine TurnEnd → Run
-later_of own records turns answer = elim answer [ Ok engine ↦ go own turns records engine | Err why ↦ faulted own why 0 0 unstarted ]
+abbrev later_of : {State : Type 0} → (State → Engine) → (State → Option Arrival → turn.Told (Step × State)) → Running → Records → ℕ → Result State TurnEnd → Run
+later_of engine_of advance own records turns answer = elim answer [ Ok state ↦ go_by engine_of advance own turns records state | Err why ↦ faulted own why 0 0 unstarted ]
 
 -- What was told of a step is the first of its events.
-told-first : {A : Type 0} (step : turn.Told A) (begun told : List Event) (why : TurnEnd) → begun ≡ [] → turn.Tells step begun told (Err why) → (rest : List Event) × (step.events ≡ told ++ rest)
-told-first step begun told (turn_end.Fault path site kind at) empty tells =
-    ([], sym (tells.0 ∙ ap (λ events. events ++ step.events) empty) ∙ sym (append-nil told))
-told-first step begun told turn_end.Memory empty tells = (
+told-first : {A : Type 0} (step : turn.Told A) (told : List Event) (why : TurnEnd) → turn.Tells step [] told (Err why) → (rest : List Event) × (step.events ≡ told ++ rest)
+told-first step told (turn_end.Fault path site kind at) tells = ([], sym tells.0 ∙ sym (append-nil told))
+told-first step told turn_end.Memory tells = (
   drop (length told) step.events,
-  sym (take-append-drop (length told) step.events)
-      ∙ ap (λ events. events ++ drop (length told) step.events)
-      (ap (λ events. take (length told) (events ++ step.events)) (sym empty) ∙ tells.front),
+  sym (take-append-drop (length told) step.events) ∙ ap (λ events. events ++ drop (length told) step.events) tells.front,
 )
 
-module _ (own : Running) (pick : Pick) (turns : ℕ) (records : Records) (begun told : List Event) (empty text : List ℕ) (old new : Option (List ℕ)) (before : List ℕ)
-    (none : begun ≡ []) (bare : empty ≡ []) (written : text ≡ empty ++ kept_text own pick told) where
+module _ {State : Type 0} (engine_of : State → Engine) (advance : State → Option Arrival → turn.Told (Step × State)) (begins : turn.Told State) (own : Running) (pick : Pick) (turns : ℕ) (records : Records) (told : List Event) (empty text : List ℕ) (old new : Option (List ℕ)) (before : List ℕ)
+    (bare : empty ≡ []) (written : text ≡ empty ++ kept_text own pick told) where
   text_is : text ≡ kept_text own pick told
   text_is = written ∙ ap (λ l. l ++ kept_text own pick told) bare
 
   -- A start that faults, and its whole text.
-  fault_text : (path : Path) (site : Site) (kind : FaultKind) (at : ℕ) → turn.Tells (start own) begun told (Err (turn_end.Fault path site kind at)) →
-      kept_text own pick (run own records turns).events ≡ text ++ kept_text own pick (faulted own (turn_end.Fault path site kind at) 0 0 unstarted).events
+  fault_text : (path : Path) (site : Site) (kind : FaultKind) (at : ℕ) → turn.Tells begins [] told (Err (turn_end.Fault path site kind at)) →
+      kept_text own pick (run_by engine_of advance begins own records turns).events ≡ text ++ kept_text own pick (faulted own (turn_end.Fault path site kind at) 0 0 unstarted).events
   fault_text path site kind at tells =
-      let events : told ≡ (start own).events = tells.0 ∙ ap (λ events. events ++ (start own).events) none in
-      ap (λ run. kept_text own pick run.events) (run-faulted own records turns (turn_end.Fault path site kind at) tells.1)
-      ∙ flat_map-append (kept_line own pick) (start own).events (faulted own (turn_end.Fault path site kind at) 0 0 unstarted).events
-      ∙ ap (λ l. l ++ kept_text own pick (faulted own (turn_end.Fault path site kind at) 0 0 unstarted).events) (ap (kept_text own pick) (sym events) ∙ sym text_is)
+      ap (λ run. kept_text own pick run.events) (run-faulted engine_of advance begins own records turns (turn_end.Fault path site kind at) tells.1)
+      ∙ flat_map-append (kept_line own pick) begins.events (faulted own (turn_end.Fault path site kind at) 0 0 unstarted).events
+      ∙ ap (λ l. l ++ kept_text own pick (faulted own (turn_end.Fault path site kind at) 0 0 unstarted).events) (ap (kept_text own pick) (sym tells.0) ∙ sym text_is)
 
-  front_fault : (path : Path) (site : Site) (kind : FaultKind) (at : ℕ) → turn.Tells (start own) begun told (Err (turn_end.Fault path site kind at)) →
-      IsFront old new (text ++ kept_text own pick (faulted own (turn_end.Fault path site kind at) 0 0 unstarted).events) → IsFront old new (kept_text own pick (run own records turns).events)
+  front_fault : (path : Path) (site : Site) (kind : FaultKind) (at : ℕ) → turn.Tells begins [] told (Err (turn_end.Fault path site kind at)) →
+      IsFront old new (text ++ kept_text own pick (faulted own (turn_end.Fault path site kind at) 0 0 unstarted).events) → IsFront old new (kept_text own pick (run_by engine_of advance begins own records turns).events)
   front_fault path site kind at tells front = subst (IsFront old new) (sym (fault_text path site kind at tells)) front
 
-  front_memory : turn.Tells (start own) begun told (Err turn_end.Memory) → IsFront old new (text ++ []) → IsFront old new (kept_text own pick (run own records turns).events)
+  front_memory : turn.Tells begins [] told (Err turn_end.Memory) → IsFront old new (text ++ []) → IsFront old new (kept_text own pick (run_by engine_of advance begins own records turns).events)
   front_memory tells front =
-      let first = told-first (start own) begun told turn_end.Memory none tells in
-      let later = later_of own records turns (start own).end in
-      IsFront-within old new (text ++ []) (kept_text own pick first.0 ++ kept_text own pick later.events) (kept_text own pick (run own records turns).events)
-      (flat_map-append (kept_line own pick) (start own).events later.events
+      let first = told-first begins told turn_end.Memory tells in
+      let later = later_of engine_of advance own records turns begins.end in
+      IsFront-within old new (text ++ []) (kept_text own pick first.0 ++ kept_text own pick later.events) (kept_text own pick (run_by engine_of advance begins own records turns).events)
+      (flat_map-append (kept_line own pick) begins.events later.events
       ∙ ap (λ l. l ++ kept_text own pick later.events) (ap (kept_text own pick) first.1 ∙ flat_map-append (kept_line own pick) told first.0)
       ∙ append_assoc (kept_text own pick told) (kept_text own pick first.0) (kept_text own pick later.events)
       ∙ ap (λ l. l ++ (kept_text own pick first.0 ++ kept_text own pick later.events)) (sym text_is ∙ sym (append-nil text)))
       front
 
-  pub comes-unstarted : (why : TurnEnd) (result : Result Finish Cut) → turn.Tells (start own) begun told (Err why) → StartsFaulted own pick why text old new result →
-      ComesWhole own pick (λ records. run own records turns) records old new result before before
+  pub comes-unstarted : (why : TurnEnd) (result : Result Finish Cut) → turn.Tells begins [] told (Err why) → StartsFaulted own pick why text old new result →
+      ComesWhole own pick (λ records. run_by engine_of advance begins own records turns) records old new result before before
   comes-unstarted (turn_end.Fault path site kind at) (Ok how) tells starts = (
     unstarted,
     record {
       text = subst (Gains old new) (ap (λ l. text ++ l) (sym (kept-ended own pick how 0 0 unstarted) ∙ ap (λ run. kept_text own pick run.events) (sym starts.0)) ∙ sym (fault_text path site kind at tells)) starts.1;
-      end = ap (λ run. run.end) (run-faulted own records turns (turn_end.Fault path site kind at) tells.1) ∙ ap (λ run. run.end) starts.0;
+      end = ap (λ run. run.end) (run-faulted engine_of advance begins own records turns (turn_end.Fault path site kind at) tells.1) ∙ ap (λ run. run.end) starts.0;
       stands = λ is. absurd (starts.2 is);
     },
   )
@@ -209,30 +207,9 @@ comes-short own pick tells all old new cut.ReadFault before after other front = 
 comes-short own pick tells all old new cut.Unwritten before after other front = (unstarted, front)
 comes-short own pick tells all old new cut.Memory before after other front = (unstarted, front)
 
--- a step that comes to its end has a first part that does
-ends-first : {A B : Type 0} (end : Result A TurnEnd) (step : turn.Told A) (next : A → turn.Told B) (value : B) → step.end ≡ end →
-    (step then next).end ≡ Ok value → (first : A) × ((next first).end ≡ Ok value)
-ends-first (Ok first) step next value is ends = (first, rw is at ends)
-ends-first (Err why) step next value is ends = let two = rw is at ends in absurd (cc two)
-
-same_ok : {A : Type 0} (this that : A) → ◌≡◌ {A = Result A TurnEnd} (Ok this) (Ok that) → this ≡ that
-same_ok this that same = cc same
-
--- An engine that has started has a tree, and no turn of it is done.
-pub record IsBegun (engine : Engine) : Type 0 where
-  pub has_tree : is_some engine.tree ≡ true
-  pub none_done : engine.turn ≡ 0
-  pub at_start : engine.time ≡ 0
-
-pub is_begun : (system : System) (engine : Engine) → (turning.start system).end ≡ Ok engine → IsBegun engine
-is_begun system engine ends =
-    let first = ends-first (at root system.top) (quietly (at root system.top))
-    (λ (chosen : Chosen). started_tree system chosen.model chosen.args then (λ own. told [] (begun own))) engine refl ends in
-    let second = ends-first (started_tree system first.0.model first.0.args).end (started_tree system first.0.model first.0.args)
-    (λ own. told [] (begun own)) engine refl first.1 in
-    let is : begun second.0 ≡ engine = same_ok (begun second.0) engine second.1 in
-    record {
-      has_tree = ap (λ (engine : Engine). is_some engine.tree) (sym is);
-      none_done = ap (λ (engine : Engine). engine.turn) (sym is);
-      at_start = ap (λ (engine : Engine). engine.time) (sym is);
-    }
+-- an engine stands where a whole run did
+pub whole-stands : (own : Running) (pick : Pick) (tells : Records → Run) (records : List ℕ → Records) (engine : Engine) (old new left rest : Option (List ℕ)) (result : Result Finish Cut) →
+    source.Told left rest (λ before. Comes own pick tells (records before) engine old new result [] before) →
+    IfOk result (λ how. IsWhole how → source.Told left rest (λ before after. engine ≡ (tells (records before)).state))
+whole-stands own pick tells records engine old new left rest (Ok how) comes = λ is. Told-weaker left rest comes (λ before after tells. tells.stands is)
+whole-stands own pick tells records engine old new left rest (Err why) comes = tt

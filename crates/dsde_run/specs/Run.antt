@@ -44,6 +44,16 @@ go own = runs.go (system own.model) own.spots
 abbrev pub run : Running → Records → ℕ → Run
 run own = runs.run (system own.model) own.spots
 
+-- the same by engines that advance in another way: one turn, turns one after the other, and turns behind a start
+abbrev pub turn_by : {State : Type 0} → (State → Engine) → (State → Option Arrival → Told (Step × State)) → Running → State → Option Arrival → (Bool → State → Run) → Run
+turn_by engine advance own = runs.turn_by engine advance own.spots
+
+abbrev pub go_by : {State : Type 0} → (State → Engine) → (State → Option Arrival → Told (Step × State)) → Running → ℕ → Records → State → Run
+go_by engine advance own = runs.go_by engine advance own.spots
+
+abbrev pub run_by : {State : Type 0} → (State → Engine) → (State → Option Arrival → Told (Step × State)) → Told State → Running → Records → ℕ → Run
+run_by engine advance begins own = runs.run_by engine advance begins own.spots
+
 -- the records of an input to it
 abbrev pub records_in : Running → List ℕ → Records
 records_in own bytes = runs.records_in (top_ins own.model) (types_of own.model) bytes

@@ -6,12 +6,17 @@ use Rattle.dsde_input_records.specs.Record.{AreItems}
 use Rattle.dsde_declared.specs.declared.ids.ModelId.{ModelId}
 use Rattle.dsde_declared.specs.Models.{top_ins, top_number, types_of}
 use Rattle.dsde_sim.specs.Working as sim
-use Rattle.dsde_sim.specs.Working.{Working, HeadComes, working}
+use Rattle.dsde_sim.specs.Working.{HeadComes, working}
 use Rattle.dsde_values.specs.declared.arrival.Arrival.{Arrival}
 use Rattle.dsde_input_records.specs.declared.end.InputEnd.{InputEnd}
 use Rattle.dsde_input_records.specs.declared.end.InputEnd.TheVariants.{ReadFault}
 use Rattle.dsde_input_records.specs.Records.{Records, end, bad, one}
+use Rattle.dsde_sim_events.specs.Told.{Told, Tells}
+use Rattle.dsde_sim_events.specs.declared.event.Event.{Event}
 use Rattle.dsde_sim_events.specs.declared.event.Event.TheVariants as event
+use Rattle.dsde_sim_events.specs.declared.fault.TurnEnd.{TurnEnd}
+use Rattle.dsde_sim_turns.specs.declared.step.Step.{Step}
+use Rattle.dsde_syntax.specs.declared.decl.Model.{Model}
 use Rattle.dsde_sim_events.specs.declared.event.Finish.{Finish}
 use Rattle.dsde_sim_turns.specs.Engine.{Engine}
 use Rattle.dsde_input.specs.Reader.{Reader, IsOffence, least_time, to_come, records, TakesOfLine}
@@ -23,7 +28,8 @@ use Rattle.dsde_run.specs.declared.run.Unready.{Unready}
 use Rattle.dsde_run.specs.declared.run.Unready.TheVariants as unready
 use Rattle.dsde_run.specs.declared.run.After.{After}
 use Rattle.dsde_run.specs.declared.run.After.TheVariants.{Turned, Ended}
-use Rattle.dsde_run.specs.Run.{Running, event_text, go, turn_on, kept_text}
+use Rattle.dsde_run.specs.Run.{Running, event_text, turn_by, kept_text}
+use Rattle.dsde_run_engine.specs.Advancing.{IsTurned}
 use Rattle.dsde_run_meaning.specs.Run.{Run, offended, ended}
 use Rattle.dsde_run.specs.Reading.{feeds, cut_after, IsWhole, TakesWanted, IsFront}
 use Rattle.dsde_run.specs.declared.run.Cut.{Cut}
@@ -62,11 +68,11 @@ pub record GoesOn (own : Running) (pick : Pick) (whole rest : Run) (old new : Op
   pub state : whole.state ≡ rest.state
 
 -- One turn is done, or the run ended with it, whatever comes later.
-abbrev pub Turns : Running → Pick → Engine → Option Arrival → Engine → List ℕ → List ℕ → After → Type 0
-Turns own pick before head after old new (Turned took_input) =
-    (later : Bool → Engine → Run) → GoesIn own pick (turn_on own before head later) (later took_input after) old new
-Turns own pick before head after old new (Ended how) =
-    (later : Bool → Engine → Run) → EndsIn own pick (turn_on own before head later) after old new how
+abbrev pub Turns : {State : Type 0} → (State → Engine) → (State → Option Arrival → Told (Step × State)) → Running → Pick → State → Option Arrival → State → List ℕ → List ℕ → After → Type 0
+Turns {State} engine advance own pick before head after old new (Turned took_input) =
+    (later : Bool → State → Run) → GoesIn own pick (turn_by engine advance own before head later) (later took_input after) old new
+Turns {State} engine advance own pick before head after old new (Ended how) =
+    (later : Bool → State → Run) → EndsIn own pick (turn_by engine advance own before head later) (engine after) old new how
 
 -- the line of an end
 abbrev pub line_of : Running → Run → List ℕ
@@ -173,24 +179,35 @@ pub record Stands (own : Running) (pick : Pick) (tells rest : Records → Run) (
   pub read_out : from.ended ≡ false → reader.ended ≡ true → after ≡ []
   pub goes : (later : Records) → (head ≡ Over → later ≡ end) → GoesOn own pick (tells (ahead given later)) (rest (with_head head later)) old new buffer
 
--- A turn is not later than its head, and at the head's time where it takes it.
-abbrev pub IsTimely : Option Arrival → Engine → After → Type 0
-IsTimely (Some arrival) after (Turned took_input) = (after.time ≤ arrival.time) × (took_input ≡ true → after.time ≡ arrival.time)
-IsTimely head after ended = Unit {0}
-
--- An engine is ready for the turn behind that of this engine.
-pub record IsNext (before after : Working) : Type 0 where
-  pub fresh : is_some after.engine.tree ≡ true
-  pub counted : after.engine.turn ≡ before.engine.turn + 1
-  pub same : after.program ≡ before.program
-  pub root : (number : ModelId) → sim.IsRoot number before.engine → sim.IsRoot number after.engine
+-- An engine is ready for the turn behind that of this engine, which had this head of the input.
+pub record IsNext (before after : Engine) (head : Option Arrival) (took_input : Bool) : Type 0 where
+  pub fresh : is_some after.tree ≡ true
+  pub turned : IsTurned before after head took_input
+  pub root : (number : ModelId) → sim.IsRoot number before → sim.IsRoot number after
 
 -- The engine is ready for a turn more where the run goes on.
-abbrev pub Readies : Working → Working → After → Type 0
-Readies before after (Turned took_input) = IsNext before after
-Readies before after (Ended how) = Unit {0}
+abbrev pub Readies : Engine → Engine → Option Arrival → After → Type 0
+Readies before after head (Turned took_input) = IsNext before after head took_input
+Readies before after head (Ended how) = Unit {0}
 
 -- The engine is not spent where the run ends otherwise than by a fault.
-abbrev pub IsUnspent : Working → After → Type 0
-IsUnspent own (Turned took_input) = is_some own.engine.tree ≡ true
-IsUnspent own (Ended how) = IsWhole how → is_some own.engine.tree ≡ true
+abbrev pub IsUnspent : Engine → After → Type 0
+IsUnspent engine (Turned took_input) = is_some engine.tree ≡ true
+IsUnspent engine (Ended how) = IsWhole how → is_some engine.tree ≡ true
+
+-- An engine that has started has a tree, and no turn of it is done.
+pub record IsBegun (engine : Engine) : Type 0 where
+  pub has_tree : is_some engine.tree ≡ true
+  pub none_done : engine.turn ≡ 0
+  pub at_start : engine.time ≡ 0
+
+-- An engine has started as one of the program that runs.
+pub record Starts (own : Running) (program : Model) (engine : Engine) : Type 0 where
+  pub is_program : program ≡ own.model
+  pub root : IsRoot own engine
+  pub begun : IsBegun engine
+
+-- These are the events of a start, and it came to this.
+abbrev pub Begins : {Machine State : Type 0} → (Machine → State) → Told State → List Event → Result Machine TurnEnd → Type 0
+Begins state begins events (Ok own) = Tells begins [] events (Ok (state own))
+Begins state begins events (Err why) = Tells begins [] events (Err why)

@@ -1,9 +1,9 @@
 //! How the turns of a run end, in one list.
 
-ghost use Rattle.std.specs.Prelude.{◌≡◌, ◌+◌, ◌<◌, ◌≤◌, ◌^◌, [], true, false, is_some};
+ghost use Rattle.std.specs.Prelude.{◌≡◌, ◌+◌, ◌<◌, ◌≤◌, ◌^◌, [], true, false, is_some, IfOk};
 ghost use Rattle.dsde_io.specs.Fault.{Rose};
-ghost use Rattle.dsde_run.specs.Run.{go};
-ghost use Rattle.dsde_run.specs.Reading.{Told, TakesWanted, Comes};
+ghost use Rattle.dsde_run.specs.Run.{go_by};
+ghost use Rattle.dsde_run.specs.Reading.{Told, IsWhole, TakesWanted, Comes};
 ghost use Rattle.dsde_input.specs.Reader.{least_time};
 ghost use Rattle.dsde_run.specs.Steps.{IsRoot, to_give};
 ghost use Rattle.dsde_run.specs.Ends.{answer_of};
@@ -12,7 +12,7 @@ use crate::Running;
 use crate::run::{Cut, go};
 use dsde_input::InputReader;
 use dsde_io::{Sink, Source};
-use dsde_sim::Plain;
+use dsde_run_engine::Advance;
 use dsde_sim_events::{Fault, Finish, InputKind};
 use dsde_trace::Pick;
 use std::alloc::Global;
@@ -30,9 +30,9 @@ pub enum RunEnd {
 }
 
 /// At most this many turns. The lines of a turn are handed on before the next record is asked for.
-pub fn run_turns<R: Source, W: Sink>(
+pub fn run_turns<E: Advance, R: Source, W: Sink>(
     alloc: Global,
-    plain: &mut Plain<'_>,
+    engine: &mut E,
     reader: &mut InputReader,
     source: &mut R,
     sink: &mut W,
@@ -40,25 +40,30 @@ pub fn run_turns<R: Source, W: Sink>(
     pick: Pick,
     turns: u64,
 ) -> RunEnd
-    requires program { plain.old.program ≡ own.now.model }
-    requires root { IsRoot own.now plain.old.engine }
-    requires fresh { is_some plain.old.engine.tree ≡ true }
-    requires in_time { plain.old.engine.time ≤ least_time reader.old }
-    requires bounded { plain.old.engine.turn + turns < 2 ^ 63 }
+    requires program { E.program engine.old ≡ own.now.model }
+    requires root { IsRoot own.now (E.engine (E.state engine.old)) }
+    requires fresh { is_some (E.engine (E.state engine.old)).tree ≡ true }
+    requires in_time { (E.engine (E.state engine.old)).time ≤ least_time reader.old }
+    requires bounded { (E.engine (E.state engine.old)).turn + turns < 2 ^ 63 }
 
     ensures comes { Told (R.left source.old) (R.left source.new) (λ before.
-        Comes own.now pick (λ records. go own.now turns records plain.old.engine) (to_give own.now reader.old before)
-        plain.new.engine (W.written sink.old) (W.written sink.new) (answer_of result) reader.old.held before) }
+        Comes own.now pick (λ records. go_by E.engine (E.advance own.now.model) own.now turns records (E.state engine.old)) (to_give own.now reader.old before)
+        (E.engine (E.state engine.new)) (W.written sink.old) (W.written sink.new) (answer_of result) reader.old.held before) }
     ensures taken { Told (R.left source.old) (R.left source.new) (λ before.
-        TakesWanted (λ records. go own.now turns records plain.old.engine) (to_give own.now reader.old before) reader.old.held before) }
+        TakesWanted (λ records. go_by E.engine (E.advance own.now.model) own.now turns records (E.state engine.old)) (to_give own.now reader.old before) reader.old.held before) }
     ensures quiet { reader.old.ended ≡ false → result ≡ RunEnd.Quiet → Told (R.left source.old) (R.left source.new) (λ _ after. after ≡ []) }
+
+    ensures program { E.program engine.new ≡ E.program engine.old }
+    ensures unspent { IfOk (answer_of result) (λ how. IsWhole how → is_some (E.engine (E.state engine.new)).tree ≡ true) }
+    ensures unspent_cut { result ≡ RunEnd.ReadFault → is_some (E.engine (E.state engine.new)).tree ≡ true }
 
     ensures unread { result ≡ RunEnd.ReadFault → Rose (R.faults source.old) (R.faults source.new) }
     ensures unwritten { result ≡ RunEnd.Unwritten → Rose (W.faults sink.old) (W.faults sink.new) }
     ensures reads_counted { R.faults source.old ≤ R.faults source.new }
     ensures writes_counted { W.faults sink.old ≤ W.faults sink.new }
+    ensures idle { turns ≡ 0 → (source.new ≡ source.old) × (reader.new ≡ reader.old) }
 {
-    flat(go(alloc, plain, reader, source, sink, own, pick, turns))
+    flat(go(alloc, engine, reader, source, sink, own, pick, turns))
 }
 
 fn flat(answer: Result<Finish, Cut>) -> RunEnd

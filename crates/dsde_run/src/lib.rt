@@ -10,6 +10,6 @@ mod whole;
 pub use dsde_io::write_all;
 pub use dsde_run_big::big_model;
 pub use ends::{RunEnd, run_turns};
-pub use run::Cut;
+pub use run::{Cut, finish_of};
 pub use running::Running;
-pub use whole::run_model;
+pub use whole::{run_leaving, run_model, run_started};

@@ -8,14 +8,14 @@ ghost use Rattle.dsde_sim_events.specs.declared.event.Event.TheVariants as event
 ghost use Rattle.dsde_sim_turns.specs.Engine.{Engine};
 ghost use Rattle.dsde_input.specs.Reader.{IsOffence, least_time};
 ghost use Rattle.dsde_run_meaning.specs.Run.{Run, ended, offended};
-ghost use Rattle.dsde_run.specs.Run.{go, turn_on, faulted, kept_text, event_text};
+ghost use Rattle.dsde_run.specs.Run.{go_by, faulted, kept_text, event_text};
 ghost use Rattle.dsde_run.specs.Reading.{Told, IsWhole, TakesWanted, Comes, IsFront};
-ghost use Rattle.dsde_run.specs.Steps.{HandsOn, Turns, Readies, IsRoot, IsTimely, IsUnspent, Stops, line_of, IsReady, IsUnready, Halts, Asked, Refused, ComesBy, Waits, passed, record_of, to_give};
+ghost use Rattle.dsde_run.specs.Steps.{HandsOn, Turns, Readies, IsRoot, IsUnspent, Stops, line_of, IsReady, IsUnready, Halts, Asked, Refused, ComesBy, Waits, passed, record_of, to_give};
 
 use crate::Running;
 use dsde_input::{InputEnd, InputReader};
 use dsde_io::{Sink, SinkEnd, Source, write_all};
-use dsde_sim::Plain;
+use dsde_run_engine::Advance;
 use dsde_sim_events::{Event, Fault, Finish, InputKind, TurnEnd};
 use dsde_sim_turns::Step;
 use dsde_trace::{Pick, picked, write_end};
@@ -96,9 +96,9 @@ enum After {
 }
 
 /// At most this many turns. The lines of a turn are handed on before the next record is asked for.
-pub(crate) fn go<R: Source, W: Sink>(
+pub(crate) fn go<E: Advance, R: Source, W: Sink>(
     alloc: Global,
-    plain: &mut Plain<'_>,
+    engine: &mut E,
     reader: &mut InputReader,
     source: &mut R,
     sink: &mut W,
@@ -106,21 +106,22 @@ pub(crate) fn go<R: Source, W: Sink>(
     pick: Pick,
     turns: u64,
 ) -> Result<Finish, Cut>
-    requires program { plain.old.program ≡ own.now.model }
-    requires root { IsRoot own.now plain.old.engine }
-    requires fresh { is_some plain.old.engine.tree ≡ true }
-    requires in_time { plain.old.engine.time ≤ least_time reader.old }
-    requires bounded { plain.old.engine.turn + turns < 2 ^ 63 }
+    requires program { E.program engine.old ≡ own.now.model }
+    requires root { IsRoot own.now (E.engine (E.state engine.old)) }
+    requires fresh { is_some (E.engine (E.state engine.old)).tree ≡ true }
+    requires in_time { (E.engine (E.state engine.old)).time ≤ least_time reader.old }
+    requires bounded { (E.engine (E.state engine.old)).turn + turns < 2 ^ 63 }
 
     ensures comes { Told (R.left source.old) (R.left source.new) (λ before.
-        Comes own.now pick (λ records. go own.now turns records plain.old.engine) (to_give own.now reader.old before)
-        plain.new.engine (W.written sink.old) (W.written sink.new) result reader.old.held before) }
+        Comes own.now pick (λ records. go_by E.engine (E.advance own.now.model) own.now turns records (E.state engine.old)) (to_give own.now reader.old before)
+        (E.engine (E.state engine.new)) (W.written sink.old) (W.written sink.new) result reader.old.held before) }
     ensures taken { Told (R.left source.old) (R.left source.new) (λ before.
-        TakesWanted (λ records. go own.now turns records plain.old.engine) (to_give own.now reader.old before) reader.old.held before) }
+        TakesWanted (λ records. go_by E.engine (E.advance own.now.model) own.now turns records (E.state engine.old)) (to_give own.now reader.old before) reader.old.held before) }
     ensures quiet { reader.old.ended ≡ false → result ≡ Ok Finish.Quiet → Told (R.left source.old) (R.left source.new) (λ _ after. after ≡ []) }
 
-    ensures unspent { IfOk result (λ how. IsWhole how → is_some plain.new.engine.tree ≡ true) }
-    ensures unspent_cut { IsErrOf result Cut.ReadFault → is_some plain.new.engine.tree ≡ true }
+    ensures program { E.program engine.new ≡ E.program engine.old }
+    ensures unspent { IfOk result (λ how. IsWhole how → is_some (E.engine (E.state engine.new)).tree ≡ true) }
+    ensures unspent_cut { IsErrOf result Cut.ReadFault → is_some (E.engine (E.state engine.new)).tree ≡ true }
 
     ensures unread { IsErrOf result Cut.ReadFault → Rose (R.faults source.old) (R.faults source.new) }
     ensures unwritten { IsErrOf result Cut.Unwritten → Rose (W.faults sink.old) (W.faults sink.new) }
@@ -133,9 +134,9 @@ pub(crate) fn go<R: Source, W: Sink>(
     let mut head = Head::Wanted;
     for _turn in 0..turns {
         if let Err(why) = ready(&mut head, reader, source, own, &mut text, sink) {
-            return halt(why, plain.turn(), plain.time(), own, &mut text, sink);
+            return halt(why, engine.turn(), engine.time(), own, &mut text, sink);
         }
-        let after = match turn(plain, &head, own, pick, &mut events, &mut text) {
+        let after = match turn(engine, &head, own, pick, &mut events, &mut text) {
             Ok(after) => after,
             Err(Memory) => return Err(Cut::Memory),
         };
@@ -149,8 +150,8 @@ pub(crate) fn go<R: Source, W: Sink>(
     }
     finish(
         Finish::Bound,
-        plain.turn(),
-        plain.time(),
+        engine.turn(),
+        engine.time(),
         own,
         &mut text,
         sink,
@@ -249,34 +250,34 @@ fn hand_on_much<W: Sink>(text: &mut Text, sink: &mut W) -> Result<(), Cut>
 
 /// Takes one turn with this head of the input. Its events are put into a list that is empty, and are
 /// taken out again, so that one list serves all turns.
-fn turn(
-    plain: &mut Plain<'_>,
+fn turn<E: Advance>(
+    engine: &mut E,
     head: &Head,
     own: &Running<'_>,
     pick: Pick,
     events: &mut Seq<Event>,
     text: &mut Text,
 ) -> Result<After, Memory>
-    requires program { plain.old.program ≡ own.now.model }
-    requires fresh { is_some plain.old.engine.tree ≡ true }
-    requires turns { plain.old.engine.turn < 2 ^ 63 }
-    requires root { IsRoot own.now plain.old.engine }
+    requires program { E.program engine.old ≡ own.now.model }
+    requires fresh { is_some (E.engine (E.state engine.old)).tree ≡ true }
+    requires turns { (E.engine (E.state engine.old)).turn < 2 ^ 63 }
+    requires root { IsRoot own.now (E.engine (E.state engine.old)) }
     requires comes { IfSome (record_of head.now) (ComesBy own.now) }
-    requires late { IfSome (record_of head.now) (λ arrival. plain.old.engine.time ≤ arrival.time) }
+    requires late { IfSome (record_of head.now) (λ arrival. (E.engine (E.state engine.old)).time ≤ arrival.time) }
     requires empty { events.old ≡ [] }
-    ensures turns { IfOk result (Turns own.now pick plain.old.engine (record_of head.now) plain.new.engine text.old text.new) }
-    ensures readies { IfOk result (Readies plain.old plain.new) }
-    ensures timely { IfOk result (IsTimely (record_of head.now) plain.new.engine) }
-    ensures unspent { IfOk result (λ after. IsUnspent plain.new after) }
+    ensures turns { IfOk result (Turns E.engine (E.advance own.now.model) own.now pick (E.state engine.old) (record_of head.now) (E.state engine.new) text.old text.new) }
+    ensures program { E.program engine.new ≡ E.program engine.old }
+    ensures readies { IfOk result (Readies (E.engine (E.state engine.old)) (E.engine (E.state engine.new)) (record_of head.now)) }
+    ensures unspent { IfOk result (IsUnspent (E.engine (E.state engine.new))) }
     ensures quiet { IfOk result (λ after. after ≡ After.Ended Finish.Quiet → record_of head.now ≡ None) }
     ensures emptied { OnOk result (events.new ≡ []) }
 {
     own.comes();
     let head = head.record();
-    let done = plain.turn();
-    let last = plain.time();
-    let time = plain.turn_time(head).unwrap_or(last);
-    let step = plain.advance(head, events);
+    let done = engine.turn();
+    let last = engine.time();
+    let time = engine.turn_time(head).unwrap_or(last);
+    let step = engine.advance(head, events);
     write_events(events.as_slice(), own, pick, text)?;
     events.truncate(0);
     match step {
@@ -300,11 +301,13 @@ fn last_line(
     Ok(After::Ended(how))
 }
 
-/// How a run ends whose turn did not come to its end.
-pub(crate) fn finish_of(end: TurnEnd, own: &Running<'_>) -> Result<Finish, Memory>
+/// How a run ends whose start or turn did not come to its end. `Memory` comes exactly where that is
+/// why it did not.
+pub fn finish_of(end: TurnEnd, own: &Running<'_>) -> Result<Finish, Memory>
     ensures not_whole { IfOk result (λ how. ¬ (IsWhole how)) }
     ensures fault { IfOk result (λ how. (turns time : ℕ) (engine : Engine) → faulted own.now end turns time engine ≡ ended how turns time engine) }
     ensures not_quiet { IfOk result (λ how. how ≢ Finish.Quiet) }
+    ensures memory { OnErr result (end ≡ TurnEnd.Memory) }
 {
     match end {
         TurnEnd::Memory => Err(Memory),

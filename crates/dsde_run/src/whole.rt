@@ -1,18 +1,20 @@
 //! A whole run: the start of an engine, and its turns.
 
-ghost use Rattle.std.specs.Prelude.{◌≡◌, ◌<◌, ◌≤◌, ◌^◌, Ok, [], IfOk, IfErr, OnOk, OnErr, IsErrOf};
+ghost use Rattle.std.specs.Prelude.{◌≡◌, ◌<◌, ◌≤◌, ◌^◌, Ok, [], true, is_some, IfOk, IfErr, OnOk, OnErr, IsErrOf, IsSomeAnd};
 ghost use Rattle.dsde_io.specs.Fault.{Rose};
-ghost use Rattle.dsde_sim_events.specs.Told.{Tells};
+ghost use Rattle.dsde_sim_events.specs.Told as told;
 ghost use Rattle.dsde_sim_events.specs.declared.fault.TurnEnd.{TurnEnd};
-ghost use Rattle.dsde_run.specs.Run.{run, start, records_in, kept_text};
-ghost use Rattle.dsde_run.specs.Reading.{Told, TakesWanted, ComesWhole, IsFront, StartsFaulted};
+ghost use Rattle.dsde_run.specs.Run.{run, run_by, records_in, kept_text};
+ghost use Rattle.dsde_run.specs.Reading.{Told, IsWhole, TakesWanted, ComesWhole, IsFront, StartsFaulted};
+ghost use Rattle.dsde_run.specs.Steps.{Begins, Starts};
 
 use crate::Running;
 use crate::run::{Cut, finish, finish_of, go, hand_on, write_events};
 use dsde_input::InputReader;
 use dsde_io::{Sink, Source};
+use dsde_run_engine::Advance;
 use dsde_sim::Plain;
-use dsde_sim_events::{Finish, TurnEnd};
+use dsde_sim_events::{Event, Finish, TurnEnd};
 use dsde_trace::Pick;
 use dsde_values::{Memory, Seq, Text};
 use std::alloc::Global;
@@ -41,14 +43,93 @@ pub fn run_model<R: Source, W: Sink>(
     ensures writes_counted { W.faults sink.old ≤ W.faults sink.new }
     ensures idle { turns ≡ 0 → source.new ≡ source.old }
 {
+    let mut left = None;
+    run_leaving(alloc, own, pick, turns, source, sink, &mut left)
+}
+
+/// The same, and leaves the engine in `left`: where the run ended otherwise than by a fault it stands
+/// where the run did, and is not spent.
+pub fn run_leaving<'p, R: Source, W: Sink>(
+    alloc: Global,
+    own: &Running<'p>,
+    pick: Pick,
+    turns: u64,
+    source: &mut R,
+    sink: &mut W,
+    left: &mut Option<Plain<'p>>,
+) -> Result<Finish, Cut>
+    requires turns { turns < 2 ^ 63 }
+
+    ensures comes { Told (R.left source.old) (R.left source.new) (λ before.
+        ComesWhole own.now pick (λ records. run own.now records turns) (records_in own.now before) (W.written sink.old) (W.written sink.new) result before) }
+    ensures taken { Told (R.left source.old) (R.left source.new) (λ before.
+        TakesWanted (λ records. run own.now records turns) (records_in own.now before) [] before) }
+    ensures quiet { result ≡ Ok Finish.Quiet → Told (R.left source.old) (R.left source.new) (λ _ after. after ≡ []) }
+
+    ensures left { IfOk result (λ how. IsWhole how → IsSomeAnd left.new (λ plain. (plain.program ≡ own.now.model) × (is_some plain.engine.tree ≡ true))) }
+    ensures stands { IfOk result (λ how. IsWhole how → Told (R.left source.old) (R.left source.new) (λ before after.
+        IsSomeAnd left.new (λ plain. plain.engine ≡ (run own.now (records_in own.now before) turns).state))) }
+
+    ensures unread { IsErrOf result Cut.ReadFault → Rose (R.faults source.old) (R.faults source.new) }
+    ensures unwritten { IsErrOf result Cut.Unwritten → Rose (W.faults sink.old) (W.faults sink.new) }
+    ensures reads_counted { R.faults source.old ≤ R.faults source.new }
+    ensures writes_counted { W.faults sink.old ≤ W.faults sink.new }
+    ensures idle { turns ≡ 0 → source.new ≡ source.old }
+{
     let mut events = Seq::new(alloc);
-    let mut text = Text::new(alloc);
     let started = Plain::start(alloc, own.program(), &mut events);
-    if let Err(Memory) = write_events(events.as_slice(), own, pick, &mut text) {
+    run_started(
+        alloc,
+        started,
+        events.as_slice(),
+        own,
+        pick,
+        turns,
+        source,
+        sink,
+        left,
+    )
+}
+
+/// Runs a program behind the start of an engine of it, in whatever order its parts move, for at most
+/// this many turns: `started` is what the start came to, and `events` are the events that it told, whose
+/// lines are handed on before the first record is wanted. Leaves the engine in `left`.
+pub fn run_started<E: Advance + Drop, R: Source, W: Sink>(
+    alloc: Global,
+    started: Result<E, TurnEnd>,
+    events: &[Event],
+    own: &Running<'_>,
+    pick: Pick,
+    turns: u64,
+    source: &mut R,
+    sink: &mut W,
+    left: &mut Option<E>,
+) -> Result<Finish, Cut>
+    requires starts { IfOk started (λ engine. Starts own.now (E.program engine) (E.engine (E.state engine))) }
+    requires turns { turns < 2 ^ 63 }
+
+    ensures comes { (begins : told.Told E.State) → Begins E.state begins events.now started → Told (R.left source.old) (R.left source.new) (λ before.
+        ComesWhole own.now pick (λ records. run_by E.engine (E.advance own.now.model) begins own.now records turns) (records_in own.now before) (W.written sink.old) (W.written sink.new) result before) }
+    ensures taken { (begins : told.Told E.State) → Begins E.state begins events.now started → Told (R.left source.old) (R.left source.new) (λ before.
+        TakesWanted (λ records. run_by E.engine (E.advance own.now.model) begins own.now records turns) (records_in own.now before) [] before) }
+    ensures quiet { result ≡ Ok Finish.Quiet → Told (R.left source.old) (R.left source.new) (λ _ after. after ≡ []) }
+
+    ensures left { IfOk result (λ how. IsWhole how → IsSomeAnd left.new (λ engine. (E.program engine ≡ own.now.model) × (is_some (E.engine (E.state engine)).tree ≡ true))) }
+    ensures stands { (begins : told.Told E.State) → Begins E.state begins events.now started → IfOk result (λ how. IsWhole how → Told (R.left source.old) (R.left source.new) (λ before after.
+        IsSomeAnd left.new (λ engine. E.engine (E.state engine) ≡ (run_by E.engine (E.advance own.now.model) begins own.now (records_in own.now before) turns).state))) }
+
+    ensures unread { IsErrOf result Cut.ReadFault → Rose (R.faults source.old) (R.faults source.new) }
+    ensures unwritten { IsErrOf result Cut.Unwritten → Rose (W.faults sink.old) (W.faults sink.new) }
+    ensures reads_counted { R.faults source.old ≤ R.faults source.new }
+    ensures writes_counted { W.faults sink.old ≤ W.faults sink.new }
+    ensures idle { turns ≡ 0 → source.new ≡ source.old }
+{
+    let mut text = Text::new(alloc);
+    if let Err(Memory) = write_events(events, own, pick, &mut text) {
         return Err(Cut::Memory);
     }
     match started {
-        Ok(mut plain) => {
+        Ok(mut engine) => {
             if let Err(cut) = hand_on(&mut text, sink) {
                 return Err(cut);
             }
@@ -56,16 +137,18 @@ pub fn run_model<R: Source, W: Sink>(
                 Ok(reader) => reader,
                 Err(Memory) => return Err(Cut::Memory),
             };
-            go(
+            let answer = go(
                 alloc,
-                &mut plain,
+                &mut engine,
                 &mut reader,
                 source,
                 sink,
                 own,
                 pick,
                 turns,
-            )
+            );
+            *left = Some(engine);
+            answer
         }
         Err(end) => not_started(end, own, pick, &mut text, sink),
     }

@@ -6,8 +6,7 @@ ghost use Rattle.dsde_trace.specs.Count.{counts_from, none_counted};
 ghost use Rattle.dsde_run.specs.Run.{go, run};
 ghost use Rattle.dsde_run_count.specs.Counting.{Counts, CountsTurn, EndsCounted, IsNextTurn, IsOwnEnd, total};
 
-use crate::finish::finish_of;
-use dsde_run::Running;
+use dsde_run::{Running, finish_of};
 use dsde_sim::Plain;
 use dsde_sim_events::{Event, Finish};
 use dsde_sim_turns::Step;

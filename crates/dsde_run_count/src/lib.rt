@@ -3,7 +3,6 @@
 #![tactic(auto)]
 
 mod count;
-mod finish;
 mod summary;
 
 pub use count::{Counted, count_run};

@@ -16,6 +16,8 @@ use Rattle.dsde_sim_events.specs.declared.event.Finish.TheVariants as how
 use Rattle.dsde_sim_events.specs.declared.event.InputKind.TheVariants as kind
 use Rattle.dsde_sim_events.specs.declared.fault.TurnEnd.{TurnEnd}
 use Rattle.dsde_sim_events.specs.declared.fault.TurnEnd.TheVariants.{Fault, Memory}
+use Rattle.dsde_sim_events.specs.Told.{Told}
+use Rattle.dsde_sim_turns.specs.declared.step.Step.{Step}
 use Rattle.dsde_sim_turns.specs.declared.step.Step.TheVariants.{Turned, Quiet}
 use Rattle.dsde_sim_turns.specs.Engine.{Engine, next_of}
 use Rattle.dsde_sim_turns.specs.Turn.{start, advance, turn_time}
@@ -60,34 +62,50 @@ offended (LineTooLong line) engine = ended (how.Input kind.LineTooLong line) eng
 offended ReadFault engine = cut engine
 offended input_end.Memory engine = cut engine
 
--- one turn with this head of the input, and what comes later where it is done
-abbrev pub turn_on : System → Spots → Engine → Option Arrival → (Bool → Engine → Run) → Run
-turn_on system spots engine head later = preceded (advance system engine head).events (elim (advance system engine head).end [
+-- One turn with this head of the input, and what comes later where it is done. A run stands at a state between two
+-- turns: an engine, and whatever else an advance goes by.
+abbrev pub turn_by : {State : Type 0} → (State → Engine) → (State → Option Arrival → Told (Step × State)) → Spots → State → Option Arrival → (Bool → State → Run) → Run
+turn_by engine advance spots own head later = preceded (advance own head).events (elim (advance own head).end [
   | Ok answer ↦ elim answer.0 [
     | Turned took_input ↦ later took_input answer.1
-    | Quiet ↦ ended how.Quiet engine.turn engine.time engine
+    | Quiet ↦ ended how.Quiet (engine own).turn (engine own).time (engine own)
   ]
-  | Err why ↦ faulted spots why (engine.turn + 1) (unwrap_or (turn_time (next_of engine) head) engine.time) engine
+  | Err why ↦ faulted spots why ((engine own).turn + 1) (unwrap_or (turn_time (next_of (engine own)) head) (engine own).time) (engine own)
 ])
 
--- at most this many turns of an engine on these records, each of which is the head until it is taken
+-- at most this many turns from a state, each by this advance, on these records, each of which is the head until it is taken
+abbrev pub go_by : {State : Type 0} → (State → Engine) → (State → Option Arrival → Told (Step × State)) → Spots → ℕ → Records → State → Run
+go_by engine advance spots zero records own = ended how.Bound (engine own).turn (engine own).time (engine own)
+go_by engine advance spots (suc turns) (bad offence) own = offended offence (engine own)
+go_by engine advance spots (suc turns) end own = turn_by engine advance spots own None (λ took_input after. go_by engine advance spots turns end after)
+go_by engine advance spots (suc turns) (one head later) own =
+    turn_by engine advance spots own (Some head) (λ took_input after. go_by engine advance spots turns (if took_input then later else one head later) after)
+
+-- the engine alone
+abbrev pub alone : Engine → Engine
+alone engine = engine
+
+-- one turn of an engine in path order, and at most this many of them
+abbrev pub turn_on : System → Spots → Engine → Option Arrival → (Bool → Engine → Run) → Run
+turn_on system = turn_by alone (advance system)
+
 abbrev pub go : System → Spots → ℕ → Records → Engine → Run
-go system spots zero records engine = ended how.Bound engine.turn engine.time engine
-go system spots (suc turns) (bad offence) engine = offended offence engine
-go system spots (suc turns) end engine = turn_on system spots engine None (λ took_input after. go system spots turns end after)
-go system spots (suc turns) (one head later) engine =
-    turn_on system spots engine (Some head) (λ took_input after. go system spots turns (if took_input then later else one head later) after)
+go system = go_by alone (advance system)
 
 -- an engine that has not started
 abbrev pub unstarted : Engine
 unstarted = record { tree = None; turn = 0; time = 0; taken = 0 }
 
--- a system's start, and then at most this many turns on these records
-abbrev pub run : System → Spots → Records → ℕ → Run
-run system spots records turns = preceded (start system).events (elim (start system).end [
-  | Ok engine ↦ go system spots turns records engine
+-- a start, and then at most this many turns, each by this advance, on these records
+abbrev pub run_by : {State : Type 0} → (State → Engine) → (State → Option Arrival → Told (Step × State)) → Told State → Spots → Records → ℕ → Run
+run_by engine advance begins spots records turns = preceded begins.events (elim begins.end [
+  | Ok own ↦ go_by engine advance spots turns records own
   | Err why ↦ faulted spots why 0 0 unstarted
 ])
+
+-- a system's start, and then at most this many turns in path order on these records
+abbrev pub run : System → Spots → Records → ℕ → Run
+run system = run_by alone (advance system) (start system)
 
 -- the records of an input to a model with these in ports, over its table of types
 abbrev pub records_in : List Field → Types → List ℕ → Records

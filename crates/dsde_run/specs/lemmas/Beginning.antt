@@ -1,0 +1,42 @@
+-- What a start comes to.
+use Rattle.std.proofs.Common.{◌≡◌, true, List, [], refl, sym, ap, subst}
+use Rattle.std.specs.Prelude.{is_some, Result, Ok, Err, IfOk, IfErr}
+use Rattle.dsde_values.specs.Path.{root}
+use Rattle.dsde_formalism.specs.System.{System, Chosen}
+use Rattle.dsde_sim_events.specs.declared.event.Event.{Event}
+use Rattle.dsde_sim_events.specs.declared.fault.TurnEnd.{TurnEnd}
+use Rattle.dsde_sim_events.specs.Told.{Told, Tells, at, told, quietly, ◌then◌}
+use Rattle.dsde_sim_turns.specs.Engine.{Engine, begun}
+use Rattle.dsde_sim_turns.specs.Turn as turning
+use Rattle.dsde_sim_turns.specs.Turn.{started_tree}
+use Rattle.dsde_system.specs.Program.{system}
+use Rattle.dsde_sim.specs.Working.{Working}
+use Rattle.dsde_run.specs.Run.{Running}
+use Rattle.dsde_run.specs.Steps.{Begins, IsBegun, IsRoot, Starts}
+use Rattle.dsde_run_engine.specs.lemmas.Steps.{ends-first, same_ok}
+
+-- The events that were told behind none are those of the start.
+pub begins-by : {Machine State : Type 0} (state : Machine → State) (begins : Told State) (none told : List Event) (started : Result Machine TurnEnd) → none ≡ [] →
+    IfOk started (λ own. Tells begins none told (Ok (state own))) → IfErr started (λ why. Tells begins none told (Err why)) → Begins state begins told started
+begins-by state begins none told (Ok own) empty ok err = subst (λ none. Tells begins none told (Ok (state own))) empty ok
+begins-by state begins none told (Err why) empty ok err = subst (λ none. Tells begins none told (Err why)) empty err
+
+-- An engine that has started.
+pub is_begun : (system : System) (engine : Engine) → (turning.start system).end ≡ Ok engine → IsBegun engine
+is_begun system engine ends =
+    let first = ends-first (at root system.top) (quietly (at root system.top))
+    (λ (chosen : Chosen). started_tree system chosen.model chosen.args then (λ own. told [] (begun own))) engine refl ends in
+    let second = ends-first (started_tree system first.0.model first.0.args).end (started_tree system first.0.model first.0.args)
+    (λ own. told [] (begun own)) engine refl first.1 in
+    let is : begun second.0 ≡ engine = same_ok (begun second.0) engine second.1 in
+    record {
+      has_tree = ap (λ (engine : Engine). is_some engine.tree) (sym is);
+      none_done = ap (λ (engine : Engine). engine.turn) (sym is);
+      at_start = ap (λ (engine : Engine). engine.time) (sym is);
+    }
+
+-- A start in path order, of the program that runs.
+pub plain-starts : (own : Running) (none told : List Event) (started : Result Working TurnEnd) → IfOk started (λ plain. plain.program ≡ own.model) → IfOk started (λ plain. IsRoot own plain.engine) →
+    IfOk started (λ plain. Tells (turning.start (system own.model)) none told (Ok plain.engine)) → IfOk started (λ plain. Starts own plain.program plain.engine)
+plain-starts own none told (Ok plain) is rooted tells = record { is_program = is; root = rooted; begun = is_begun (system own.model) plain.engine tells.1 }
+plain-starts own none told (Err why) is rooted tells = tt
