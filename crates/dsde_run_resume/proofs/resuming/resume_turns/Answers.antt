@@ -9,7 +9,7 @@ returns-in-Ok-clause-comes g c =
     rw c.answered.ensures
     (told-back c.args.own.now c.args.plain.now.engine c.ins.result.now c.types.result.now c.taken.result c.time.result c.ins.ensures.value c.types.ensures.value c.taken.ensures.value c.time.ensures c.args.pick c.args.turns (g.R.Source.left c.args.source.now) (g.R.Source.left c.skip-skipped.new.source)
     (g.R.Source.left c.run_turns.new.source) c.in-Ok.reader c.in-Ok.ensures.behind
-    c.run_turns.new.plain.engine (g.W.Sink.written c.args.sink.now) (g.W.Sink.written c.run_turns.new.sink) (answer_of c.run_turns.result) c.run_turns.ensures.comes)
+    c.run_turns.new.engine.engine (g.W.Sink.written c.args.sink.now) (g.W.Sink.written c.run_turns.new.sink) (answer_of c.run_turns.result) c.run_turns.ensures.comes)
 
 pub returns-in-Ok-clause-taken : goal.returns-in-Ok-clause-taken
 returns-in-Ok-clause-taken g c =
