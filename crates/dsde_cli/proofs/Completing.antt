@@ -13,8 +13,14 @@ use Rattle.dsde_cli_status.specs.declared.status.Status.{Status}
 use Rattle.dsde_cli_status.specs.declared.status.Status.TheVariants.{Done, Refused, Usage, BadInput, ModelFault, Unread, Unwritten, Memory, BadSave}
 use Rattle.dsde_cli_status.specs.declared.status.What.TheVariants as what
 use Rattle.dsde_cli_status.specs.declared.status.Why.TheVariants as why
-use Rattle.dsde_cli.specs.Causes.{Holds, IsOfAnswer, IsOfRun, NoModel, Runs}
-use Rattle.dsde_cli.specs.Outcome.{Completes, CompletesCheck, SaysEnd, status_of}
+use Rattle.dsde_sim_turns.specs.Engine.{Engine}
+use Rattle.dsde_run_resume.specs.Resumed.{resumed}
+use Rattle.dsde_cli_status.specs.declared.status.SaveFault.TheVariants as save
+use Rattle.dsde_cli_run.specs.Back.{IsMade, SaysBack}
+use Rattle.dsde_cli_run.specs.Outcome.{SaysEnd, status_of}
+use Rattle.dsde_cli_run.specs.Saved.{IsOfStored}
+use Rattle.dsde_cli.specs.Causes.{Holds, IsOfAnswer, NoModel, Runs}
+use Rattle.dsde_cli.specs.Outcome.{Completes, CompletesBack, CompletesCheck}
 use Rattle.dsde_cli_verdict.specs.Verdict.{Refuses}
 use Rattle.dsde_cli.proofs.Loads.{IsCut}
 
@@ -71,25 +77,25 @@ module _ (ends : RunsEnd) (inputs : InputsArrive) (name : List ℕ) (held : Opti
   done-by (Some bytes) left (inr quiet) = by-end how.Quiet (Some bytes) quiet.0
 
   -- a run that was made
-  pub run-completes : (SourceFails SinkFails : Type 0) (input left : Option (List ℕ)) (status : Status) → IsOfRun SourceFails SinkFails status
-      → IfSome input (λ bytes. SaysEnd (tells (records_in own bytes)).end left status) → ¬ SourceFails → ¬ SinkFails → Completes own tells input status
-  run-completes SourceFails SinkFails input left Done is says source sink = done-by input left says
-  run-completes SourceFails SinkFails input left (BadInput kind line) is says source sink = by-end (how.Input kind line) input says
-  run-completes SourceFails SinkFails input left (ModelFault fault) is says source sink = by-end (how.Fault fault) input says
-  run-completes SourceFails SinkFails input left (Unread what.Input why.Failed) is says source sink = absurd (source is)
-  run-completes SourceFails SinkFails input left (Unread what.Input why.Absent) is says source sink = absurd is
-  run-completes SourceFails SinkFails input left (Unread what.Input why.TooLong) is says source sink = absurd is
-  run-completes SourceFails SinkFails input left (Unread what.Model because) is says source sink = absurd is
-  run-completes SourceFails SinkFails input left (Unread what.Save because) is says source sink = absurd is
-  run-completes SourceFails SinkFails input left (Unread what.Output because) is says source sink = absurd is
-  run-completes SourceFails SinkFails input left (Unwritten what.Output) is says source sink = absurd (sink is)
-  run-completes SourceFails SinkFails input left (Unwritten what.Input) is says source sink = absurd is
-  run-completes SourceFails SinkFails input left (Unwritten what.Model) is says source sink = absurd is
-  run-completes SourceFails SinkFails input left (Unwritten what.Save) is says source sink = absurd is
-  run-completes SourceFails SinkFails input left Memory is says source sink = spent input
-  run-completes SourceFails SinkFails input left (Refused kind line column) is says source sink = absurd is
-  run-completes SourceFails SinkFails input left Usage is says source sink = absurd is
-  run-completes SourceFails SinkFails input left (BadSave fault) is says source sink = absurd is
+  pub run-completes : (name : Option (List ℕ)) (ShelfFails SourceFails SinkFails : Type 0) (input left : Option (List ℕ)) (status : Status) → IsOfStored name ShelfFails SourceFails SinkFails status
+      → IfSome input (λ bytes. SaysEnd (tells (records_in own bytes)).end left status) → ¬ ShelfFails → ¬ SourceFails → ¬ SinkFails → Completes own tells input status
+  run-completes name ShelfFails SourceFails SinkFails input left Done is says shelf source sink = done-by input left says
+  run-completes name ShelfFails SourceFails SinkFails input left (BadInput kind line) is says shelf source sink = by-end (how.Input kind line) input says
+  run-completes name ShelfFails SourceFails SinkFails input left (ModelFault fault) is says shelf source sink = by-end (how.Fault fault) input says
+  run-completes name ShelfFails SourceFails SinkFails input left (Unread what.Input why.Failed) is says shelf source sink = absurd (source is)
+  run-completes name ShelfFails SourceFails SinkFails input left (Unread what.Input why.Absent) is says shelf source sink = absurd is
+  run-completes name ShelfFails SourceFails SinkFails input left (Unread what.Input why.TooLong) is says shelf source sink = absurd is
+  run-completes name ShelfFails SourceFails SinkFails input left (Unread what.Model because) is says shelf source sink = absurd is
+  run-completes name ShelfFails SourceFails SinkFails input left (Unread what.Save because) is says shelf source sink = absurd is
+  run-completes name ShelfFails SourceFails SinkFails input left (Unread what.Output because) is says shelf source sink = absurd is
+  run-completes name ShelfFails SourceFails SinkFails input left (Unwritten what.Output) is says shelf source sink = absurd (sink is)
+  run-completes name ShelfFails SourceFails SinkFails input left (Unwritten what.Input) is says shelf source sink = absurd is
+  run-completes name ShelfFails SourceFails SinkFails input left (Unwritten what.Model) is says shelf source sink = absurd is
+  run-completes name ShelfFails SourceFails SinkFails input left (Unwritten what.Save) is says shelf source sink = absurd (shelf is.1)
+  run-completes name ShelfFails SourceFails SinkFails input left Memory is says shelf source sink = spent input
+  run-completes name ShelfFails SourceFails SinkFails input left (Refused kind line column) is says shelf source sink = absurd is
+  run-completes name ShelfFails SourceFails SinkFails input left Usage is says shelf source sink = absurd is
+  run-completes name ShelfFails SourceFails SinkFails input left (BadSave fault) is says shelf source sink = absurd is
 
   -- a run of which no model was loaded
   pub none-completes : (ShelfFails : Type 0) (input : Option (List ℕ)) (status : Status) → NoModel Refuses name held ShelfFails status → IsCut status → ¬ ShelfFails → Completes own tells input status
@@ -122,3 +128,42 @@ pub check-reported : (status result : Status) → CompletesCheck status → (res
 check-reported status result (inl is) (inl same) = inl (same ∙ is)
 check-reported status result (inr is) (inl same) = inr (same ∙ is)
 check-reported status result completes (inr ended) = inr ended
+
+-- A run that was taken up again came to its end.
+module _ (own : Running) (turns : ℕ) (engine : Engine) where
+  back-end : (answer : Finish) (input : Option (List ℕ)) → IfSome input (λ bytes. (resumed own bytes turns engine).end ≡ Some answer) → CompletesBack own turns engine input (status_of answer)
+  back-end answer input is = inl (record { how = answer; end = is; is = refl })
+
+  back-done : (input left : Option (List ℕ)) → IfSome input (λ bytes. SaysBack own turns engine bytes left Done) → CompletesBack own turns engine input Done
+  back-done None left says = back-end how.Bound None tt
+  back-done (Some bytes) left (inl bound) = back-end how.Bound (Some bytes) bound
+  back-done (Some bytes) left (inr quiet) = back-end how.Quiet (Some bytes) quiet.0
+
+  pub back-made : (name : Option (List ℕ)) (ShelfFails SourceFails SinkFails : Type 0) (input left : Option (List ℕ)) (status : Status) → IsMade name ShelfFails SourceFails SinkFails status →
+      IfSome input (λ bytes. SaysBack own turns engine bytes left status) → ¬ ShelfFails → ¬ SourceFails → ¬ SinkFails → CompletesBack own turns engine input status
+  back-made name ShelfFails SourceFails SinkFails input left Done is says shelf source sink = back-done input left says
+  back-made name ShelfFails SourceFails SinkFails input left (BadInput kind line) is says shelf source sink = back-end (how.Input kind line) input says
+  back-made name ShelfFails SourceFails SinkFails input left (ModelFault fault) is says shelf source sink = back-end (how.Fault fault) input says
+  back-made name ShelfFails SourceFails SinkFails input left (BadSave save.FewRecords) is says shelf source sink = inr (inl (refl, says))
+  back-made name ShelfFails SourceFails SinkFails input left (BadSave save.NotJson) is says shelf source sink = absurd is
+  back-made name ShelfFails SourceFails SinkFails input left (BadSave save.WrongForm) is says shelf source sink = absurd is
+  back-made name ShelfFails SourceFails SinkFails input left (BadSave (save.DoesNotFit path)) is says shelf source sink = absurd is
+  back-made name ShelfFails SourceFails SinkFails input left Memory is says shelf source sink = inr (inr refl)
+  back-made name ShelfFails SourceFails SinkFails input left (Unread what.Input why.Failed) is says shelf source sink = absurd (source is)
+  back-made name ShelfFails SourceFails SinkFails input left (Unread what.Input why.Absent) is says shelf source sink = absurd is
+  back-made name ShelfFails SourceFails SinkFails input left (Unread what.Input why.TooLong) is says shelf source sink = absurd is
+  back-made name ShelfFails SourceFails SinkFails input left (Unread what.Model because) is says shelf source sink = absurd is
+  back-made name ShelfFails SourceFails SinkFails input left (Unread what.Save why.Failed) is says shelf source sink = absurd (shelf is)
+  back-made name ShelfFails SourceFails SinkFails input left (Unread what.Save why.Absent) is says shelf source sink = absurd is
+  back-made name ShelfFails SourceFails SinkFails input left (Unread what.Save why.TooLong) is says shelf source sink = absurd is
+  back-made name ShelfFails SourceFails SinkFails input left (Unread what.Output because) is says shelf source sink = absurd is
+  back-made name ShelfFails SourceFails SinkFails input left (Unwritten what.Output) is says shelf source sink = absurd (sink is)
+  back-made name ShelfFails SourceFails SinkFails input left (Unwritten what.Save) is says shelf source sink = absurd (shelf is.1)
+  back-made name ShelfFails SourceFails SinkFails input left (Unwritten what.Input) is says shelf source sink = absurd is
+  back-made name ShelfFails SourceFails SinkFails input left (Unwritten what.Model) is says shelf source sink = absurd is
+  back-made name ShelfFails SourceFails SinkFails input left (Refused kind line column) is says shelf source sink = absurd is
+  back-made name ShelfFails SourceFails SinkFails input left Usage is says shelf source sink = absurd is
+
+pub back-completed : (own : Running) (turns : ℕ) (engine : Engine) (input : Option (List ℕ)) (status result : Status) → CompletesBack own turns engine input status → (result ≡ status) ⊎ (result ≡ Memory) → CompletesBack own turns engine input result
+back-completed own turns engine input status result completes (inl same) = subst (CompletesBack own turns engine input) (sym same) completes
+back-completed own turns engine input status result completes (inr ended) = inr (inr ended)

@@ -9,7 +9,6 @@ use Rattle.dsde_sound_runs.specs.Ends.{InputsArrive, RunsEnd}
 use Rattle.dsde_run.specs.Run.{Running, run}
 use Rattle.dsde_run_big.specs.Model.{big_text}
 use Rattle.dsde_run_count.specs.Counting.{IsOwnEnd}
-use Rattle.dsde_cli_command.specs.Commands.{BigCommand, CheckCommand, RunCommand, checks, counts, runs}
 use Rattle.dsde_cli_status.specs.declared.status.Status.{Status}
 use Rattle.dsde_cli_status.specs.declared.status.Status.TheVariants.{Done, Refused, Usage, BadInput, ModelFault, Unread, Unwritten, Memory, BadSave}
 use Rattle.dsde_cli_status.specs.declared.status.What.TheVariants as what
@@ -18,21 +17,13 @@ use Rattle.dsde_cli_verdict.specs.declared.refusal.Refusal.{Refusal}
 use Rattle.dsde_cli_verdict.specs.Verdict.{Refuses}
 use Rattle.dsde_cli.specs.Answer.{AnswersFront}
 use Rattle.dsde_cli.specs.Big.{CauseBig, IsOfSummary, Summarizes, big_run}
-use Rattle.dsde_cli.specs.Causes.{IsOfRun, NoModel, NoneIn, Runs, RunsSome, Tells}
-use Rattle.dsde_cli.specs.Outcome.{Completes, SaysEnd, status_of}
+use Rattle.dsde_cli.specs.Causes.{NoModel, NoneIn, Runs, RunsSome, Tells}
+use Rattle.dsde_cli_run.specs.Outcome.{SaysEnd, status_of}
+use Rattle.dsde_cli_run.specs.Saved.{IsOfStored}
+use Rattle.dsde_cli.specs.Outcome.{Completes}
 use Rattle.dsde_cli.proofs.Completing.{cut-memory, run-completes}
 use Rattle.dsde_cli.proofs.Loads.{OneVerdict, refusal_tells, run_cut, run_unrefused}
 use Rattle.dsde_cli.proofs.Outcomes.{answers-none, answers-whole}
-
--- a task is for one command
-pub same_big : (one other : BigCommand) → Some (counts one) ≡ Some (counts other) → one ≡ other
-same_big one other same = cc same
-
-pub no_big_run : (big : BigCommand) (run : RunCommand) → Some (counts big) ≡ Some (runs run) → ⊥
-no_big_run big run same = cc same
-
-pub no_big_check : (big : BigCommand) (check : CheckCommand) → Some (counts big) ≡ Some (checks check) → ⊥
-no_big_check big check same = cc same
 
 -- What an end says that no line of an input made.
 pub says-own : (answer : Finish) → IsOwnEnd answer → SaysEnd (Some answer) (Some []) (status_of answer)
@@ -91,7 +82,7 @@ end-reported end left status result says (inl same) = subst (SaysEnd end left) (
 end-reported end left status result says (inr ended) = subst (SaysEnd end left) (sym ended) tt
 
 -- a status of a run without input is one of a run
-of-run : (SinkFails : Type 0) (status : Status) → IsOfSummary SinkFails status → IsOfRun ⊥ SinkFails status
+of-run : (SinkFails : Type 0) (status : Status) → IsOfSummary SinkFails status → IsOfStored None ⊥ ⊥ SinkFails status
 of-run SinkFails Done is = tt
 of-run SinkFails (ModelFault fault) is = tt
 of-run SinkFails (Unwritten what.Output) is = is
@@ -112,7 +103,7 @@ having bytes = Some (λ _. Some bytes)
 pub big-completes : (ends : RunsEnd) (inputs : InputsArrive) (bytes : List ℕ) (own : Running) (turns : ℕ) → Runs bytes own → (SinkFails : Type 0) (status : Status) → IsOfSummary SinkFails status →
     SaysEnd (big_run own turns).end (Some []) status → ¬ SinkFails → Completes own (λ records. run own records turns) (Some []) status
 big-completes ends inputs bytes own turns accepted SinkFails status is says sink =
-    run-completes ends inputs [] (having bytes) own turns accepted ⊥ SinkFails (Some []) (Some []) status (of-run SinkFails status is) says (λ never. never) sink
+    run-completes ends inputs [] (having bytes) own turns accepted None ⊥ ⊥ SinkFails (Some []) (Some []) status (of-run SinkFails status is) says (λ never. never) (λ never. never) sink
 
 -- why a status comes of a run that was made
 pub cause-made : (seed : ℕ) (SinkFails : Type 0) (status : Status) → RunsSome (big_text seed) → IsOfSummary SinkFails status → CauseBig seed SinkFails status

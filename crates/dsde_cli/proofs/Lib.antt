@@ -1,5 +1,6 @@
 mod Completing
 mod Drawing
+mod Later
 pub mod Loads
 pub mod Outcomes
 pub mod Spots

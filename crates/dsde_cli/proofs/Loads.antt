@@ -1,5 +1,5 @@
 -- What is known of bytes under a name, and where no model was loaded.
-use Rattle.std.proofs.Common.{◌≡◌, ℕ, ◌<◌, ◌⊎◌, inl, inr, List, [], length, Result, Ok, Err, refl, sym, ap, subst, ◌∙◌, arith}
+use Rattle.std.proofs.Common.{◌≡◌, ℕ, ◌<◌, ◌⊎◌, inl, inr, List, length, Result, Ok, Err, refl, sym, ap, subst, ◌∙◌}
 use Rattle.std.specs.Prelude.{Option, Some, None, ⊤, IfSome, IfOk, IsSomeAnd}
 use Rattle.std.proofs.lemmas.List.{append-nil}
 use Rattle.dsde_syntax.specs.declared.decl.Model.{Model}
@@ -7,7 +7,6 @@ use Rattle.dsde_input_records.specs.Records.{Records}
 use Rattle.dsde_run_meaning.specs.Run.{Run}
 use Rattle.dsde_io.specs.Held.{Bytes}
 use Rattle.dsde_trace.specs.declared.pick.Pick.{Pick}
-use Rattle.dsde_run.specs.Reading.{Told, TakesWanted}
 use Rattle.dsde_run.specs.Run.{Running, records_in}
 use Rattle.dsde_cli_verdict.specs.declared.refusal.Refusal.{Refusal}
 use Rattle.dsde_cli_verdict.specs.declared.refusal.ReadModel.{ReadModel}
@@ -20,9 +19,15 @@ use Rattle.dsde_cli_status.specs.declared.status.Why.TheVariants as why
 use Rattle.dsde_cli.specs.Answer.{Answers}
 use Rattle.dsde_cli.specs.declared.load.Runnable.{Runnable}
 use Rattle.dsde_cli.specs.Loaded.{own_of}
-use Rattle.dsde_cli.specs.Causes.{AcceptsSome, Runs, RunsSome, Under, Has, Holds, HoldsModel, NoModel, Tells}
-use Rattle.dsde_cli.specs.Outcome.{Comes}
-use Rattle.dsde_cli.proofs.Outcomes.{front-none}
+use Rattle.dsde_cli.specs.Causes.{AcceptsSome, Runs, RunsSome, Holds, HoldsModel, HoldsNone, NoModel, Tells}
+use Rattle.dsde_run_resume.specs.Resumed.{records_for, resumed_on}
+use Rattle.dsde_sim_turns.specs.Engine.{Engine}
+use Rattle.dsde_cli_status.specs.declared.status.SaveFault.{SaveFault}
+use Rattle.dsde_cli_run.specs.Back.{ComesBack, SaysBack, TellsSave}
+use Rattle.dsde_cli_run.specs.Loads.{Has, Under}
+use Rattle.dsde_cli_run.specs.Saved.{Leaves}
+use Rattle.dsde_cli_run.specs.Outcome.{Comes}
+use Rattle.dsde_cli_run.specs.lemmas.Fronts.{front-none}
 
 -- no text has two verdicts
 abbrev pub OneVerdict : Type 0
@@ -222,12 +227,93 @@ pub run_unrefused : OneVerdict → (name : List ℕ) (held : Option Bytes) (kind
 run_unrefused one name held kind line column some has =
     never_both name held (λ bytes. Refuses bytes kind line column) RunsSome (λ bytes is some. no_refusal one bytes kind line column (accepts_some bytes some) is) has some
 
--- a refusal is told in the report too, unless memory ran out
-pub tells_reported : (kind : Refusal) (line column : ℕ) (status result : Status) → Tells kind line column status → (result ≡ status) ⊎ (result ≡ Memory) → Tells kind line column result
-tells_reported kind line column status result tells (inl same) = subst (Tells kind line column) (sym same) tells
-tells_reported kind line column status result tells (inr ended) = subst (Tells kind line column) (sym ended) tt
+-- a model that was loaded is under the name
+pub never-none : (name : List ℕ) (held : Option Bytes) → Under name held RunsSome → HoldsNone name held → ⊥
+never-none name None some none = none
+never-none name (Some map) some none = by (map name) some none
+  where
+    by : (found : Option (List ℕ)) → IsSomeAnd found RunsSome → IfSome found (λ bytes. ¬ (RunsSome bytes)) → ⊥
+    by None some none = some
+    by (Some bytes) some none = none some
 
--- Where nothing of an input was taken, nothing was taken that was not wanted.
-pub none-taken : (tells : Records → Run) (records : List ℕ → Records) (left : Option (List ℕ)) → Told left left (λ before. TakesWanted tells (records before) [] before)
-none-taken tells records None = tt
-none-taken tells records (Some bytes) = record { needed = []; past = []; split = refl; size = omega arith; wanted = λ some. absurd (some refl) }
+-- where there is no model the shelf is as it was
+pub leaves-unloaded : (Reason : List ℕ → Refusal → ℕ → ℕ → Type 0) (name : Option (List ℕ)) (model : List ℕ) (held after : Option Bytes) (ShelfFails : Type 0) (status : Status) → after ≡ held →
+    NoModel Reason model held ShelfFails status → Leaves name ShelfFails held after status
+leaves-unloaded Reason None model held after ShelfFails status same none = same
+leaves-unloaded Reason (Some name) model held after ShelfFails (Refused kind line column) same none = same
+leaves-unloaded Reason (Some name) model held after ShelfFails (Unread reading because) same none = same
+leaves-unloaded Reason (Some name) model held after ShelfFails Memory same none = inl same
+leaves-unloaded Reason (Some name) model held after ShelfFails Done same none = absurd none
+leaves-unloaded Reason (Some name) model held after ShelfFails Usage same none = absurd none
+leaves-unloaded Reason (Some name) model held after ShelfFails (BadInput kind line) same none = absurd none
+leaves-unloaded Reason (Some name) model held after ShelfFails (ModelFault fault) same none = absurd none
+leaves-unloaded Reason (Some name) model held after ShelfFails (Unwritten writing) same none = absurd none
+leaves-unloaded Reason (Some name) model held after ShelfFails (BadSave fault) same none = absurd none
+
+-- and where memory ran out
+pub leaves-memory : (name : Option (List ℕ)) (held after : Option Bytes) (ShelfFails : Type 0) → after ≡ held → Leaves name ShelfFails held after Memory
+leaves-memory None held after ShelfFails same = same
+leaves-memory (Some name) held after ShelfFails same = inl same
+
+-- what is cut short did not go well
+pub done_is_no_cut : (status : Status) → status ≡ Done → IsCut status → ⊥
+done_is_no_cut status well cut = let none : IsCut Done = subst IsCut well cut in none
+
+-- a run of a model that is under the name is not taken up again, and nothing was written
+pub back-cut : (own : Running) (pick : Pick) (turns : ℕ) (engine : Engine) (input : List ℕ) (left : Option (List ℕ)) (written : List ℕ) (out : Option (List ℕ)) (status : Status) → IsCut status → out ≡ Some written →
+    ComesBack own pick turns engine input left written out status
+back-cut own pick turns engine input left written out (Unread what.Model why.Failed) is same = same
+back-cut own pick turns engine input left written out Memory is same = front-none own pick (resumed_on own turns engine (records_for own engine input)) written out same
+back-cut own pick turns engine input left written out (Unread what.Model why.Absent) is same = absurd is
+back-cut own pick turns engine input left written out (Unread what.Model why.TooLong) is same = absurd is
+back-cut own pick turns engine input left written out (Unread what.Save because) is same = absurd is
+back-cut own pick turns engine input left written out (Unread what.Input because) is same = absurd is
+back-cut own pick turns engine input left written out (Unread what.Output because) is same = absurd is
+back-cut own pick turns engine input left written out (Refused kind line column) is same = absurd is
+back-cut own pick turns engine input left written out Done is same = absurd is
+back-cut own pick turns engine input left written out Usage is same = absurd is
+back-cut own pick turns engine input left written out (BadInput kind line) is same = absurd is
+back-cut own pick turns engine input left written out (ModelFault fault) is same = absurd is
+back-cut own pick turns engine input left written out (Unwritten writing) is same = absurd is
+back-cut own pick turns engine input left written out (BadSave fault) is same = absurd is
+
+pub back-unloaded : (own : Running) (pick : Pick) (turns : ℕ) (engine : Engine) (left out : Option (List ℕ)) (status : Status) → IsCut status → IfSome left (λ input. IfSome out (λ written. ComesBack own pick turns engine input left written out status))
+back-unloaded own pick turns engine None out status is = tt
+back-unloaded own pick turns engine (Some input) None status is = tt
+back-unloaded own pick turns engine (Some input) (Some written) status is = back-cut own pick turns engine input (Some input) written (Some written) status is refl
+
+says-cut : (own : Running) (turns : ℕ) (engine : Engine) (input : List ℕ) (left : Option (List ℕ)) (status : Status) → IsCut status → SaysBack own turns engine input left status
+says-cut own turns engine input left (Unread what.Model why.Failed) is = tt
+says-cut own turns engine input left Memory is = tt
+says-cut own turns engine input left (Unread what.Model why.Absent) is = absurd is
+says-cut own turns engine input left (Unread what.Model why.TooLong) is = absurd is
+says-cut own turns engine input left (Unread what.Save because) is = absurd is
+says-cut own turns engine input left (Unread what.Input because) is = absurd is
+says-cut own turns engine input left (Unread what.Output because) is = absurd is
+says-cut own turns engine input left (Refused kind line column) is = absurd is
+says-cut own turns engine input left Done is = absurd is
+says-cut own turns engine input left Usage is = absurd is
+says-cut own turns engine input left (BadInput kind line) is = absurd is
+says-cut own turns engine input left (ModelFault fault) is = absurd is
+says-cut own turns engine input left (Unwritten writing) is = absurd is
+says-cut own turns engine input left (BadSave fault) is = absurd is
+
+pub says-unloaded : (own : Running) (turns : ℕ) (engine : Engine) (left : Option (List ℕ)) (status : Status) → IsCut status → IfSome left (λ input. SaysBack own turns engine input left status)
+says-unloaded own turns engine None status is = tt
+says-unloaded own turns engine (Some input) status is = says-cut own turns engine input (Some input) status is
+
+pub tells-cut : (fault : SaveFault) (status : Status) → IsCut status → TellsSave fault status
+tells-cut fault (Unread what.Model why.Failed) is = tt
+tells-cut fault Memory is = tt
+tells-cut fault (Unread what.Model why.Absent) is = absurd is
+tells-cut fault (Unread what.Model why.TooLong) is = absurd is
+tells-cut fault (Unread what.Save because) is = absurd is
+tells-cut fault (Unread what.Input because) is = absurd is
+tells-cut fault (Unread what.Output because) is = absurd is
+tells-cut fault (Refused kind line column) is = absurd is
+tells-cut fault Done is = absurd is
+tells-cut fault Usage is = absurd is
+tells-cut fault (BadInput kind line) is = absurd is
+tells-cut fault (ModelFault found) is = absurd is
+tells-cut fault (Unwritten writing) is = absurd is
+tells-cut fault (BadSave told) is = absurd is

@@ -1,5 +1,5 @@
 -- Why a status comes.
-use Rattle.std.specs.Prelude.{ℕ, ◌≡◌, ◌<◌, ◌+◌, ⊤, List, [], length, map, Option, None, IfSome, IsSomeAnd, Result, Ok, Err}
+use Rattle.std.specs.Prelude.{ℕ, ◌≡◌, ◌<◌, ◌+◌, ◌⊎◌, ⊤, List, [], length, map, Option, IfSome, IsSomeAnd, Result, Ok, Err}
 use Rattle.std.specs.List.{range_with_len}
 use Rattle.dsde_syntax.specs.declared.decl.Model.{Model}
 use Rattle.dsde_syntax.specs.declared.token.Token.{Token}
@@ -13,10 +13,12 @@ use Rattle.dsde_io.specs.declared.shelf.ShelfEnd.TheVariants as shelf_end
 use Rattle.dsde_io.specs.Held.{Bytes}
 use Rattle.dsde_cli_verdict.specs.declared.refusal.Refusal.{Refusal}
 use Rattle.dsde_cli_verdict.specs.Verdict.{Accepts, Refuses}
+use Rattle.dsde_cli_run.specs.Back.{CauseBack, IsBeforeBack}
+use Rattle.dsde_cli_run.specs.Loads.{CauseUnread, Has, Under}
+use Rattle.dsde_cli_run.specs.Saved.{IsOfStored}
 use Rattle.dsde_cli_status.specs.declared.status.Status.{Status}
-use Rattle.dsde_cli_status.specs.declared.status.Status.TheVariants.{Done, Refused, Usage, BadInput, ModelFault, Unread, Unwritten, Memory}
+use Rattle.dsde_cli_status.specs.declared.status.Status.TheVariants.{Done, Refused, Usage, Unread, Unwritten, Memory}
 use Rattle.dsde_cli_status.specs.declared.status.What.TheVariants as what
-use Rattle.dsde_cli_status.specs.declared.status.Why.{Why}
 use Rattle.dsde_cli_status.specs.declared.status.Why.TheVariants as why
 
 -- The bytes are accepted.
@@ -43,41 +45,18 @@ pub record RunsSome (bytes : List ℕ) : Type 0 where
   pub own : Running
   pub runs : Runs bytes own
 
--- The shelf, where it tells what it holds, has bytes under the name, and this holds of them.
-abbrev pub Under : List ℕ → Option Bytes → (List ℕ → Type 0) → Type 0
-Under name held Holds = IfSome held (λ map. IsSomeAnd (map name) Holds)
-
--- Why the model was not read. The shelf's faults rose where it failed.
-abbrev pub CauseUnread : List ℕ → Option Bytes → (ShelfFails : Type 0) → Why → Type 0
-CauseUnread name held ShelfFails why.Absent = IfSome held (λ map. map name ≡ None)
-CauseUnread name held ShelfFails why.TooLong = Under name held (λ bytes. 1_048_576 < length bytes)
-CauseUnread name held ShelfFails why.Failed = ShelfFails
-
--- Why a status comes where the words ask for a run of the model of this name. Only want of memory
--- comes without a cause.
-abbrev pub Cause : List ℕ → Option Bytes → (ShelfFails SourceFails SinkFails : Type 0) → Status → Type 0
-Cause name held ShelfFails SourceFails SinkFails Done = Under name held RunsSome
-Cause name held ShelfFails SourceFails SinkFails (BadInput kind line) = Under name held RunsSome
-Cause name held ShelfFails SourceFails SinkFails (ModelFault fault) = Under name held RunsSome
-Cause name held ShelfFails SourceFails SinkFails (Refused kind line column) = Under name held (λ bytes. Refuses bytes kind line column)
-Cause name held ShelfFails SourceFails SinkFails (Unread what.Model because) = CauseUnread name held ShelfFails because
-Cause name held ShelfFails SourceFails SinkFails (Unread what.Input why.Failed) = Under name held RunsSome × SourceFails
-Cause name held ShelfFails SourceFails SinkFails (Unwritten what.Output) = Under name held RunsSome × SinkFails
-Cause name held ShelfFails SourceFails SinkFails Memory = ⊤
-Cause name held ShelfFails SourceFails SinkFails other = ⊥
+-- The most bytes of a model's text.
+abbrev pub LONGEST_MODEL : ℕ
+LONGEST_MODEL = 1_048_576
 
 -- Why a status comes where the words ask for a check of the model of this name.
 abbrev pub CauseCheck : List ℕ → Option Bytes → (ShelfFails SinkFails : Type 0) → Status → Type 0
 CauseCheck name held ShelfFails SinkFails Done = Under name held AcceptsSome
 CauseCheck name held ShelfFails SinkFails (Refused kind line column) = Under name held (λ bytes. Refuses bytes kind line column)
-CauseCheck name held ShelfFails SinkFails (Unread what.Model because) = CauseUnread name held ShelfFails because
+CauseCheck name held ShelfFails SinkFails (Unread what.Model because) = CauseUnread LONGEST_MODEL name held ShelfFails because
 CauseCheck name held ShelfFails SinkFails (Unwritten what.Output) = Under name held AcceptsSome × SinkFails
 CauseCheck name held ShelfFails SinkFails Memory = ⊤
 CauseCheck name held ShelfFails SinkFails other = ⊥
-
--- The shelf tells that bytes are under the name, and this holds of them.
-abbrev pub Has : List ℕ → Option Bytes → (List ℕ → Type 0) → Type 0
-Has name held Holds = IsSomeAnd held (λ map. IsSomeAnd (map name) Holds)
 
 -- The shelf tells that bytes are under the name which are accepted, with this model and its places.
 abbrev pub Holds : List ℕ → Option Bytes → Running → Type 0
@@ -107,19 +86,19 @@ abbrev pub IsBeforeRun : Status → Type 0
 IsBeforeRun Usage = ⊤
 IsBeforeRun (Refused kind line column) = ⊤
 IsBeforeRun (Unread what.Model because) = ⊤
-IsBeforeRun other = ⊥
+IsBeforeRun status = IsBeforeBack status
 
 -- Why there is no model, where bytes are refused for this.
 abbrev pub NoModel : (List ℕ → Refusal → ℕ → ℕ → Type 0) → List ℕ → Option Bytes → Type 0 → Status → Type 0
 NoModel Reason name held ShelfFails (Refused kind line column) = Under name held (λ bytes. Reason bytes kind line column)
-NoModel Reason name held ShelfFails (Unread what.Model because) = CauseUnread name held ShelfFails because
+NoModel Reason name held ShelfFails (Unread what.Model because) = CauseUnread LONGEST_MODEL name held ShelfFails because
 NoModel Reason name held ShelfFails Memory = ⊤
 NoModel Reason name held ShelfFails other = ⊥
 
 -- Why bytes give no model, where they are refused for this.
 abbrev pub NoneIn : (List ℕ → Refusal → ℕ → ℕ → Type 0) → List ℕ → Status → Type 0
 NoneIn Reason bytes (Refused kind line column) = Reason bytes kind line column
-NoneIn Reason bytes (Unread what.Model why.TooLong) = 1_048_576 < length bytes
+NoneIn Reason bytes (Unread what.Model why.TooLong) = LONGEST_MODEL < length bytes
 NoneIn Reason bytes Memory = ⊤
 NoneIn Reason bytes other = ⊥
 
@@ -130,19 +109,26 @@ unread_model shelf_end.TooLong = Unread what.Model why.TooLong
 unread_model shelf_end.Failed = Unread what.Model why.Failed
 unread_model shelf_end.Memory = Memory
 
--- The status is one of a run, and its device failed where it says so.
-abbrev pub IsOfRun : (SourceFails SinkFails : Type 0) → Status → Type 0
-IsOfRun SourceFails SinkFails Done = ⊤
-IsOfRun SourceFails SinkFails (BadInput kind line) = ⊤
-IsOfRun SourceFails SinkFails (ModelFault fault) = ⊤
-IsOfRun SourceFails SinkFails (Unread what.Input why.Failed) = SourceFails
-IsOfRun SourceFails SinkFails (Unwritten what.Output) = SinkFails
-IsOfRun SourceFails SinkFails Memory = ⊤
-IsOfRun SourceFails SinkFails other = ⊥
-
 -- The status is one of an answer, and the sink failed where it says so.
 abbrev pub IsOfAnswer : Type 0 → Status → Type 0
 IsOfAnswer SinkFails Done = ⊤
 IsOfAnswer SinkFails (Unwritten what.Output) = SinkFails
 IsOfAnswer SinkFails Memory = ⊤
 IsOfAnswer SinkFails other = ⊥
+
+-- Why a status comes where the words ask for a run of the model of this name, whose image is stored under this
+-- one, if one is given: there is no model that runs, for this reason, or there is, and the run came to this.
+abbrev pub Cause : List ℕ → Option (List ℕ) → Option Bytes → (ShelfFails SourceFails SinkFails : Type 0) → Status → Type 0
+Cause name save held ShelfFails SourceFails SinkFails status =
+    NoModel Refuses name held ShelfFails status ⊎ (Under name held RunsSome × IsOfStored save ShelfFails SourceFails SinkFails status)
+
+-- The run of a text that is accepted was taken up again with the image under this name, and came to this.
+pub record CauseTakenUp (file : List ℕ) (save : Option (List ℕ)) (held : Option Bytes) (ShelfFails SourceFails SinkFails : Type 0) (status : Status) (text : List ℕ) : Type 0 where
+  pub own : Running
+  pub runs : Runs text own
+  pub cause : CauseBack own.model file save held ShelfFails SourceFails SinkFails status
+
+-- Why a status comes where the words ask for a run of the model of this name to be taken up again.
+abbrev pub CauseResume : List ℕ → List ℕ → Option (List ℕ) → Option Bytes → (ShelfFails SourceFails SinkFails : Type 0) → Status → Type 0
+CauseResume name file save held ShelfFails SourceFails SinkFails status =
+    NoModel Refuses name held ShelfFails status ⊎ Under name held (CauseTakenUp file save held ShelfFails SourceFails SinkFails status)

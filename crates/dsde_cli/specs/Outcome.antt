@@ -1,71 +1,15 @@
--- How a call ends that runs a model, and what it leaves.
-use Rattle.std.specs.Prelude.{ℕ, ◌≡◌, ◌⊎◌, ⊤, List, [], ◌++◌, take, Option, Some, IfSome, IsSomeAnd, Result, Ok, Err}
+-- How calls end whose models are accepted, where no device fails.
+use Rattle.std.specs.Prelude.{ℕ, ◌≡◌, ◌⊎◌, List, Option, Some, IfSome}
 use Rattle.dsde_input_records.specs.Records.{Records}
 use Rattle.dsde_sim_events.specs.declared.event.Finish.{Finish}
-use Rattle.dsde_sim_events.specs.declared.event.Finish.TheVariants as how
-use Rattle.dsde_run_meaning.specs.Run.{Run}
 use Rattle.dsde_sim_turns.specs.Engine.{Engine}
-use Rattle.dsde_trace.specs.declared.pick.Pick.{Pick}
-use Rattle.dsde_run.specs.declared.run.Cut.{Cut}
-use Rattle.dsde_run.specs.declared.run.Cut.TheVariants as cut
-use Rattle.dsde_run.specs.Reading.{IsCutShort}
-use Rattle.dsde_run.specs.Run.{Running, records_in, kept_text}
+use Rattle.dsde_run_meaning.specs.Run.{Run}
+use Rattle.dsde_run.specs.Run.{Running, records_in}
+use Rattle.dsde_run_resume.specs.Resumed.{HasFew, resumed}
+use Rattle.dsde_cli_run.specs.Outcome.{status_of}
+use Rattle.dsde_cli_status.specs.declared.status.SaveFault.TheVariants.{FewRecords}
 use Rattle.dsde_cli_status.specs.declared.status.Status.{Status}
-use Rattle.dsde_cli_status.specs.declared.status.Status.TheVariants.{Done, BadInput, ModelFault, Unread, Unwritten, Memory}
-use Rattle.dsde_cli_status.specs.declared.status.What.{What}
-use Rattle.dsde_cli_status.specs.declared.status.What.TheVariants as what
-use Rattle.dsde_cli_status.specs.declared.status.Why.{Why}
-use Rattle.dsde_cli_status.specs.declared.status.Why.TheVariants as why
-
--- The sink gained the whole trace of the run, or those of its lines that are kept.
-abbrev pub Writes : Running → Pick → Run → List ℕ → Option (List ℕ) → Type 0
-Writes own pick run written out = out ≡ Some (written ++ kept_text own pick run.events)
-
--- The sink gained a part of that text, from its front.
-pub record WritesFront (own : Running) (pick : Pick) (run : Run) (written : List ℕ) (out : Option (List ℕ)) : Type 0 where
-  pub count : ℕ
-  pub is : out ≡ Some (written ++ take count (kept_text own pick run.events))
-
--- The status says how the run ended: by its bound, or quietly, which is where no byte of the input
--- was left, or by bad input or a fault.
-abbrev pub SaysEnd : Option Finish → Option (List ℕ) → Status → Type 0
-SaysEnd end left Done = (end ≡ Some how.Bound) ⊎ ((end ≡ Some how.Quiet) × (left ≡ Some []))
-SaysEnd end left (BadInput kind line) = end ≡ Some (how.Input kind line)
-SaysEnd end left (ModelFault fault) = end ≡ Some (how.Fault fault)
-SaysEnd end left other = ⊤
-
--- The whole trace was written, and the status says how the run ended.
-abbrev pub ComesWhole : Running → Pick → Run → Option (List ℕ) → List ℕ → Option (List ℕ) → Status → Type 0
-ComesWhole own pick whole left written out status = Writes own pick whole written out × SaysEnd whole.end left status
-
--- What a failed reading leaves: of the input, the lines before the first turn whose head is not
--- whole in the bytes taken, which are the front of the trace; of the model, what was written before.
-abbrev pub ComesUnread : Running → Pick → (Records → Run) → List ℕ → Option (List ℕ) → List ℕ → Option (List ℕ) → What → Why → Type 0
-ComesUnread own pick tells input left written out what.Input why.Failed =
-    IsSomeAnd left (λ after. (engine : Engine) × IsCutShort own pick tells (records_in own input) engine (Some written) out [] input after)
-    × WritesFront own pick (tells (records_in own input)) written out
-ComesUnread own pick tells input left written out what.Model why.Failed = out ≡ Some written
-ComesUnread own pick tells input left written out reading because = ⊥
-
--- A model was run on an input: `tells` says what a run on records tells, `left` what the source has
--- left, `written` and `out` what the sink had and has, and `pick` which lines are kept. Each status
--- comes exactly where the run ended so, and all these lines of the trace were written. A failed read, a failed write and want of memory cut
--- it short.
-abbrev pub Comes : Running → Pick → (Records → Run) → List ℕ → Option (List ℕ) → List ℕ → Option (List ℕ) → Status → Type 0
-Comes own pick tells input left written out Done = ComesWhole own pick (tells (records_in own input)) left written out Done
-Comes own pick tells input left written out (BadInput kind line) = ComesWhole own pick (tells (records_in own input)) left written out (BadInput kind line)
-Comes own pick tells input left written out (ModelFault fault) = ComesWhole own pick (tells (records_in own input)) left written out (ModelFault fault)
-Comes own pick tells input left written out (Unread reading because) = ComesUnread own pick tells input left written out reading because
-Comes own pick tells input left written out (Unwritten what.Output) = WritesFront own pick (tells (records_in own input)) written out
-Comes own pick tells input left written out Memory = WritesFront own pick (tells (records_in own input)) written out
-Comes own pick tells input left written out other = ⊥
-
--- The status of a run that ended so.
-abbrev pub status_of : Finish → Status
-status_of how.Bound = Done
-status_of how.Quiet = Done
-status_of (how.Input kind line) = BadInput kind line
-status_of (how.Fault fault) = ModelFault fault
+use Rattle.dsde_cli_status.specs.declared.status.Status.TheVariants.{Done, Memory, BadSave}
 
 -- The run came to its end, and the status is that of this end, unless memory ran out. Where the source
 -- tells its bytes it is the end of the run on their records, which there always is.
@@ -78,9 +22,13 @@ pub record Completes (own : Running) (tells : Records → Run) (input : Option (
 abbrev pub CompletesCheck : Status → Type 0
 CompletesCheck status = (status ≡ Done) ⊎ (status ≡ Memory)
 
--- The status of a run that came to this.
-abbrev pub status_by : Result Finish Cut → Status
-status_by (Ok answer) = status_of answer
-status_by (Err cut.ReadFault) = Unread what.Input why.Failed
-status_by (Err cut.Unwritten) = Unwritten what.Output
-status_by (Err cut.Memory) = Memory
+-- A run that was taken up again came to its end, and the status is that of this end.
+pub record EndsBack (own : Running) (turns : ℕ) (engine : Engine) (input : Option (List ℕ)) (status : Status) : Type 0 where
+  pub how : Finish
+  pub end : IfSome input (λ bytes. (resumed own bytes turns engine).end ≡ Some how)
+  pub is : status ≡ status_of how
+
+-- It came to its end, or the input has too few records, unless memory ran out.
+abbrev pub CompletesBack : Running → ℕ → Engine → Option (List ℕ) → Status → Type 0
+CompletesBack own turns engine input status =
+    EndsBack own turns engine input status ⊎ (((status ≡ BadSave FewRecords) × IfSome input (HasFew own engine)) ⊎ (status ≡ Memory))

@@ -10,12 +10,13 @@ ghost use Rattle.dsde_run_count.specs.Counting.{IsOwnEnd, summary_text};
 ghost use Rattle.dsde_cli.specs.Big.{CauseBig, Summarizes, IsOfSummary, big_run};
 ghost use Rattle.dsde_cli.specs.Causes.{IsBeforeRun, NoneIn, Runs, Tells};
 ghost use Rattle.dsde_cli.specs.Loaded.{own_of};
-ghost use Rattle.dsde_cli.specs.Outcome.{Completes, SaysEnd};
+ghost use Rattle.dsde_cli.specs.Outcome.{Completes};
+ghost use Rattle.dsde_cli_run.specs.Outcome.{SaysEnd};
 ghost use Rattle.dsde_cli_verdict.specs.declared.refusal.Refusal.{Refusal};
 ghost use Rattle.dsde_cli_verdict.specs.Verdict.{Refuses};
 
 use crate::load::{Runnable, read_runnable};
-use crate::run::status_by;
+use dsde_cli_run::status_by;
 use dsde_cli_status::{Status, What};
 use dsde_cli_verdict::one_verdict;
 use dsde_io::{Sink, SinkEnd, write_all};

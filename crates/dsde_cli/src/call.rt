@@ -4,28 +4,35 @@ ghost use Rattle.std.specs.Prelude.{◌≡◌, ◌≢◌, ◌≤◌, ◌⊎◌, 
 ghost use Rattle.dsde_io.specs.Fault.{Rose};
 ghost use Rattle.dsde_input_records.specs.Records.{Records};
 ghost use Rattle.dsde_run.specs.Reading.{Told, TakesWanted};
-ghost use Rattle.dsde_run.specs.Run.{records_in, run};
+ghost use Rattle.dsde_run.specs.Run.{Running, records_in, run};
+ghost use Rattle.dsde_run_resume.specs.Resumed.{records_for, resumed, resumed_on};
+ghost use Rattle.dsde_run_saved.specs.Saved.{image_left};
 ghost use Rattle.dsde_run_big.specs.Model.{big_text};
 ghost use Rattle.dsde_run_count.specs.Counting.{summary_text};
-ghost use Rattle.dsde_cli_command.specs.Commands.{Asked, AsksBig, AsksCheck, command_of};
+ghost use Rattle.dsde_cli_command.specs.Commands.{Asked, AsksBig, AsksCheck, AsksResume, command_of};
+ghost use Rattle.dsde_cli_run.specs.Back.{ComesBack, IsRefusedFor, NoneSaved, SaysBack, TellsSave};
+ghost use Rattle.dsde_cli_run.specs.Loads.{Has};
+ghost use Rattle.dsde_cli_run.specs.Outcome.{Comes, SaysEnd};
+ghost use Rattle.dsde_cli_run.specs.Saved.{Leaves, Stores};
 ghost use Rattle.dsde_cli_status.specs.Note.{Noted, WritesNoteFront};
+ghost use Rattle.dsde_cli_status.specs.declared.status.SaveFault.{SaveFault};
 ghost use Rattle.dsde_cli.specs.Answer.{Checked, Answers, answer_of};
 ghost use Rattle.dsde_cli.specs.Big.{CauseBig, Drawn, Summarizes, run_of};
-ghost use Rattle.dsde_cli.specs.Causes.{Cause, CauseCheck, Has, HoldsNone, HoldsNoModel, IsBeforeRun, Tells};
+ghost use Rattle.dsde_cli.specs.Causes.{Cause, CauseCheck, CauseResume, Holds, HoldsNone, HoldsNoModel, IsBeforeRun, Tells};
 ghost use Rattle.dsde_cli_verdict.specs.declared.refusal.Refusal.{Refusal};
 ghost use Rattle.dsde_cli_verdict.specs.Verdict.{Refuses};
 ghost use Rattle.dsde_cli.specs.Delivered.{IsDelivered};
-ghost use Rattle.dsde_cli.specs.Loaded.{Loaded, pick_in, pick_of, tells_of};
-ghost use Rattle.dsde_cli.specs.Outcome.{Comes, Completes, CompletesCheck, SaysEnd};
+ghost use Rattle.dsde_cli.specs.Loaded.{Loaded, TakenUp, pick_back, pick_in, save_of, tells_of, turns_back};
+ghost use Rattle.dsde_cli.specs.Outcome.{Completes, CompletesBack, CompletesCheck};
 
 use crate::big::run_big;
 use crate::check::load_and_check;
+use crate::resume::load_and_resume;
 use crate::run::load_and_run;
-use dsde_cli_command::{Command, Only, read_command};
-use dsde_cli_status::{Status, report};
+use dsde_cli_command::{Command, read_command};
+use dsde_cli_status::{SaveFault, Status, report};
 use dsde_io::{Shelf, Sink, Source};
 use dsde_run_delivery::runs_are_delivered;
-use dsde_trace::Pick;
 use std::alloc::Global;
 
 /// Does what the words ask for, and says in one line on `notes` how it ended where not all went well.
@@ -33,7 +40,11 @@ use std::alloc::Global;
 /// `check MODEL [--print]` loads the model from the shelf, and writes to `out` that it is accepted,
 /// or its text. `run MODEL --turns N` loads the model, runs it from its start on the input for at
 /// most N turns, and writes its trace to `out` as it comes: the lines of a turn before the next record
-/// of the input is wanted. With `--only outputs` or `--only structure` only those lines are written.
+/// of the input is wanted. With `--only outputs` or `--only structure` only those lines are written. With
+/// `--save FILE` the image of the run is stored on the shelf, where it ended by its bound or quiet.
+/// `resume MODEL FILE --turns N` loads the model and the image of a run of it, skips the records of the
+/// input that were taken in that run, and goes on for at most N turns, with the same two options; the input
+/// is the whole input of the run from its start.
 /// `big SEED --turns N` runs the large model of a seed on an empty input, and writes the summary of its
 /// run to `out`: how many lines of each kind its trace has, and the last of them.
 /// Any other words spell no command. A write to `notes` that failed changes nothing; one that ran out
@@ -56,6 +67,10 @@ pub fn dsde<F: Shelf, R: Source, W: Sink, E: Sink>(
     ensures ends { (loaded : Loaded (map string_bytes words.now) (F.held shelf.old))
         → IfSome (R.left input.old) (λ bytes. SaysEnd (tells_of loaded (records_in loaded.own bytes)).end (R.left input.new) result) }
 
+    // Where all went well the shelf has the image of the run under the name that the words give for it.
+    ensures stored { (loaded : Loaded (map string_bytes words.now) (F.held shelf.old)) → result ≡ Status.Done
+        → IfSome (R.left input.old) (λ bytes. Stores loaded.asked.run.save (image_left loaded.own.model (tells_of loaded (records_in loaded.own bytes))) (F.held shelf.new)) }
+
     // Nothing is delivered in that run outside the structure of its moment.
     ensures delivered { (loaded : Loaded (map string_bytes words.now) (F.held shelf.old)) → (records : Records)
         → IsDelivered loaded.own records loaded.asked.run.turns }
@@ -72,6 +87,23 @@ pub fn dsde<F: Shelf, R: Source, W: Sink, E: Sink>(
     ensures taken { (loaded : Loaded (map string_bytes words.now) (F.held shelf.old))
         → Told (R.left input.old) (R.left input.new) (λ before. TakesWanted (tells_of loaded) (records_in loaded.own before) [] before) }
     ensures idle { (asked : Asked (map string_bytes words.now)) → asked.run.turns ≡ 0 → input.new ≡ input.old }
+
+    // A run that is taken up again with the image of an engine writes exactly what that engine tells which goes
+    // on with the input, less the records that it took, and the call ends as that run ends; nothing is written
+    // where those records are too few, or a line among them is bad.
+    ensures resumes { (again : TakenUp (map string_bytes words.now) (F.held shelf.old))
+        → IfSome (R.left input.old) (λ bytes. IfSome (W.written out.old) (λ written.
+        ComesBack again.own (pick_back again) (turns_back again) again.engine bytes (R.left input.new) written (W.written out.new) result)) }
+    ensures ends_resumed { (again : TakenUp (map string_bytes words.now) (F.held shelf.old))
+        → IfSome (R.left input.old) (λ bytes. SaysBack again.own (turns_back again) again.engine bytes (R.left input.new) result) }
+    ensures stored_resumed { (again : TakenUp (map string_bytes words.now) (F.held shelf.old)) → result ≡ Status.Done
+        → IfSome (R.left input.old) (λ bytes. Stores again.asked.resume.run.save (image_left again.own.model (resumed again.own bytes (turns_back again) again.engine)) (F.held shelf.new)) }
+    ensures complete_resumed { (again : TakenUp (map string_bytes words.now) (F.held shelf.old))
+        → ¬ (Rose (F.faults shelf.old) (F.faults shelf.new)) → ¬ (Rose (R.faults input.old) (R.faults input.new)) → ¬ (Rose (W.faults out.old) (W.faults out.new))
+        → CompletesBack again.own (turns_back again) again.engine (R.left input.old) result }
+    ensures taken_resumed { (again : TakenUp (map string_bytes words.now) (F.held shelf.old))
+        → Told (R.left input.old) (R.left input.new) (λ before.
+        TakesWanted (resumed_on again.own (turns_back again) again.engine) (records_for again.own again.engine before) [] before) }
 
     // Of a model that is accepted, a check writes so, or its text, where the shelf tells the model
     // and the sink what it has; nothing of the input is read.
@@ -91,7 +123,10 @@ pub fn dsde<F: Shelf, R: Source, W: Sink, E: Sink>(
 
     // Each status has its cause.
     ensures cause { (asked : Asked (map string_bytes words.now))
-        → Cause asked.run.model (F.held shelf.old) (Rose (F.faults shelf.old) (F.faults shelf.new))
+        → Cause asked.run.model asked.run.save (F.held shelf.old) (Rose (F.faults shelf.old) (F.faults shelf.new))
+        (Rose (R.faults input.old) (R.faults input.new)) (Rose (W.faults out.old) (W.faults out.new)) result }
+    ensures cause_resumed { (asked : AsksResume (map string_bytes words.now))
+        → CauseResume asked.resume.run.model asked.resume.file asked.resume.run.save (F.held shelf.old) (Rose (F.faults shelf.old) (F.faults shelf.new))
         (Rose (R.faults input.old) (R.faults input.new)) (Rose (W.faults out.old) (W.faults out.new)) result }
     ensures cause_check { (asked : AsksCheck (map string_bytes words.now))
         → CauseCheck asked.check.model (F.held shelf.old) (Rose (F.faults shelf.old) (F.faults shelf.new))
@@ -101,10 +136,15 @@ pub fn dsde<F: Shelf, R: Source, W: Sink, E: Sink>(
     // A model that is refused is so exactly for what its bytes are refused for, and there.
     ensures refused { (asked : Asked (map string_bytes words.now)) → (kind : Refusal) → (line column : ℕ)
         → Has asked.run.model (F.held shelf.old) (λ bytes. Refuses bytes kind line column) → Tells kind line column result }
+    ensures refused_resumed { (asked : AsksResume (map string_bytes words.now)) → (kind : Refusal) → (line column : ℕ)
+        → Has asked.resume.run.model (F.held shelf.old) (λ bytes. Refuses bytes kind line column) → Tells kind line column result }
     ensures refused_check { (asked : AsksCheck (map string_bytes words.now)) → (kind : Refusal) → (line column : ℕ)
         → Has asked.check.model (F.held shelf.old) (λ bytes. Refuses bytes kind line column) → Tells kind line column result }
     ensures refused_big { (asked : AsksBig (map string_bytes words.now)) → (kind : Refusal) → (line column : ℕ)
         → Refuses (big_text asked.big.seed) kind line column → Tells kind line column result }
+    // And so is an image that is none of an engine of the model.
+    ensures refused_save { (asked : AsksResume (map string_bytes words.now)) → (own : Running) → Holds asked.resume.run.model (F.held shelf.old) own
+        → (fault : SaveFault) → Has asked.resume.file (F.held shelf.old) (IsRefusedFor own.model fault) → TellsSave fault result }
     ensures usage { command_of (map string_bytes words.now) ≡ None
         → ((result ≡ Status.Usage) ⊎ (result ≡ Status.Memory)) × (shelf.new ≡ shelf.old) × (input.new ≡ input.old) × (out.new ≡ out.old) }
 
@@ -117,10 +157,17 @@ pub fn dsde<F: Shelf, R: Source, W: Sink, E: Sink>(
     // What stays as it was.
     ensures unrun { (asked : Asked (map string_bytes words.now))
         → HoldsNone asked.run.model (F.held shelf.old) → (input.new ≡ input.old) × (out.new ≡ out.old) }
+    ensures unrun_resumed { (asked : AsksResume (map string_bytes words.now))
+        → HoldsNone asked.resume.run.model (F.held shelf.old) → (input.new ≡ input.old) × (out.new ≡ out.old) }
+    ensures unresumed { (asked : AsksResume (map string_bytes words.now)) → (own : Running) → Holds asked.resume.run.model (F.held shelf.old) own
+        → NoneSaved own.model asked.resume.file (F.held shelf.old) → (input.new ≡ input.old) × (out.new ≡ out.old) }
+    ensures few { result ≡ Status.BadSave SaveFault.FewRecords → out.new ≡ out.old }
     ensures unanswered { (asked : AsksCheck (map string_bytes words.now))
         → HoldsNoModel asked.check.model (F.held shelf.old) → out.new ≡ out.old }
     ensures untouched { IsBeforeRun result → (input.new ≡ input.old) × (out.new ≡ out.old) }
-    ensures kept { F.held shelf.new ≡ F.held shelf.old }
+    // Each name but the one under which the image is to be stored has what it had. That one has the image, where
+    // all went well; it has what it had, unless a store failed.
+    ensures kept { Leaves (save_of (map string_bytes words.now)) (Rose (F.faults shelf.old) (F.faults shelf.new)) (F.held shelf.old) (F.held shelf.new) result }
     ensures shelf_counted { F.faults shelf.old ≤ F.faults shelf.new }
     ensures input_counted { R.faults input.old ≤ R.faults input.new }
     ensures out_counted { W.faults out.old ≤ W.faults out.new }
@@ -130,22 +177,12 @@ pub fn dsde<F: Shelf, R: Source, W: Sink, E: Sink>(
     runs_are_delivered();
     let status = match read_command(words) {
         Some(Command::Check { model, print }) => load_and_check(alloc, model, print, shelf, out),
-        Some(Command::Run { model, turns, only }) => {
-            load_and_run(alloc, model, pick_of(only), turns, shelf, input, out)
+        Some(Command::Run(run)) => load_and_run(alloc, &run, shelf, input, out),
+        Some(Command::Resume { file, run }) => {
+            load_and_resume(alloc, file, &run, shelf, input, out)
         }
         Some(Command::Big { seed, turns }) => run_big(alloc, seed, turns, out),
         None => Status::Usage,
     };
     report(alloc, status, notes)
-}
-
-/// The lines that a command keeps: all, where it does not say which.
-fn pick_of(only: Option<Only>) -> Pick
-    ensures { result ≡ pick_of only }
-{
-    match only {
-        None => Pick::All,
-        Some(Only::Outputs) => Pick::Outputs,
-        Some(Only::Structure) => Pick::Structure,
-    }
 }

@@ -4,8 +4,9 @@ ghost use Rattle.std.specs.Prelude.{◌≡◌, ◌≤◌, ℕ, IfOk, IfSome};
 ghost use Rattle.dsde_io.specs.Fault.{Rose};
 ghost use Rattle.dsde_syntax.specs.declared.decl.Model.{Model};
 ghost use Rattle.dsde_cli.specs.Answer.{Answers, answer_of};
-ghost use Rattle.dsde_cli.specs.Causes.{CauseCheck, Has, HoldsModel, HoldsNoModel, IsBeforeRun, IsOfAnswer, Tells};
+ghost use Rattle.dsde_cli.specs.Causes.{CauseCheck, HoldsModel, HoldsNoModel, IsBeforeRun, IsOfAnswer, Tells};
 ghost use Rattle.dsde_cli.specs.Outcome.{CompletesCheck};
+ghost use Rattle.dsde_cli_run.specs.Loads.{Has};
 ghost use Rattle.dsde_cli_verdict.specs.declared.refusal.Refusal.{Refusal};
 ghost use Rattle.dsde_cli_verdict.specs.Verdict.{Refuses};
 

@@ -4,8 +4,11 @@
 mod big;
 mod call;
 mod check;
+mod laws;
 mod load;
+mod resume;
 mod run;
 
 pub use call::dsde;
 pub use dsde_cli_status::{Refusal, SaveFault, Status, What, Why, report};
+pub use laws::cut_law;

@@ -6,7 +6,8 @@ ghost use Rattle.dsde_check_rules.specs.Right.{IsRight};
 ghost use Rattle.dsde_run.specs.Run.{Running};
 ghost use Rattle.dsde_syntax.specs.declared.decl.Model.{Model};
 ghost use Rattle.dsde_cli_verdict.specs.Verdict.{Accepts, Refuses};
-ghost use Rattle.dsde_cli.specs.Causes.{AcceptsSome, Holds, HoldsModel, NoModel, NoneIn, Runs, RunsSome, Under, spots_of, unread_model};
+ghost use Rattle.dsde_cli.specs.Causes.{AcceptsSome, Holds, HoldsModel, NoModel, NoneIn, Runs, RunsSome, spots_of, unread_model};
+ghost use Rattle.dsde_cli_run.specs.Loads.{Under};
 ghost use Rattle.dsde_cli.specs.Loaded.{own_of};
 
 use dsde_cli_status::{Status, What, Why};

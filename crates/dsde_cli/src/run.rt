@@ -1,56 +1,64 @@
-//! The command `run`: it loads a model, runs it, and writes its trace.
+//! The command `run`: it loads a model, runs it, writes its trace, and stores its image where that is asked
+//! for.
 
 ghost use Rattle.std.specs.Prelude.{◌≡◌, ◌≤◌, ℕ, [], IfSome};
 ghost use Rattle.dsde_io.specs.Fault.{Rose};
 ghost use Rattle.dsde_check_rules.specs.Right.{IsRight};
 ghost use Rattle.dsde_run.specs.Reading.{Told, TakesWanted};
-ghost use Rattle.dsde_run.specs.Run.{Running, run, records_in};
-ghost use Rattle.dsde_cli.specs.Causes.{Cause, Has, Holds, HoldsNone, IsBeforeRun, IsOfRun, Tells};
+ghost use Rattle.dsde_run.specs.Run.{Running, records_in};
+ghost use Rattle.dsde_run_saved.specs.Saved.{image_left};
+ghost use Rattle.dsde_cli.specs.Causes.{Cause, Holds, HoldsNone, IsBeforeRun, Tells};
+ghost use Rattle.dsde_cli_command.specs.Commands.{run_asked};
+ghost use Rattle.dsde_cli_run.specs.Asked.{pick_of, tells_on};
+ghost use Rattle.dsde_cli_run.specs.Loads.{Has};
+ghost use Rattle.dsde_cli_run.specs.Outcome.{Comes, SaysEnd};
+ghost use Rattle.dsde_cli_run.specs.Saved.{IsOfStored, Leaves, Stores};
 ghost use Rattle.dsde_cli_verdict.specs.declared.refusal.Refusal.{Refusal};
 ghost use Rattle.dsde_cli_verdict.specs.Verdict.{Refuses};
 ghost use Rattle.dsde_cli.specs.Loaded.{own_of};
-ghost use Rattle.dsde_cli.specs.Outcome.{Comes, Completes, SaysEnd, status_by};
+ghost use Rattle.dsde_cli.specs.Outcome.{Completes};
 
 use crate::load::{Runnable, load_runnable};
-use dsde_cli_status::{Status, What, Why};
+use dsde_cli_command::RunWords;
+use dsde_cli_run::run_and_store;
+use dsde_cli_status::Status;
 use dsde_cli_verdict::one_verdict;
 use dsde_io::{Shelf, Sink, Source};
 use dsde_program::resolve;
-use dsde_run::{Cut, Running, run_model};
-use dsde_sim_events::Finish;
+use dsde_run::Running;
 use dsde_sound_runs::{inputs_arrive, runs_end};
-use dsde_trace::Pick;
 use std::alloc::Global;
 
-/// Runs the model of a name for at most so many turns, and writes the lines of its trace that are kept.
+/// Runs the model of a name as the words ask for, and stores its image where they do.
 pub(crate) fn load_and_run<F: Shelf, R: Source, W: Sink>(
     alloc: Global,
-    name: &str,
-    pick: Pick,
-    turns: u64,
+    run: &RunWords<'_>,
     shelf: &mut F,
     input: &mut R,
     out: &mut W,
 ) -> Status
-    requires { turns ≤ 1_000_000_000 }
-    ensures runs { (own : Running) → Holds name.now (F.held shelf.old) own
+    requires { run.now.turns ≤ 1_000_000_000 }
+    ensures runs { (own : Running) → Holds run.now.model.now (F.held shelf.old) own
         → IfSome (R.left input.old) (λ bytes. IfSome (W.written out.old) (λ written.
-        Comes own pick (λ records. run own records turns) bytes (R.left input.new) written (W.written out.new) result)) }
-    ensures ends { (own : Running) → Holds name.now (F.held shelf.old) own
-        → IfSome (R.left input.old) (λ bytes. SaysEnd (run own (records_in own bytes) turns).end (R.left input.new) result) }
-    ensures complete { (own : Running) → Holds name.now (F.held shelf.old) own
+        Comes own (pick_of run.now.only) (tells_on own (run_asked run.now)) bytes (R.left input.new) written (W.written out.new) result)) }
+    ensures ends { (own : Running) → Holds run.now.model.now (F.held shelf.old) own
+        → IfSome (R.left input.old) (λ bytes. SaysEnd (tells_on own (run_asked run.now) (records_in own bytes)).end (R.left input.new) result) }
+    ensures stored { (own : Running) → Holds run.now.model.now (F.held shelf.old) own → result ≡ Status.Done
+        → IfSome (R.left input.old) (λ bytes.
+        Stores (run_asked run.now).save (image_left own.model (tells_on own (run_asked run.now) (records_in own bytes))) (F.held shelf.new)) }
+    ensures complete { (own : Running) → Holds run.now.model.now (F.held shelf.old) own
         → ¬ (Rose (F.faults shelf.old) (F.faults shelf.new)) → ¬ (Rose (R.faults input.old) (R.faults input.new)) → ¬ (Rose (W.faults out.old) (W.faults out.new))
-        → Completes own (λ records. run own records turns) (R.left input.old) result }
-    ensures taken { (own : Running) → Holds name.now (F.held shelf.old) own
-        → Told (R.left input.old) (R.left input.new) (λ before. TakesWanted (λ records. run own records turns) (records_in own before) [] before) }
-    ensures idle { turns ≡ 0 → input.new ≡ input.old }
-    ensures cause { Cause name.now (F.held shelf.old) (Rose (F.faults shelf.old) (F.faults shelf.new))
+        → Completes own (tells_on own (run_asked run.now)) (R.left input.old) result }
+    ensures taken { (own : Running) → Holds run.now.model.now (F.held shelf.old) own
+        → Told (R.left input.old) (R.left input.new) (λ before. TakesWanted (tells_on own (run_asked run.now)) (records_in own before) [] before) }
+    ensures idle { run.now.turns ≡ 0 → input.new ≡ input.old }
+    ensures cause { Cause run.now.model.now (run_asked run.now).save (F.held shelf.old) (Rose (F.faults shelf.old) (F.faults shelf.new))
         (Rose (R.faults input.old) (R.faults input.new)) (Rose (W.faults out.old) (W.faults out.new)) result }
     ensures refused { (kind : Refusal) → (line column : ℕ)
-        → Has name.now (F.held shelf.old) (λ bytes. Refuses bytes kind line column) → Tells kind line column result }
-    ensures unrun { HoldsNone name.now (F.held shelf.old) → (input.new ≡ input.old) × (out.new ≡ out.old) }
+        → Has run.now.model.now (F.held shelf.old) (λ bytes. Refuses bytes kind line column) → Tells kind line column result }
+    ensures unrun { HoldsNone run.now.model.now (F.held shelf.old) → (input.new ≡ input.old) × (out.new ≡ out.old) }
     ensures untouched { IsBeforeRun result → (input.new ≡ input.old) × (out.new ≡ out.old) }
-    ensures kept { F.held shelf.new ≡ F.held shelf.old }
+    ensures kept { Leaves (run_asked run.now).save (Rose (F.faults shelf.old) (F.faults shelf.new)) (F.held shelf.old) (F.held shelf.new) result }
     ensures shelf_counted { F.faults shelf.old ≤ F.faults shelf.new }
     ensures input_counted { R.faults input.old ≤ R.faults input.new }
     ensures out_counted { W.faults out.old ≤ W.faults out.new }
@@ -59,83 +67,48 @@ pub(crate) fn load_and_run<F: Shelf, R: Source, W: Sink>(
     one_verdict();
     runs_end();
     inputs_arrive();
-    match load_runnable(alloc, name, shelf) {
-        Ok(loaded) => run_loaded(alloc, &loaded, pick, turns, input, out),
+    match load_runnable(alloc, run.model, shelf) {
+        Ok(loaded) => run_loaded(alloc, &loaded, run, shelf, input, out),
         Err(status) => status,
     }
 }
 
-/// Runs a model that was loaded, and writes these lines of its trace.
-fn run_loaded<R: Source, W: Sink>(
+/// Runs a model that was loaded, and stores its image where the words ask for it.
+fn run_loaded<F: Shelf, R: Source, W: Sink>(
     alloc: Global,
     loaded: &Runnable,
-    pick: Pick,
-    turns: u64,
+    run: &RunWords<'_>,
+    shelf: &mut F,
     input: &mut R,
     out: &mut W,
 ) -> Status
     requires right { IsRight loaded.now.model }
-    requires turns { turns ≤ 1_000_000_000 }
+    requires turns { run.now.turns ≤ 1_000_000_000 }
     ensures comes { IfSome (R.left input.old) (λ bytes. IfSome (W.written out.old) (λ written.
-        Comes (own_of loaded.now) pick (λ records. run (own_of loaded.now) records turns) bytes (R.left input.new) written (W.written out.new) result)) }
+        Comes (own_of loaded.now) (pick_of run.now.only) (tells_on (own_of loaded.now) (run_asked run.now)) bytes (R.left input.new) written (W.written out.new) result)) }
     ensures ends { IfSome (R.left input.old) (λ bytes.
-        SaysEnd (run (own_of loaded.now) (records_in (own_of loaded.now) bytes) turns).end (R.left input.new) result) }
+        SaysEnd (tells_on (own_of loaded.now) (run_asked run.now) (records_in (own_of loaded.now) bytes)).end (R.left input.new) result) }
+    ensures stored { result ≡ Status.Done → IfSome (R.left input.old) (λ bytes.
+        Stores (run_asked run.now).save (image_left loaded.now.model (tells_on (own_of loaded.now) (run_asked run.now) (records_in (own_of loaded.now) bytes))) (F.held shelf.new)) }
     ensures taken { Told (R.left input.old) (R.left input.new) (λ before.
-        TakesWanted (λ records. run (own_of loaded.now) records turns) (records_in (own_of loaded.now) before) [] before) }
-    ensures idle { turns ≡ 0 → input.new ≡ input.old }
-    ensures cause { IsOfRun (Rose (R.faults input.old) (R.faults input.new)) (Rose (W.faults out.old) (W.faults out.new)) result }
+        TakesWanted (tells_on (own_of loaded.now) (run_asked run.now)) (records_in (own_of loaded.now) before) [] before) }
+    ensures idle { run.now.turns ≡ 0 → input.new ≡ input.old }
+    ensures cause { IsOfStored (run_asked run.now).save (Rose (F.faults shelf.old) (F.faults shelf.new))
+        (Rose (R.faults input.old) (R.faults input.new)) (Rose (W.faults out.old) (W.faults out.new)) result }
+    ensures kept { Leaves (run_asked run.now).save (Rose (F.faults shelf.old) (F.faults shelf.new)) (F.held shelf.old) (F.held shelf.new) result }
+    ensures shelf_counted { F.faults shelf.old ≤ F.faults shelf.new }
     ensures input_counted { R.faults input.old ≤ R.faults input.new }
     ensures out_counted { W.faults out.old ≤ W.faults out.new }
 {
     match resolve(alloc, &loaded.model) {
-        Ok(program) => write_run(
+        Ok(program) => run_and_store(
             alloc,
             &Running::new(&program, &loaded.places),
-            pick,
-            turns,
+            run,
+            shelf,
             input,
             out,
         ),
         Err(_) => Status::Memory,
-    }
-}
-
-/// Runs the model on the input, and writes its trace as it comes.
-fn write_run<R: Source, W: Sink>(
-    alloc: Global,
-    own: &Running<'_>,
-    pick: Pick,
-    turns: u64,
-    input: &mut R,
-    out: &mut W,
-) -> Status
-    requires turns { turns ≤ 1_000_000_000 }
-    ensures comes { IfSome (R.left input.old) (λ bytes. IfSome (W.written out.old) (λ written.
-        Comes own.now pick (λ records. run own.now records turns) bytes (R.left input.new) written (W.written out.new) result)) }
-    ensures ends { IfSome (R.left input.old) (λ bytes. SaysEnd (run own.now (records_in own.now bytes) turns).end (R.left input.new) result) }
-    ensures taken { Told (R.left input.old) (R.left input.new) (λ before.
-        TakesWanted (λ records. run own.now records turns) (records_in own.now before) [] before) }
-    ensures idle { turns ≡ 0 → input.new ≡ input.old }
-    ensures cause { IsOfRun (Rose (R.faults input.old) (R.faults input.new)) (Rose (W.faults out.old) (W.faults out.new)) result }
-    ensures input_counted { R.faults input.old ≤ R.faults input.new }
-    ensures out_counted { W.faults out.old ≤ W.faults out.new }
-{
-    status_by(run_model(alloc, own, pick, turns, input, out))
-}
-
-/// The status of a run that came to this.
-pub(crate) fn status_by(answer: Result<Finish, Cut>) -> Status
-    ensures { result ≡ status_by answer }
-{
-    match answer {
-        Ok(Finish::Bound | Finish::Quiet) => Status::Done,
-        Ok(Finish::Input { kind, line }) => Status::BadInput { kind, line },
-        Ok(Finish::Fault(fault)) => Status::ModelFault(fault),
-        Err(Cut::ReadFault) => Status::Unread {
-            what: What::Input,
-            why: Why::Failed,
-        },
-        Err(Cut::Unwritten) => Status::Unwritten(What::Output),
-        Err(Cut::Memory) => Status::Memory,
     }
 }

@@ -1,19 +1,24 @@
 -- What the program's words ask for.
-use Rattle.std.specs.Prelude.{ℕ, ◌≡◌, ◌≤◌, ◌<◌, ◌^◌, ⊤, Bool, true, false, List, [], ◌∷◌, length, Option, Some, None, ◌&&◌, nat_le, nat_eq, codes, if◌then◌else◌}
+use Rattle.std.specs.Prelude.{ℕ, ◌≡◌, ◌≤◌, ⊤, Bool, true, false, List, [], ◌∷◌, length, Option, Some, None, ◌&&◌, nat_le, nat_eq, codes, if◌then◌else◌}
+use Rattle.std.specs.Borrow.{Bor}
 use Rattle.std.specs.Char.{is_ascii_digit}
 use Rattle.std.specs.List.{list_all, starts_with}
 use Rattle.std.specs.Option.{option_map, option_and_then}
 use Rattle.std.specs.Str.{bytes_eq}
 use Rattle.std.specs.Str.Parse.{digits_value}
 use Rattle.dsde_cli_command.specs.declared.command.Command.{Command}
-use Rattle.dsde_cli_command.specs.declared.command.Command.TheVariants.{Check, Run, Big}
+use Rattle.dsde_cli_command.specs.declared.command.Command.TheVariants.{Check, Run, Resume, Big}
 use Rattle.dsde_cli_command.specs.declared.command.Only.{Only}
 use Rattle.dsde_cli_command.specs.declared.command.Only.TheVariants.{Outputs, Structure}
+use Rattle.dsde_cli_command.specs.declared.command.RunWords.{RunWords}
+use Rattle.dsde_cli_command.specs.declared.given.Valued.{Valued}
+use Rattle.dsde_cli_command.specs.declared.given.Valued.TheVariants as valued
 
 -- It takes no more turns than one command may.
 abbrev pub IsBounded : Command → Type 0
 IsBounded (Check model print) = ⊤
-IsBounded (Run model turns only) = turns ≤ 1_000_000_000
+IsBounded (Run run) = run.turns ≤ 1_000_000_000
+IsBounded (Resume file run) = run.turns ≤ 1_000_000_000
 IsBounded (Big seed turns) = turns ≤ 1_000_000_000
 
 -- A model is to be checked: the bytes of its name, and whether its text is to be printed.
@@ -21,11 +26,18 @@ pub record CheckCommand : Type 0 where
   pub model : List ℕ
   pub print : Bool
 
--- A model is to be run: the bytes of its name, the most turns, and which lines are kept, if not all.
+-- A model is to be run: the bytes of its name, the most turns, which lines are kept, if not all, and the
+-- bytes of the name under which the image of the run is stored, if it is.
 pub record RunCommand : Type 0 where
   pub model : List ℕ
   pub turns : ℕ
   pub kept : Option Only
+  pub save : Option (List ℕ)
+
+-- A run is to be taken up again: the bytes of the name of its image, and what is run from there.
+pub record ResumeCommand : Type 0 where
+  pub file : List ℕ
+  pub run : RunCommand
 
 -- The large model of a seed is to be run, for at most so many turns.
 pub record BigCommand : Type 0 where
@@ -36,41 +48,53 @@ pub record BigCommand : Type 0 where
 pub data Task : Type 0 where
   checks : CheckCommand → Task
   runs : RunCommand → Task
+  resumes : ResumeCommand → Task
   counts : BigCommand → Task
+
+-- What a run is asked to be.
+abbrev pub run_asked : RunWords → RunCommand
+run_asked run = record { model = run.model.now; turns = run.turns; kept = run.only; save = option_map (λ (name : Bor (List ℕ)). name.now) run.save }
 
 -- What a command asks for.
 abbrev pub task_of : Command → Task
 task_of (Check model print) = checks (record { model = model.now; print = print })
-task_of (Run model turns only) = runs (record { model = model.now; turns = turns; kept = only })
+task_of (Run run) = runs (run_asked run)
+task_of (Resume file run) = resumes (record { file = file.now; run = run_asked run })
 task_of (Big seed turns) = counts (record { seed = seed; turns = turns })
 
 -- What the words after the command give, each from left to right: the positional words, the values
--- of `--turns` and of `--only`, and each `--print`.
+-- of `--turns`, of `--only` and of `--save`, and each `--print`.
 pub record Line : Type 0 where
   pub positional : List (List ℕ)
   pub turns : List (List ℕ)
   pub onlys : List (List ℕ)
+  pub saves : List (List ℕ)
   pub prints : List (List ℕ)
 
 -- A line of no words.
 abbrev pub no_words : Line
-no_words = record { positional = []; turns = []; onlys = []; prints = [] }
+no_words = record { positional = []; turns = []; onlys = []; saves = []; prints = [] }
 
 -- A line with one positional word more, before the others.
 abbrev pub with_positional : List ℕ → Line → Line
 with_positional word line = record line { positional = word ∷ line.positional }
 
--- A line with one value of `--turns` more, before the others.
-abbrev pub with_turns : List ℕ → Line → Line
-with_turns value line = record line { turns = value ∷ line.turns }
-
--- A line with one value of `--only` more, before the others.
-abbrev pub with_only : List ℕ → Line → Line
-with_only value line = record line { onlys = value ∷ line.onlys }
-
 -- A line with one `--print` more.
 abbrev pub with_print : Line → Line
 with_print line = record line { prints = codes "--print" ∷ line.prints }
+
+-- The option that a word is, of those that take the next word as their value.
+abbrev pub valued_of : List ℕ → Option Valued
+valued_of word =
+    if bytes_eq word (codes "--turns") then Some valued.Turns
+    else (if bytes_eq word (codes "--only") then Some valued.Only
+    else (if bytes_eq word (codes "--save") then Some valued.Save else None))
+
+-- A line with one value of such an option more, before the others.
+abbrev pub with_value : Valued → List ℕ → Line → Line
+with_value valued.Turns value line = record line { turns = value ∷ line.turns }
+with_value valued.Only value line = record line { onlys = value ∷ line.onlys }
+with_value valued.Save value line = record line { saves = value ∷ line.saves }
 
 -- A word that may only be an option.
 abbrev pub is_option : List ℕ → Bool
@@ -82,20 +106,33 @@ with_word word line =
     if bytes_eq word (codes "--print") then option_map with_print line
     else (if is_option word then None else option_map (with_positional word) line)
 
--- The line of words: `--turns` and `--only` take the next word as their value.
+-- The line of words, of which some take the next one as their value.
 abbrev pub line_of : List (List ℕ) → Option Line
 line_of [] = Some no_words
 line_of (word ∷ []) = with_word word (Some no_words)
-line_of (word ∷ next ∷ words) =
-    if bytes_eq word (codes "--turns") then option_map (with_turns next) (line_of words)
-    else (if bytes_eq word (codes "--only") then option_map (with_only next) (line_of words)
-    else with_word word (line_of (next ∷ words)))
+line_of (word ∷ next ∷ words) = elim (valued_of word) [
+  | None ↦ with_word word (line_of (next ∷ words))
+  | Some option ↦ option_map (with_value option next) (line_of words)
+]
 
 -- The one item of a list that has one.
 abbrev pub only : {A : Type 0} → List A → Option A
 only [] = None
 only (item ∷ []) = Some item
 only (item ∷ next ∷ items) = None
+
+-- The two items of a list that has two.
+abbrev pub both : {A : Type 0} → List A → Option (A × A)
+both (item ∷ next ∷ []) = Some (item, next)
+both [] = None
+both (item ∷ []) = None
+both (item ∷ next ∷ other ∷ items) = None
+
+-- The item of a list that has at most one.
+abbrev pub if_given : {A : Type 0} → List A → Option (Option A)
+if_given [] = Some None
+if_given (item ∷ []) = Some (Some item)
+if_given (item ∷ next ∷ items) = None
 
 -- Whether a word is given that may stand once.
 abbrev pub is_given : {A : Type 0} → List A → Option Bool
@@ -136,32 +173,47 @@ abbrev pub ◌>>=◌ : {A B : Type 0} → Option A → (A → Option B) → Opti
 found >>= next = option_and_then next found
 
 -- The check of a line: its one positional word is the model's name, `--print` stands in it at most
--- once, and `--turns` and `--only` nowhere.
+-- once, and `--turns`, `--only` and `--save` nowhere.
 abbrev pub check_of : Line → Option Task
-check_of line = without line.turns (without line.onlys (do
+check_of line = without line.turns (without line.onlys (without line.saves (do
   model ← only line.positional
   print ← is_given line.prints
-  Some (checks (record { model = model; print = print }))))
+  Some (checks (record { model = model; print = print })))))
 
--- The run of a line: its one positional word is the model's name, `--turns` stands in it once,
--- `--only` at most once, and `--print` nowhere.
-abbrev pub run_of : Line → Option Task
-run_of line = without line.prints (do
-  model ← only line.positional
+-- What a line asks a run of the model of this name to be: `--turns` stands in it once, `--only` and
+-- `--save` at most once.
+abbrev pub run_on : Line → List ℕ → Option RunCommand
+run_on line model = do
   value ← only line.turns
   turns ← turns_of value
   kept ← kept_of line.onlys
-  Some (runs (record { model = model; turns = turns; kept = kept })))
+  save ← if_given line.saves
+  Some (record { model = model; turns = turns; kept = kept; save = save })
+
+-- The run of a line: its one positional word is the model's name, and `--print` stands nowhere in it.
+abbrev pub run_of : Line → Option Task
+run_of line = without line.prints (do
+  model ← only line.positional
+  run ← run_on line model
+  Some (runs run))
+
+-- The run of a line that is taken up again: its two positional words are the names of the model and of
+-- the image, and `--print` stands nowhere in it.
+abbrev pub resume_of : Line → Option Task
+resume_of line = without line.prints (do
+  names ← both line.positional
+  run ← run_on line names.0
+  Some (resumes (record { file = names.1; run = run })))
 
 -- The run of the large model of a line: its one positional word is the seed, `--turns` stands in it
--- once, and `--only` and `--print` nowhere.
+-- once, and `--only`, `--save` and `--print` nowhere.
 abbrev pub big_of : Line → Option Task
-big_of line = without line.prints (without line.onlys (do
+big_of line = without line.prints (without line.onlys (without line.saves (do
   word ← only line.positional
   seed ← seed_of word
   value ← only line.turns
   turns ← turns_of value
-  Some (counts (record { seed = seed; turns = turns }))))
+  Some (counts (record { seed = seed; turns = turns })))))
 
 -- The command that words spell: the first word names it.
 abbrev pub command_of : List (List ℕ) → Option Task
@@ -169,7 +221,8 @@ command_of [] = None
 command_of (name ∷ words) =
     if bytes_eq name (codes "check") then line_of words >>= check_of
     else (if bytes_eq name (codes "run") then line_of words >>= run_of
-    else (if bytes_eq name (codes "big") then line_of words >>= big_of else None))
+    else (if bytes_eq name (codes "resume") then line_of words >>= resume_of
+    else (if bytes_eq name (codes "big") then line_of words >>= big_of else None)))
 
 -- The words ask for this check.
 pub record AsksCheck (words : List (List ℕ)) : Type 0 where
@@ -180,6 +233,11 @@ pub record AsksCheck (words : List (List ℕ)) : Type 0 where
 pub record Asked (words : List (List ℕ)) : Type 0 where
   pub run : RunCommand
   pub spelled : command_of words ≡ Some (runs run)
+
+-- The words ask for this run to be taken up again.
+pub record AsksResume (words : List (List ℕ)) : Type 0 where
+  pub resume : ResumeCommand
+  pub spelled : command_of words ≡ Some (resumes resume)
 
 -- The words ask for this run of the large model.
 pub record AsksBig (words : List (List ℕ)) : Type 0 where

@@ -10,21 +10,24 @@ use crate::given::read_words;
 #[derive(Clone, Copy, Debug, PartialEq, Eq)]
 pub enum Command<'w> {
     /// `check MODEL [--print]`
-    Check {
-        model: &'w str,
-        print: bool,
-    },
-    /// `run MODEL --turns N [--only outputs|structure]`
-    Run {
-        model: &'w str,
-        turns: u64,
-        only: Option<Only>,
-    },
+    Check { model: &'w str, print: bool },
+    /// `run MODEL --turns N [--only outputs|structure] [--save FILE]`
+    Run(RunWords<'w>),
+    /// `resume MODEL FILE --turns N [--only outputs|structure] [--save FILE]`: `file` is the name of
+    /// the image that is taken up.
+    Resume { file: &'w str, run: RunWords<'w> },
     /// `big SEED --turns N`
-    Big {
-        seed: u32,
-        turns: u64,
-    },
+    Big { seed: u32, turns: u64 },
+}
+
+/// What a run is asked to be: the name of its model, the most turns, which lines of its trace are
+/// kept, where not all are, and the name under which its image is stored, where it is.
+#[derive(Clone, Copy, Debug, PartialEq, Eq)]
+pub struct RunWords<'w> {
+    pub model: &'w str,
+    pub turns: u64,
+    pub only: Option<Only>,
+    pub save: Option<&'w str>,
 }
 
 /// Which lines of a trace are kept, where not all are.
@@ -36,13 +39,15 @@ pub enum Only {
 
 /// The command that the words spell; `None` exactly where they spell none.
 ///
-/// The first word names the command. The words after it are read from left to right: `--turns`
-/// stands at most once and takes the next word as its value, which is 1 to 10 decimal digits that
-/// spell at most a billion; `--only` stands at most once and takes the next word too, which is
-/// `outputs` or `structure`; `--print` stands at most once and takes none; any other word that
-/// begins with `--` spells no command; and the one word that is left is the model's name, which may
-/// be empty, or for `big` a number of 1 to 10 digits and at most 32 bits. `run` wants `--turns` and
-/// has no `--print`, `check` has neither `--turns` nor `--only`, and `big` has `--turns` alone.
+/// The first word names the command. The words after it are read from left to right: `--turns`,
+/// `--only` and `--save` take the next word as their value, whatever it is, `--print` takes none, and
+/// each of the four stands at most once; any other word that begins with `--` spells no command; and
+/// the words that are left are the positional ones, in order. The value of `--turns` is 1 to 10 decimal
+/// digits that spell at most a billion, that of `--only` is `outputs` or `structure`, and that of
+/// `--save` any name. `check`, `run` and `big` have one positional word: the model's name, which may be
+/// empty, or for `big` a number of 1 to 10 digits and at most 32 bits; `resume` has two, the names of
+/// the model and of the image. `run` and `resume` want `--turns` and have no `--print`, `check` has
+/// `--print` alone, and `big` wants `--turns` and has nothing else.
 pub fn read_command(words: &[String]) -> Option<Command<'_>>
     ensures spelled { option_map task_of result ≡ command_of (map string_bytes words.now) }
     ensures bounded { IfSome result IsBounded }
@@ -52,6 +57,8 @@ pub fn read_command(words: &[String]) -> Option<Command<'_>>
         read_words(words)?.check()
     } else if command.as_str() == "run" {
         read_words(words)?.run()
+    } else if command.as_str() == "resume" {
+        read_words(words)?.resume()
     } else if command.as_str() == "big" {
         read_words(words)?.big()
     } else {

@@ -5,4 +5,4 @@ mod command;
 mod given;
 mod number;
 
-pub use command::{Command, Only, read_command};
+pub use command::{Command, Only, RunWords, read_command};

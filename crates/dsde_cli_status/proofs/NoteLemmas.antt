@@ -1,9 +1,11 @@
 -- What the writing of a note leaves.
-use Rattle.std.proofs.Common.{◌≡◌, ℕ, List, ◌++◌, length, take, sym, ap, ◌∙◌}
+use Rattle.std.proofs.Common.{◌≡◌, ℕ, List, [], ◌++◌, length, take, refl, sym, ap, ◌∙◌}
 use Rattle.std.specs.Prelude.{Option, Some, None, Result, Ok, Err, IfSome, OnOk, OnErr}
 use Rattle.std.proofs.Math.Seq.{take-length}
+use Rattle.std.proofs.lemmas.List.{append-nil}
 use Rattle.dsde_io.specs.Bytes.{Gains, GainsFront}
 use Rattle.dsde_cli_status.specs.declared.status.Status.{Status}
+use Rattle.dsde_cli_status.specs.declared.status.Status.TheVariants.{Done}
 use Rattle.dsde_cli_status.specs.Note.{note_of, WritesNoteFront}
 
 -- the whole of a note is a front of it
@@ -32,3 +34,11 @@ pub front-either : {A E : Type 0} (result : Result A E) (before after : Option (
     IfSome before (λ written. WritesNoteFront written after)
 front-either (Ok all) before after status text is gained front = front-whole before after status text is gained
 front-either (Err end) before after status text is gained front = front-part before after status text is front
+
+-- Where nothing is to be told, nothing is written.
+pub gains-nothing : (before : Option (List ℕ)) → Gains before before []
+gains-nothing None = tt
+gains-nothing (Some written) = ap Some (sym (append-nil written))
+
+pub front-nothing : (before : Option (List ℕ)) → IfSome before (λ written. WritesNoteFront written before)
+front-nothing before = front-whole before before Done [] refl (gains-nothing before)

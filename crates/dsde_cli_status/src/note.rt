@@ -22,6 +22,21 @@ const USAGE: &str =
 /// nothing; where memory ran out, that is the status, and its note needs none.
 pub fn report<E: Sink>(alloc: Global, status: Status, notes: &mut E) -> Status
     ensures same { (result ≡ status) ⊎ (result ≡ Status.Memory) }
+    ensures done { status ≡ Status.Done → result ≡ Status.Done }
+    ensures noted { result ≢ Status.Memory
+        → Noted (Rose (E.faults notes.old) (E.faults notes.new)) (E.written notes.old) (E.written notes.new) result }
+    ensures noted_front { IfSome (E.written notes.old) (λ written. WritesNoteFront written (E.written notes.new)) }
+    ensures counted { E.faults notes.old ≤ E.faults notes.new }
+{
+    match status {
+        Status::Done => Status::Done,
+        other => report_line(alloc, other, notes),
+    }
+}
+
+/// Writes the line of a status, and answers the status, or that memory ran out.
+fn report_line<E: Sink>(alloc: Global, status: Status, notes: &mut E) -> Status
+    ensures same { (result ≡ status) ⊎ (result ≡ Status.Memory) }
     ensures noted { result ≢ Status.Memory
         → Noted (Rose (E.faults notes.old) (E.faults notes.new)) (E.written notes.old) (E.written notes.new) result }
     ensures noted_front { IfSome (E.written notes.old) (λ written. WritesNoteFront written (E.written notes.new)) }

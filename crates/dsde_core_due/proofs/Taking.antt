@@ -43,10 +43,6 @@ pub none-taken : (time : ℕ) (old new : Queue) (result : Option Handle) → Mat
 none-taken time old new None taken is = taken
 none-taken time old new (Some handle) taken is = absurd (let wrong : Some handle ≡ None = is in cc)
 
--- a list with one more
-pub put-due : (list : List Due) (due : Due) (later whole : List Due) → list ++ due ∷ later ≡ whole → (list ++ due ∷ []) ++ later ≡ whole
-put-due list due later whole is = append_assoc list (due ∷ []) later ∙ is
-
 -- Births do not fall.
 abbrev pub Climb : List Handle → Type 0
 Climb [] = Unit {0}
@@ -116,12 +112,6 @@ module _ (own : Grove Spot) (time : ℕ) where
       (part : grove.Spot Spot) × (spot own handle ≡ Some part) × (path_at own handle ≡ record { names = part.path })
   live-with handle None is next = absurd (let wrong : false ≡ true = next in cc)
   live-with handle (Some part) is next = (part, is, ap (λ (o : Option (grove.Spot Spot)). let p : Path = record { names = option_map_or (λ (s : grove.Spot Spot). s.path) o [] } in p) is)
-
-  pub new-live : (last : Option Handle) (handle : Handle) → is_new own time last handle ≡ true → IsSome (spot own handle)
-  new-live last handle is =
-      let new = both (is_next (value_of own handle) time) (not (is_again last handle)) is in
-      let live = live-with handle (spot own handle) refl new.0 in
-      subst (λ (o : Option (grove.Spot Spot)). IsSome o) (sym live.1) refl
 
   -- who has one birth is one
   one-birth : (one other : Handle) → is_next (value_of own one) time ≡ true → is_next (value_of own other) time ≡ true → one.birth ≡ other.birth → one ≡ other
@@ -251,19 +241,6 @@ module _ (time : ℕ) where
     where
       less : (first : ℕ) → time ≤ first → first ≢ time → time < first
       less first most apart = omega (arith, most, apart)
-
-  -- where the first of this time leaves
-  pub first-at : (handle : Handle) (rest : List (ℕ × Handle)) → (at_time time ((time, handle) ∷ rest) ≡ (time, handle) ∷ at_time time rest) × (after_time time ((time, handle) ∷ rest) ≡ after_time time rest)
-  first-at handle rest =
-      let here = eq-eqb time time refl in
-      (ap (λ (b : Bool). cond b ((time, handle) ∷ at_time time rest) (at_time time rest)) here, ap (λ (b : Bool). cond (not b) ((time, handle) ∷ after_time time rest) (after_time time rest)) here)
-
-  from-later : (p : ℕ × Handle) (rest : List (ℕ × Handle)) → IsOrdered (p ∷ rest) → time ≤ p.0 → IsFrom rest
-  from-later p [] ordered from = tt
-  from-later p (q ∷ rest) ordered from = let all = first-least p (q ∷ rest) ordered in omega (arith, from, all.1.0)
-
-  pub still-from : (handle : Handle) (pairs rest : List (ℕ × Handle)) → pairs ≡ (time, handle) ∷ rest → IsOrdered pairs → IsFrom rest
-  still-from handle pairs rest is ordered = from-later (time, handle) rest (subst IsOrdered is ordered) (omega arith)
 
   -- births at one time do not fall
   birth-after : (p q : ℕ × Handle) (b : Bool) → nat_lt q.1.birth p.1.birth ≡ b → comes_before q p ≡ false → q.0 ≡ p.0 → p.1.birth ≤ q.1.birth

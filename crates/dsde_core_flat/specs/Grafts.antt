@@ -1,5 +1,5 @@
 -- A tree that is put into a grove, below a part that is live.
-use Rattle.std.proofs.Common.{◌≡◌, ◌⊎◌, ℕ, ◌+◌, List, [], map, Some}
+use Rattle.std.proofs.Common.{◌≡◌, ◌⊎◌, ℕ, ◌+◌, ◌≤◌, List, [], map, Some}
 use Rattle.std.specs.Option.{option_map_or}
 use Rattle.std.specs.List.{flat_map, AllByRecursion}
 use Rattle.std.specs.FinMap as map
@@ -31,8 +31,8 @@ IsFree own names = (birth : ℕ) (part : grove.Spot Spot) → map.get own.parts 
 abbrev pub IsRoomFor : Grove Spot → Path → Kid → Type 0
 IsRoomFor own path kid = IsFree own (below path (out-Kid kid).name).names
 
--- What is new in a grove are components of a network at a path, of which each network has its own handle;
--- what was live is as it was.
+-- What is new in a grove are components of a network at a path, of which each network has its own handle, all
+-- born after what was there; what was live is as it was.
 pub record AreGrafted (old new : Grove Spot) (path : Path) (own : List Kid) (kids : List WiredKid) : Type 0 where
   pub shows : map (kid_under (value_of new)) kids ≡ own
   pub themselves : KidsAreThemselves kids
@@ -40,3 +40,4 @@ pub record AreGrafted (old new : Grove Spot) (path : Path) (own : List Kid) (kid
   pub kept : (birth : ℕ) (part : grove.Spot Spot) → map.get old.parts birth ≡ Some part → map.get new.parts birth ≡ Some part
   pub only : (birth : ℕ) (part : grove.Spot Spot) → map.get new.parts birth ≡ Some part → (map.get old.parts birth ≡ Some part) ⊎ HasBirth birth (flat_map (λ kid. kid_places kid path) kids)
   pub next : new.next_birth ≡ old.next_birth + parts_of_kids own
+  pub young : (birth : ℕ) → HasBirth birth (flat_map (λ kid. kid_places kid path) kids) → old.next_birth ≤ birth

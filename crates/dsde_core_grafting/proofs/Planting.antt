@@ -1,5 +1,5 @@
 -- A tree in a grove of its own.
-use Rattle.std.proofs.Common.{◌≡◌, ◌≢◌, ◌⊎◌, inl, inr, ℕ, ◌+◌, ◌^◌, ◌<◌, Bool, true, false, List, [], ◌∷◌, ◌++◌, map, Option, Some, None, IsSome, option_and_then, refl, sym, ap, subst, ◌∙◌, append_assoc, arith}
+use Rattle.std.proofs.Common.{◌≡◌, ◌≢◌, inl, inr, ℕ, true, false, List, [], ◌∷◌, ◌++◌, map, Option, Some, None, IsSome, option_and_then, refl, sym, ap, subst, ◌∙◌, arith}
 use Rattle.std.specs.Option.{option_map, option_map_or}
 use Rattle.std.specs.Ordering.{nat_cmp}
 use Rattle.std.specs.List.{flat_map, AllByRecursion}
@@ -17,23 +17,22 @@ use Rattle.dsde_grove.specs.Grove as grove
 use Rattle.dsde_grove.specs.Grove.{Grove, IsTree, Grows, root_spot, spot, value_of, in_slot}
 use Rattle.dsde_sim_tree.specs.declared.sim.Kid.{Kid}
 use Rattle.dsde_sim_tree.specs.declared.sim.Net.{Net}
-use Rattle.dsde_sim_tree.specs.declared.sim.Sim.{Sim}
 use Rattle.dsde_sim_tree.specs.declared.sim.Sim.TheVariants as sim
 use Rattle.dsde_sim_tree.specs.declared.sim.Sim.TheViews.{out-Net, roll-out-Net}
 use Rattle.dsde_sim_tree.specs.Start.{net_of}
-use Rattle.dsde_sim_tree.specs.Tree.{parts_of_net, parts_of_kids, entry_of}
+use Rattle.dsde_sim_tree.specs.Tree.{parts_of_net, entry_of}
 use Rattle.dsde_core_flat.specs.declared.spot.Spot.{Spot}
 use Rattle.dsde_core_flat.specs.declared.spot.Spot.TheVariants as variant
 use Rattle.dsde_routes_wiring.specs.declared.wiring.Wiring.{Wiring}
 use Rattle.dsde_routes_wiring.specs.declared.wiring.WiredKid.{WiredKid}
 use Rattle.dsde_routes_wiring.specs.declared.wiring.WiredKid.TheOpen.{Wiring-F}
 use Rattle.dsde_routes_wiring.specs.declared.wiring.WiredKid.TheViews.{roll-Wiring, out-roll-Wiring}
-use Rattle.dsde_core_flat.specs.Shown.{leaf_in, model_in, args_in, kid_under, part_under}
+use Rattle.dsde_core_flat.specs.Shown.{leaf_in, model_in, args_in, kid_under}
 use Rattle.dsde_core_flat.specs.Places.{Place, place, kid_places, part_places}
 use Rattle.dsde_core_flat.specs.lemmas.Opened.{net-shows, net-stands}
 use Rattle.dsde_core_flat.specs.lemmas.Frame.{all-join}
 use Rattle.dsde_core_flat.specs.Change.{wiring_of}
-use Rattle.dsde_core_flat.specs.Stands.{is_net, StandsAt, HasBirth, StandsFor, Leads}
+use Rattle.dsde_core_flat.specs.Stands.{is_net, StandsAt, HasBirth, StandsFor}
 use Rattle.dsde_core_flat.specs.lemmas.Keeping.{spot-got}
 use Rattle.dsde_core_flat.specs.lemmas.Groves.{spot-slot, get-there, get-other, same-or-not}
 use Rattle.dsde_values.specs.declared.value.Value.{Value}
@@ -49,7 +48,7 @@ use Rattle.dsde_core_flat.specs.lemmas.Grafting.{Keeps, kept-spot, stand-kept, g
 use Rattle.dsde_core_flat.specs.Named.{AreToldApart, HasOwnNames}
 use Rattle.dsde_core_flat.specs.Grafts.{IsRoomFor}
 use Rattle.dsde_core_flat.specs.lemmas.Growing.{net-named, heads-alike, longer}
-use Rattle.dsde_core_grafting.proofs.Walking.{path-there, net-parts}
+use Rattle.dsde_core_grafting.proofs.Walking.{net-parts}
 
 -- a grove of one part
 module _ (own : Grove Spot) (handle : Handle) (value : Spot) (birth : handle.birth ≡ 0) (are : own.parts ≡ map.insert map.empty 0 (root_spot handle value)) where

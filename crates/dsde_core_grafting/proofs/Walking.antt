@@ -1,5 +1,5 @@
 -- Components that are put into a grove one after another.
-use Rattle.std.proofs.Common.{◌≡◌, ◌≢◌, ℕ, ◌+◌, ◌*◌, ◌^◌, ◌<◌, ◌≤◌, false, true, List, [], ◌∷◌, ◌++◌, map, Option, Some, None, IsSome, refl, sym, ap, subst, ◌∙◌, append_assoc, arith}
+use Rattle.std.proofs.Common.{◌≡◌, ℕ, ◌+◌, ◌*◌, ◌^◌, ◌<◌, ◌≤◌, false, true, List, [], ◌∷◌, ◌++◌, map, Option, Some, None, IsSome, refl, sym, ap, subst, ◌∙◌, append_assoc, arith}
 use Rattle.std.specs.Option.{option_map_or}
 use Rattle.std.specs.List.{AllByRecursion}
 use Rattle.std.specs.FinMap as map
@@ -7,21 +7,16 @@ use Rattle.std.proofs.lemmas.List.{append-nil}
 use Rattle.dsde_bank.specs.declared.handle.Handle.{Handle}
 use Rattle.dsde_values.specs.declared.name.Name.{Name}
 use Rattle.dsde_values.specs.declared.path.Path.{Path}
-use Rattle.dsde_values.specs.declared.value.Value.{Value}
-use Rattle.dsde_declared.specs.declared.ids.ModelId.{ModelId}
-use Rattle.dsde_formalism.specs.declared.leaf.Leaf.{Leaf}
-use Rattle.dsde_structure.specs.declared.plan.Link.{Link}
 use Rattle.dsde_values.specs.Path.{EXEC}
 use Rattle.dsde_sim_events.specs.Told.{below}
 use Rattle.dsde_grove.specs.Grove as grove
 use Rattle.dsde_grove.specs.Grove.{Grove, IsTree, Grows, spot}
 use Rattle.dsde_sim_tree.specs.declared.sim.Kid.{Kid}
 use Rattle.dsde_sim_tree.specs.declared.sim.Net.{Net}
-use Rattle.dsde_sim_tree.specs.declared.sim.Sim.{Sim}
 use Rattle.dsde_sim_tree.specs.declared.sim.Sim.TheVariants as sim
 use Rattle.dsde_sim_tree.specs.declared.sim.Sim.TheFolds.{fold-roll-Kid, fold-roll-Net}
 use Rattle.dsde_sim_tree.specs.declared.sim.Sim.TheViews.{out-Kid, out-Net, roll-out-Kid, roll-out-Net}
-use Rattle.dsde_sim_tree.specs.Start.{kid_of, net_of}
+use Rattle.dsde_sim_tree.specs.Start.{kid_of}
 use Rattle.dsde_sim_tree.specs.Tree.{parts, parts_of_kid, parts_of_net, parts_of_kids, parts_step, kid_parts, net_parts, entry_of}
 use Rattle.dsde_core_flat.specs.declared.spot.Spot.{Spot}
 use Rattle.dsde_core_flat.specs.declared.spot.Spot.TheVariants as variant
@@ -29,10 +24,10 @@ use Rattle.dsde_routes_wiring.specs.declared.wiring.WiredKid.{WiredKid}
 use Rattle.dsde_routes_wiring.specs.declared.wiring.WiredKid.TheViews.{out-WiredKid}
 use Rattle.dsde_core_flat.specs.Change.{wired_kid, wiring_of}
 use Rattle.dsde_core_flat.specs.Grafts.{path_at, IsFree, AreGrafted}
-use Rattle.dsde_core_flat.specs.lemmas.Grafting.{kept-spot, graft-none, graft-join, graft-leaf, graft-net, grown-spot, grown-keeps, parts-cons, parts-join}
+use Rattle.dsde_core_flat.specs.lemmas.Grafting.{kept-spot, graft-none, graft-join, graft-net, grown-spot, grown-keeps, parts-cons, parts-join}
 use Rattle.dsde_core_flat.specs.Named.{AreToldApart, HasOwnNames, KidHasOwnNames}
 use Rattle.dsde_core_flat.specs.Grafts.{IsRoomFor}
-use Rattle.dsde_core_flat.specs.lemmas.Growing.{net-named, free-first, room-after, room-below}
+use Rattle.dsde_core_flat.specs.lemmas.Growing.{net-named, room-after, room-below}
 
 -- The components so far are in the grove, and the others still have room.
 pub record Grafts (kids : List Kid) (old : Grove Spot) (looks : ℕ) (parent : Handle) (own : Grove Spot) (now : ℕ) (done : List WiredKid) (rest : List Kid) : Type 0 where

@@ -2,3 +2,4 @@
 pub mod Meeting
 pub mod Component
 pub mod Executive
+pub mod Fitting

@@ -255,6 +255,7 @@ module _ (old : Grove Spot) (net boss : Handle) (path : Path) (all : List WiredK
     pub waits : (waiting : List Handle) (pairs : List (ℕ × Handle)) → IsScheduledBut old waiting pairs → IsScheduledBut own waiting pairs
     pub itself : value_of own net ≡ value_of old net
     pub executive : value_of own boss ≡ value_of old boss
+    pub born : own.next_birth ≡ old.next_birth
     pub rooms : now ≡ room + parts_of_kids out
     pub tells : events ≡ told ++ map (drop_of path) out
 
@@ -272,6 +273,7 @@ module _ (old : Grove Spot) (net boss : Handle) (path : Path) (all : List WiredK
     waits = λ waiting pairs but. but;
     itself = refl;
     executive = refl;
+    born = refl;
     rooms = omega arith;
     tells = sym (append-nil told);
   }
@@ -293,6 +295,7 @@ module _ (old : Grove Spot) (net boss : Handle) (path : Path) (all : List WiredK
         waits = goes.waits;
         itself = goes.itself;
         executive = goes.executive;
+        born = goes.born;
         rooms = goes.rooms;
         tells = goes.tells;
       }
@@ -350,6 +353,7 @@ module _ (old : Grove Spot) (net boss : Handle) (path : Path) (all : List WiredK
             waits = λ waiting pairs but. subtree-left own new (out-WiredKid kid).handle waiting pairs drops (goes.waits waiting pairs but);
             itself = left-net own new net boss path goes.front kid later goes.stands names-now inside-now drops ∙ goes.itself;
             executive = left-boss own new net boss path goes.front kid later goes.stands names-now inside-now drops ∙ goes.executive;
+            born = drops.next ∙ goes.born;
             rooms = omega (arith, goes.rooms, counted, parts-join goes.out (one ∷ []), parts-cons one []);
             tells =
                 is ∙ ap (λ (es : List Event). es ++ Drop (below path (out-WiredKid kid).name) count ∷ []) goes.tells

@@ -9,6 +9,7 @@ use Rattle.dsde_core_flat.specs.declared.spot.Spot.{Spot}
 use Rattle.dsde_core_flat.specs.declared.spot.Spot.TheVariants as variant
 use Rattle.dsde_core_flat.specs.lemmas.Moves.{moved-value}
 use Rattle.dsde_core_flat.specs.Scheduled.{held_leaf}
+use Rattle.dsde_core_flat.specs.Shown.{leaf_in}
 
 valued-at : (own : Grove Spot) (handle : Handle) (leaf : Leaf) (held : Option (grove.Spot Spot)) → spot own handle ≡ held → IsSome (held_leaf (option_map (λ (part : grove.Spot Spot). part.value) held)) →
     value_of (with_value own handle (variant.Leaf leaf)) handle ≡ Some (variant.Leaf leaf)
@@ -22,3 +23,9 @@ valued-here own handle leaf some = valued-at own handle leaf (spot own handle) r
 pub live-at : (held : Option (grove.Spot Spot)) → IsSome (held_leaf (option_map (λ (part : grove.Spot Spot). part.value) held)) → IsSome held
 live-at None some = absurd (let wrong : false ≡ true = some in cc)
 live-at (Some part) some = refl
+
+-- the component or the executive that is held
+pub leaf-held : (held : Option Spot) (leaf : Leaf) → (let own : Option Leaf = Some leaf in own) ≡ held_leaf held → leaf_in held ≡ leaf
+leaf-held None leaf is = absurd (let wrong : Some leaf ≡ None = is in cc)
+leaf-held (Some (variant.Leaf own)) leaf is = let e : Some leaf ≡ Some own = is in cc
+leaf-held (Some (variant.Net model args)) leaf is = absurd (let wrong : Some leaf ≡ None = is in cc)

@@ -75,6 +75,7 @@ pub fn drop_others<L: Ledger>(
     ensures changes { OnOk result (ChangesBeneath path.now.names grove.old grove.new) }
     ensures itself { OnOk result (value_of grove.new (out-Wiring wiring.now).me ≡ value_of grove.old (out-Wiring wiring.now).me) }
     ensures executive { OnOk result (value_of grove.new (out-Wiring wiring.now).boss ≡ value_of grove.old (out-Wiring wiring.now).boss) }
+    ensures born { OnOk result (grove.new.next_birth ≡ grove.old.next_birth) }
     ensures waits { OnOk result ((waiting : List Handle) (pairs : List (ℕ × Handle)) → IsScheduledBut grove.old waiting pairs → IsScheduledBut grove.new waiting pairs) }
     ensures tree { OnOk result (IsTree grove.new) }
     ensures room { IfOk result (λ whole. whole ≡ room + parts_of_kids (shown grove.old (lost keeps.now (out-Wiring wiring.now).kids))) }

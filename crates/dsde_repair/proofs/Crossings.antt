@@ -1,18 +1,17 @@
 -- What walks over the links of a network add, link by link.
-use Rattle.std.proofs.Common.{◌≡◌, ℕ, zero, suc, ◌+◌, ◌<◌, ◌≤◌, Bool, true, false, if◌then◌else◌, List, [], ◌∷◌, ◌++◌, map, length, get_or, drop, slice_get, drop-cons, add-one, append_assoc, append-nil, length-append, refl, sym, ap, ap₂, ◌∙◌, subst, arith, Option, Some, None, Result, Ok, Err, OnOk, IfOk}
+use Rattle.std.proofs.Common.{◌≡◌, ℕ, zero, suc, ◌<◌, ◌≤◌, Bool, List, [], ◌∷◌, ◌++◌, map, length, get_or, drop, drop-cons, append_assoc, append-nil, length-append, refl, sym, ap, ap₂, ◌∙◌, subst, arith, Option, Some, None}
 use Rattle.std.proofs.lemmas.List.{map-append}
 use Rattle.std.specs.List.{flat_map, enumerate_from, AllByRecursion}
 use Rattle.dsde_bank.specs.declared.handle.Handle.{Handle}
 use Rattle.dsde_values.specs.declared.name.Name.{Name}
 use Rattle.dsde_structure.specs.declared.plan.Link.{Link}
-use Rattle.dsde_structure.specs.declared.plan.Via.{Via}
 use Rattle.dsde_routes_wiring.specs.declared.row.Row.{Row}
 use Rattle.dsde_routes_wiring.specs.declared.side.Side.TheVariants.{Out, Into}
 use Rattle.dsde_routes_wiring.specs.declared.wiring.WiredKid.{WiredKid}
 use Rattle.dsde_routes_wiring.specs.declared.wiring.Wiring.{Wiring}
 use Rattle.dsde_routes_wiring.specs.declared.wiring.WiredKid.TheViews.{out-Wiring, out-WiredKid}
 use Rattle.dsde_routes_wiring.specs.Routes as route
-use Rattle.dsde_routes_wiring.specs.Routes.{Step, Route, Around, Inner, Numbered, row_of, rank_of, extended, met, crossed, crossed_by, crossing, at_end, links_of, step_from, routes_in, inner_of_kid}
+use Rattle.dsde_routes_wiring.specs.Routes.{Step, Around, Inner, Numbered, row_of, extended, met, crossed, crossed_by, crossing, at_end, links_of, step_from, routes_in, inner_of_kid}
 use Rattle.dsde_routes_wiring.specs.Places.{inside}
 use Rattle.dsde_routes_wiring.specs.Touched.{handles_of, handles_of_kid}
 use Rattle.dsde_routes_wiring.specs.Wired.{IsWired, AreWired}
@@ -21,7 +20,7 @@ use Rattle.dsde_routes_wiring.specs.Opened.{Beneath}
 use Rattle.dsde_repair_laws.proofs.Shapes.{KidEach, net-below}
 use Rattle.dsde_repair_walks.specs.declared.way.Way.{Way}
 use Rattle.dsde_repair_walks.specs.Places.{BelowWired, IsBelowWired}
-use Rattle.dsde_repair_walks.specs.Walks.{ranked, extended_way, met_row, met_rows, crossed_rows, beyond}
+use Rattle.dsde_repair_walks.specs.Walks.{ranked, met_row, met_rows, crossed_rows, beyond}
 use Rattle.dsde_repair_walks.proofs.Walking.{map-flat, flat-of-map}
 use Rattle.dsde_repair.specs.Walks.{from_number, open_around, crossed_link, at_ways}
 
@@ -47,13 +46,7 @@ link-crossed around me number link befores afters p q =
     ap (λ own. crossed_rows number link own afters) p ∙ ap (crossed_rows number link (at_ways Out around link.from)) q
     ∙ sym (rows-crossed (step_from me (number, link)) (at_end Out around link.from) (at_end Into around link.to))
 
--- a walk over links, at one of them and at the end
-pub number-step : {X : Type 0} (each : ℕ × Link → List X) (links : List Link) (number : ℕ) (link : Link) → number < length links → link ≡ get_or links number link →
-    from_number each links number ≡ each (number, link) ++ from_number each links (number + 1)
-number-step each links number link lt is =
-    ap (λ later. flat_map each (enumerate_from number later)) (drop-cons links number link lt ∙ ap (λ own. own ∷ drop (suc number) links) (sym is))
-    ∙ ap (λ n. each (number, link) ++ flat_map each (enumerate_from (number + 1) (drop n links))) (sym (add-one number))
-
+-- a walk over links, at its end
 drop-all : {X : Type 0} (xs : List X) (n : ℕ) → length xs ≤ n → drop n xs ≡ []
 drop-all [] zero le = refl
 drop-all [] (suc n) le = refl

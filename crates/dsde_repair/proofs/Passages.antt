@@ -1,5 +1,5 @@
 -- Ways that pass a place, link by link.
-use Rattle.std.proofs.Common.{◌≡◌, ℕ, zero, suc, ◌+◌, ◌<◌, ◌≤◌, Bool, true, false, if◌then◌else◌, List, [], ◌∷◌, ◌++◌, map, length, get_or, drop, slice_get, append_assoc, append-nil, refl, sym, ap, ap₂, ◌∙◌, subst, arith, Option, Some, None, Result, Ok, Err, OnOk, IfOk}
+use Rattle.std.proofs.Common.{◌≡◌, ℕ, Bool, true, false, if◌then◌else◌, List, [], ◌∷◌, ◌++◌, map, slice_get, append-nil, refl, sym, ap, ap₂, ◌∙◌, subst}
 use Rattle.std.specs.List.{flat_map, enumerate_from, AllByRecursion}
 use Rattle.dsde_bank.specs.declared.handle.Handle.{Handle}
 use Rattle.dsde_values.specs.declared.name.Name.{Name}
@@ -15,20 +15,20 @@ use Rattle.dsde_routes_wiring.specs.declared.wiring.WiredKid.TheViews.{out-Wirin
 use Rattle.dsde_routes_wiring.specs.Routes as route
 use Rattle.dsde_routes_wiring.specs.Numbers.{numbers_at}
 use Rattle.dsde_routes_wiring.specs.Side.{near, far}
-use Rattle.dsde_routes_wiring.specs.Routes.{Ways, Route, Around, Inner, is_border, extended, ways_by, net_ways, at_part, at_end, of_kid, links_of, step_from, within, no_ways, inner_of, inner_of_kid, below_step}
-use Rattle.dsde_routes_wiring.specs.Places.{changed, bared, kid_changed, below_changed, only, passing, passing_kid, passing_below, nothing}
+use Rattle.dsde_routes_wiring.specs.Routes.{Ways, Around, Inner, is_border, extended, ways_by, net_ways, at_part, at_end, of_kid, links_of, step_from, within, no_ways, inner_of, inner_of_kid}
+use Rattle.dsde_routes_wiring.specs.Places.{changed, bared, kid_changed, only, passing, passing_kid}
 use Rattle.dsde_routes_wiring.specs.Wired.{AreWired}
-use Rattle.dsde_repair_laws.proofs.Opens.{below_inner, inner-roll, kid-roll, kid-is}
+use Rattle.dsde_repair_laws.proofs.Opens.{inner-roll, kid-is}
 use Rattle.dsde_repair_laws.proofs.Shapes.{same-name}
 use Rattle.dsde_repair_walks.specs.declared.way.Way.{Way}
 use Rattle.dsde_repair_walks.specs.Found.{is_named, IsAt}
 use Rattle.dsde_repair_walks.specs.Places.{IsBelowWired}
-use Rattle.dsde_repair_walks.specs.Walks.{link_at, ranked, extended_way, kid_ways}
-use Rattle.dsde_repair_walks.proofs.Finding.{kid-at, some-one, found-wired, no-items, changed-other, changed-named}
+use Rattle.dsde_repair_walks.specs.Walks.{link_at, ranked, extended_way}
+use Rattle.dsde_repair_walks.proofs.Finding.{kid-at, some-one, found-wired}
 use Rattle.dsde_repair_walks.proofs.Serving.{few-serve}
 use Rattle.dsde_repair_walks.proofs.Walking.{map-flat, flat-of-map, ranked-all, no-border}
 use Rattle.dsde_repair_walks.specs.Found.{IsOne}
-use Rattle.dsde_repair.specs.Walks.{from_number, over_link, at_ways, passing_kids, passing_kid_ways, past_kid, past_around, past_kid_ways}
+use Rattle.dsde_repair.specs.Walks.{over_link, at_ways, passing_kids, passing_kid_ways, past_kid, past_around, past_kid_ways}
 
 -- over one link
 pub link-border : (side : Side) (around : Around) (me : Handle) (port number : ℕ) (link : Link) (more : List Way) → is_border port (near side link) ≡ true → more ≡ at_ways side around (far side link) →
@@ -85,15 +85,6 @@ passing-one side name rest kids end wanted is kid one =
     ap (λ (own_part : Part). map ranked (at_part side (only (passing_kids name rest kids)) own_part end.port)) is
     ∙ ap (map ranked) (one-seen (passing_kid name (passing rest)) (λ own. refl) side wanted end.port kids kid one)
 
--- of one component
-pub passing-other : (side : Side) (name : Name) (rest : List Name) (kid : WiredKid) (port : ℕ) → is_named name kid ≡ false → passing_kid_ways side name rest kid port ≡ []
-passing-other side name rest kid port is = ap (λ (b : Bool). map ranked ((if b then passing_below (passing rest) (out-WiredKid kid).below else nothing).ways side port)) is
-
-pub passing-named : (side : Side) (name : Name) (rest : List Name) (kid : WiredKid) (port : ℕ) (below : Option Wiring) → is_named name kid ≡ true → (out-WiredKid kid).below ≡ below → passing_kid_ways side name rest kid port ≡ map ranked ((passing_below (passing rest) below).ways side port)
-passing-named side name rest kid port below is same =
-    ap (λ (b : Bool). map ranked ((if b then passing_below (passing rest) (out-WiredKid kid).below else nothing).ways side port)) is
-    ∙ ap (λ (own : Option Wiring). map ranked ((passing_below (passing rest) own).ways side port)) same
-
 pub one-wired : (net : Wiring) → AreWired net → (wanted : Name) (kids : List WiredKid) → kids ≡ (out-Wiring net).kids → (kid : WiredKid) → IsOne wanted kids kid → IsBelowWired kid
 one-wired net named wanted kids is kid one =
     found-wired net named wanted one.0 (subst (λ own. IsAt wanted own one.0) is one.1) kid (sym (ap (λ own. slice_get own one.0) is) ∙ one.2)
@@ -111,23 +102,6 @@ pub past-one : (beyond_net : Ways) (side : Side) (name : Name) (rest : List Name
 past-one beyond_net side name rest net end wanted is kid one =
     ap (λ (own_part : Part). map ranked (at_part side (past_around beyond_net name rest net) own_part end.port)) is
     ∙ ap (map ranked) (one-seen (past_kid name rest) (past-name name rest) side wanted end.port (out-Wiring net).kids kid one)
-
--- of one component
-pub past-other : (side : Side) (name : Name) (rest : List Name) (kid : WiredKid) (port : ℕ) → is_named name kid ≡ false → past_kid_ways side name rest kid port ≡ kid_ways side kid port
-past-other side name rest kid port is = ap (λ (own : WiredKid). kid_ways side own port) (changed-other name (changed rest bared) kid is)
-
-pub past-named : (side : Side) (name : Name) (rest : List Name) (kid : WiredKid) (port : ℕ) (below : Option Wiring) → is_named name kid ≡ true → (out-WiredKid kid).below ≡ below →
-    past_kid_ways side name rest kid port ≡ map ranked ((below_step (out-WiredKid kid).handle (below_inner (below_changed (changed rest bared) below))).ways side port)
-past-named side name rest kid port below is same =
-    ap (λ (own : WiredKid). kid_ways side own port) (changed-named name (changed rest bared) kid is)
-    ∙ ap (λ (own : Name × Inner). map ranked (own.1.ways side port)) (kid-roll (record (out-WiredKid kid) { below = below_changed (changed rest bared) (out-WiredKid kid).below }))
-    ∙ ap (λ (own : Option Wiring). map ranked ((below_step (out-WiredKid kid).handle (below_inner (below_changed (changed rest bared) own))).ways side port)) same
-
--- of a network
-pub past-here : (side : Side) (net : Wiring) (place : List Name) (port : ℕ) → length place ≡ 0 → map ranked ((inner_of (changed place bared net)).ways side port) ≡ []
-past-here side net place port none =
-    ap (λ own. map ranked ((inner_of (changed own bared net)).ways side port)) (no-items place none)
-    ∙ ap (λ (inner : Inner). map ranked (inner.ways side port)) (inner-roll (record (out-Wiring net) { links = []; kids = [] }))
 
 pub map-of-map : (f : WiredKid → WiredKid) (kids : List WiredKid) → map inner_of_kid (map f kids) ≡ map (λ kid. inner_of_kid (f kid)) kids
 map-of-map f [] = refl

@@ -1,5 +1,5 @@
 -- Rows of routes that pass a place, link by link.
-use Rattle.std.proofs.Common.{◌≡◌, ℕ, Bool, true, false, if◌then◌else◌, List, [], ◌∷◌, ◌++◌, map, length, slice_get, append_assoc, append-nil, refl, sym, ap, ap₂, ◌∙◌, subst, Option, Some, None}
+use Rattle.std.proofs.Common.{◌≡◌, ℕ, Bool, true, false, if◌then◌else◌, List, [], ◌∷◌, ◌++◌, map, append_assoc, append-nil, refl, sym, ap, ap₂, ◌∙◌}
 use Rattle.std.proofs.lemmas.List.{map-append}
 use Rattle.std.specs.List.{flat_map, enumerate_from, AllByRecursion}
 use Rattle.dsde_bank.specs.declared.handle.Handle.{Handle}
@@ -16,7 +16,7 @@ use Rattle.dsde_routes_wiring.specs.declared.row.Row.{Row}
 use Rattle.dsde_routes_wiring.specs.declared.side.Side.TheVariants.{Out, Into}
 use Rattle.dsde_routes_wiring.specs.declared.wiring.WiredKid.{WiredKid}
 use Rattle.dsde_routes_wiring.specs.declared.wiring.Wiring.{Wiring}
-use Rattle.dsde_routes_wiring.specs.declared.wiring.WiredKid.TheOpen.{Wiring-F, WiredKid-F}
+use Rattle.dsde_routes_wiring.specs.declared.wiring.WiredKid.TheOpen.{Wiring-F}
 use Rattle.dsde_routes_wiring.specs.declared.wiring.WiredKid.TheViews.{out-Wiring, out-WiredKid, out-roll-Wiring}
 use Rattle.dsde_routes_wiring.specs.Routes.{Ways, Route, Around, Inner, row_of, no_ways, within, around_of, links_of, step_from, of_kid, at_part, at_end, inner_of_kid}
 use Rattle.dsde_routes_wiring.specs.Places.{changed, bared, kid_changed, only, passing, passing_kid, passing_below, nothing, crossed_between, routes_passing, through}
@@ -28,7 +28,7 @@ use Rattle.dsde_repair_walks.proofs.Serving.{few-serve}
 use Rattle.dsde_repair_walks.proofs.Finding.{kid-at, some-one}
 use Rattle.dsde_repair_walks.proofs.Walking.{map-flat, flat-of-map}
 use Rattle.dsde_repair_walks.specs.Found.{IsOne}
-use Rattle.dsde_repair.specs.Walks.{between_link, at_ways, passing_kids, past_kid, past_around, open_around, kid_routes}
+use Rattle.dsde_repair.specs.Walks.{between_link, at_ways, passing_kids, past_around, open_around, kid_routes}
 use Rattle.dsde_repair.proofs.Crossings.{rows-crossed}
 use Rattle.dsde_repair.proofs.Passages.{map-of-map}
 

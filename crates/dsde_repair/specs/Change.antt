@@ -4,6 +4,9 @@ use Rattle.dsde_values.specs.declared.name.Name.{Name}
 use Rattle.dsde_structure.specs.declared.plan.Link.{Link}
 use Rattle.dsde_routes_wiring.specs.declared.wiring.WiredKid.{WiredKid}
 use Rattle.dsde_routes_wiring.specs.declared.wiring.Wiring.{Wiring}
+use Rattle.std.specs.FinSet as set
+use Rattle.dsde_routes_wiring.specs.declared.row.Row.{Row}
+use Rattle.dsde_routes_wiring.specs.Sets.{Rows}
 use Rattle.dsde_routes_wiring.specs.Places.{changed, kids_at, nets_at, renewed, staying}
 
 -- a place leads to one network
@@ -16,3 +19,7 @@ kids_after place gone fresh wiring = staying gone (kids_at place wiring) ++ fres
 
 abbrev pub wiring_after : List Name → List WiredKid → List Link → Wiring → Wiring
 wiring_after place kids links wiring = changed place (renewed links kids) wiring
+
+-- the rows of a set that are not among some, nor among others
+abbrev pub without : Rows → List Row → List Row → Rows
+without rows some others = set.difference (set.difference rows (set.from_list some)) (set.from_list others)

@@ -1,5 +1,5 @@
 -- What the walks of a change give.
-use Rattle.std.specs.Prelude.{◌≡◌, ℕ, Bool, true, false, if◌then◌else◌, List, [], ◌∷◌, ◌++◌, map, drop, slice_get, Option, Some, None}
+use Rattle.std.specs.Prelude.{ℕ, Bool, List, map, drop}
 use Rattle.std.specs.List.{flat_map, enumerate_from}
 use Rattle.dsde_bank.specs.declared.handle.Handle.{Handle}
 use Rattle.dsde_values.specs.declared.name.Name.{Name}
@@ -9,9 +9,9 @@ use Rattle.dsde_routes_wiring.specs.declared.row.Row.{Row}
 use Rattle.dsde_routes_wiring.specs.declared.side.Side.{Side}
 use Rattle.dsde_routes_wiring.specs.declared.wiring.WiredKid.{WiredKid}
 use Rattle.dsde_routes_wiring.specs.declared.wiring.Wiring.{Wiring}
-use Rattle.dsde_routes_wiring.specs.declared.wiring.WiredKid.TheViews.{out-Wiring, out-WiredKid}
-use Rattle.dsde_routes_wiring.specs.Routes.{Ways, Route, Around, Inner, row_of, no_ways, own, within, around_of, step_from, ways_by, at_end, crossed_by, inner_of_kid}
-use Rattle.dsde_routes_wiring.specs.Places.{bared, changed, kid_changed, only, passing, passing_kid, nothing, crossed_between}
+use Rattle.dsde_routes_wiring.specs.declared.wiring.WiredKid.TheViews.{out-Wiring}
+use Rattle.dsde_routes_wiring.specs.Routes.{Ways, Route, Around, Inner, row_of, within, around_of, step_from, ways_by, at_end, crossed_by, inner_of_kid}
+use Rattle.dsde_routes_wiring.specs.Places.{bared, changed, kid_changed, passing, passing_kid, crossed_between}
 use Rattle.dsde_repair_walks.specs.declared.way.Way.{Way}
 use Rattle.dsde_repair_walks.specs.Walks.{ranked, beyond}
 

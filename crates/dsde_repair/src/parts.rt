@@ -1,11 +1,12 @@
 //! Components that go and stay, and rows that do.
 
-ghost use Rattle.std.specs.Prelude.{◌≡◌, ◌+◌, ◌≤◌, ◌&&◌, ◌||◌, not, ◌++◌, length, IfOk, OnOk};
+ghost use Rattle.std.specs.Prelude.{◌≡◌, ◌+◌, ◌&&◌, ◌||◌, not, ◌++◌, IfOk, OnOk};
 ghost use Rattle.dsde_routes_wiring.specs.declared.row.Row.{Row};
 ghost use Rattle.std.specs.FinSet as set;
 ghost use Rattle.dsde_structure.specs.Survival.{AreInOrder};
 ghost use Rattle.dsde_routes_wiring.specs.Places.{going, staying};
 ghost use Rattle.dsde_routes_wiring.specs.Rows.{among};
+ghost use Rattle.dsde_repair.specs.Change.{without};
 
 use dsde_base::Steps;
 use dsde_lists::Memory;
@@ -53,7 +54,8 @@ pub fn together(mut kids: Seq<WiredKid>, more: Seq<WiredKid>) -> Result<Seq<Wire
     Ok(kids)
 }
 
-/// Takes rows out of a table, and puts others in.
+/// Takes rows out of a table, and puts others in. A change is counted for each row that was there, and for
+/// each that was then not there; after an error, for those that were put in before it.
 pub fn exchange<L: Ledger>(
     table: &mut RouteTable,
     passing: &[Row],
@@ -63,7 +65,7 @@ pub fn exchange<L: Ledger>(
     changes: &mut Steps<L>,
 ) -> Result<(), Memory>
     ensures has { OnOk result ((row : Row) → set.contains table.new row ≡ among passing_then row || (among coming row || (set.contains table.old row && not (among passing.now row) && not (among going.now row)))) }
-    ensures tick { changes.new ≤ changes.old + (length passing.now + length going.now) + (length passing_then + length coming) }
+    ensures ticks { changes.new + (set.len (without table.old passing.now going.now) + set.len (without table.old passing.now going.now)) ≡ changes.old + (set.len table.old + set.len table.new) }
 {
     remove_all(table, passing, changes);
     remove_all(table, going, changes);

@@ -1,6 +1,6 @@
 //! Ways that pass a place, and ways that do not.
 
-ghost use Rattle.std.specs.Prelude.{◌≡◌, [], ◌++◌, map, IfOk, OnOk};
+ghost use Rattle.std.specs.Prelude.{◌≡◌, ◌++◌, map, IfOk, OnOk};
 ghost use Rattle.dsde_routes_wiring.specs.Wired.{AreWired};
 ghost use Rattle.dsde_routes_wiring.specs.declared.wiring.WiredKid.TheViews.{out-Wiring};
 ghost use Rattle.dsde_routes_wiring.specs.Routes.{links_of, net_ways};

@@ -1,6 +1,6 @@
 //! Ways that use no link of a network.
 
-ghost use Rattle.std.specs.Prelude.{◌≡◌, [], ◌++◌, map, IfOk, OnOk};
+ghost use Rattle.std.specs.Prelude.{◌≡◌, ◌++◌, map, IfOk, OnOk};
 ghost use Rattle.dsde_routes_wiring.specs.Wired.{AreWired};
 ghost use Rattle.dsde_routes_wiring.specs.declared.wiring.WiredKid.TheViews.{out-Wiring};
 ghost use Rattle.dsde_routes_wiring.specs.Routes.{inner_of, links_of, net_ways, no_ways};

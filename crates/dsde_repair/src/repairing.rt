@@ -1,6 +1,6 @@
 //! Rows, kept while a network changes.
 
-ghost use Rattle.std.specs.Prelude.{◌≡◌, ◌+◌, ◌≤◌, List, [], ◌∷◌, ◌++◌, map, IsPermutation, OnOk};
+ghost use Rattle.std.specs.Prelude.{◌≡◌, ◌+◌, List, [], ◌∷◌, ◌++◌, map, IsPermutation, OnOk};
 ghost use Rattle.std.specs.List.{flat_map, AllByRecursion, IsDistinct};
 ghost use Rattle.dsde_repair_laws.specs.Bounds.{count};
 ghost use Rattle.dsde_routes_wiring.specs.Wired.{AreWired, LeadsInside, is_same_handle};
@@ -23,7 +23,6 @@ use crate::rows::inside_rows;
 use crate::through::passing_rows;
 use dsde_base::Steps;
 use dsde_lists::Memory;
-use dsde_repair_laws::{a_change_touches_few, rows_follow_a_change};
 use dsde_repair_walks::{renew, take_out};
 use dsde_routes_table::RouteTable;
 use dsde_routes_wiring::{Links, WiredKid, Wiring};
@@ -32,7 +31,8 @@ use std::alloc::Global;
 use std::sync::ledger::Ledger;
 
 /// Changes the network at a place of a wiring, and the table of the wiring's rows with it: these
-/// components are gone, fresh ones come, and it gets other links.
+/// components are gone, fresh ones come, and it gets other links. After an error the wiring and the table
+/// are some wiring and some set of rows, which may not belong together.
 pub fn repair<L: Ledger>(
     alloc: Global,
     table: &mut RouteTable,
@@ -55,11 +55,10 @@ pub fn repair<L: Ledger>(
     ensures wiring { OnOk result ((kids : List WiredKid) × IsPermutation (kids_after place.now gone.now fresh wiring.old) kids × InOrder kids × (wiring.new ≡ wiring_after place.now kids links wiring.old)) }
     ensures wired { OnOk result (AreWired wiring.new) }
     ensures table { OnOk result (table.new ≡ flatten wiring.new) }
-    ensures bound { OnOk result ((net : Wiring) → nets_at place.now wiring.old ≡ net ∷ [] →
-        changes.new ≤ changes.old + count (is_touched (out-Wiring net).me (handles_of wiring.new)) (routes wiring.old) + count (is_touched (out-Wiring net).me (handles_of wiring.old)) (routes wiring.new)) }
+    // A change is counted for each route that the change of the network touches, before and after it.
+    ensures ticks { OnOk result ((net : Wiring) → nets_at place.now wiring.old ≡ net ∷ [] →
+        changes.new ≡ changes.old + count (is_touched (out-Wiring net).me (handles_of wiring.new)) (routes wiring.old) + count (is_touched (out-Wiring net).me (handles_of wiring.old)) (routes wiring.new)) }
 {
-    rows_follow_a_change();
-    a_change_touches_few();
     let passing = passing_rows(alloc, wiring, place)?;
     let kids = take_out(alloc, wiring, place)?;
     let parted = part(alloc, kids, gone)?;

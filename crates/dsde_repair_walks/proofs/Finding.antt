@@ -1,14 +1,13 @@
 -- What follows where a component stands at an index.
-use Rattle.std.proofs.Common.{◌≡◌, ℕ, zero, suc, ◌+◌, ◌≤◌, Bool, true, false, if◌then◌else◌, List, [], ◌∷◌, ◌++◌, map, length, get_or, take, drop, slice_get, slice_set, ◌<◌, take-append-drop, drop-cons, refl, append-nil, ap₂, sym, ap, ◌∙◌, subst, arith, zero-add, Option, Some, None, Result, Ok, Err, OnOk}
+use Rattle.std.proofs.Common.{◌≡◌, ℕ, Bool, true, false, if◌then◌else◌, List, [], ◌∷◌, ◌++◌, map, length, get_or, slice_get, slice_set, refl, append-nil, ap₂, sym, ap, ◌∙◌, subst, arith, Option, Some, None, Result, Ok, Err, OnOk}
 use Rattle.std.specs.List.{flat_map, AllByRecursion}
 use Rattle.dsde_values.specs.declared.name.Name.{Name}
-use Rattle.dsde_structure.specs.Gather.{is_same_name}
 use Rattle.dsde_routes_wiring.specs.declared.wiring.WiredKid.{WiredKid}
 use Rattle.dsde_routes_wiring.specs.declared.wiring.Wiring.{Wiring}
 use Rattle.dsde_structure.specs.declared.plan.Link.{Link}
-use Rattle.dsde_routes_wiring.specs.declared.wiring.WiredKid.TheOpen.{Wiring-F, WiredKid-F}
-use Rattle.dsde_routes_wiring.specs.declared.wiring.WiredKid.TheViews.{out-Wiring, out-WiredKid, roll-Wiring, roll-WiredKid, roll-out-Wiring, out-roll-Wiring}
-use Rattle.dsde_routes_wiring.specs.Places.{changed, bared, renewed, kid_changed, below_changed, kid_at, below_at, kids_at}
+use Rattle.dsde_routes_wiring.specs.declared.wiring.WiredKid.TheOpen.{Wiring-F}
+use Rattle.dsde_routes_wiring.specs.declared.wiring.WiredKid.TheViews.{out-Wiring, out-WiredKid, roll-Wiring, roll-out-Wiring, out-roll-Wiring}
+use Rattle.dsde_routes_wiring.specs.Places.{changed, renewed, kid_changed, kid_at, kids_at}
 use Rattle.dsde_routes_wiring.specs.Wired.{Wired, IsWired, AreWired}
 use Rattle.dsde_routes_wiring.specs.Opened.{Beneath}
 use Rattle.dsde_repair_laws.proofs.Shapes.{wired_of, net-here, net-below}
@@ -133,10 +132,6 @@ none-there f place rest name is wiring none =
     sym (roll-out-Wiring wiring) ∙ ap (λ kids. roll-Wiring (record (out-Wiring wiring) { kids = kids })) (sym (none-changed name (changed rest f) (out-Wiring wiring).kids none))
     ∙ ap (λ own. changed own f wiring) (sym is)
 
--- a list at one of its items
-pub split-here : {X : Type 0} (xs : List X) (i : ℕ) (x : X) → i < length xs → x ≡ get_or xs i x → xs ≡ take i xs ++ x ∷ drop (suc i) xs
-split-here xs i x lt is = sym (take-append-drop i xs) ∙ ap (λ later. take i xs ++ later) (drop-cons xs i x lt ∙ ap (λ own. own ∷ drop (suc i) xs) (sym is))
-
 -- what is at a place, by the component that leads there
 kids-other : (name : Name) (place : List Name) (kid : WiredKid) → Other name kid → kid_at name (kids_at place) kid ≡ []
 kids-other name place kid other = ap (λ (b : Bool). if b then kids_below place kid else []) other
@@ -160,14 +155,3 @@ kids-found place rest name is wiring index at kid got =
 
 pub kids-missing : (place rest : List Name) (name : Name) → place ≡ name ∷ rest → (wiring : Wiring) → AllByRecursion (λ kid. is_named name kid ≡ false) (out-Wiring wiring).kids → kids_at place wiring ≡ []
 kids-missing place rest name is wiring none = ap (λ own. kids_at own wiring) is ∙ kids-none name rest (out-Wiring wiring).kids none
-
--- a network with its fields written one after the other
-pub bare-written : (wiring : Wiring) → (let opened : Wiring-F WiredKid Wiring = record (out-Wiring wiring) { links = [] } in
-    roll-Wiring (record (out-Wiring (roll-Wiring opened)) { kids = [] }) ≡ bared wiring)
-bare-written wiring = ap (λ (z : Wiring-F WiredKid Wiring). roll-Wiring (record z { kids = [] })) (out-roll-Wiring (record (out-Wiring wiring) { links = [] }))
-
-pub here-changed : (f : Wiring → Wiring) (place : List Name) (wiring after : Wiring) → length place ≡ 0 → after ≡ f wiring → after ≡ changed place f wiring
-here-changed f place wiring after none is = is ∙ ap (λ own. changed own f wiring) (sym (no-items place none))
-
-pub here-kids : (place : List Name) (wiring : Wiring) (kids : List WiredKid) → length place ≡ 0 → kids ≡ kids_at [] wiring → kids ≡ kids_at place wiring
-here-kids place wiring kids none is = is ∙ ap (λ own. kids_at own wiring) (sym (no-items place none))

@@ -1,5 +1,5 @@
 -- What a walk over links gives, link by link.
-use Rattle.std.proofs.Common.{◌≡◌, ℕ, zero, suc, ◌+◌, ◌<◌, ◌≤◌, length-append, ◌==◌, ◌&&◌, Bool, true, false, if◌then◌else◌, List, [], ◌∷◌, ◌++◌, map, length, get_or, take, drop, slice_get, drop-cons, add-one, drop_of_length-le, append_assoc, append-nil, refl, sym, ap, ap₂, ◌∙◌, subst, arith, Option, Some, None, Result, Ok, Err, OnOk, IfOk}
+use Rattle.std.proofs.Common.{◌≡◌, ℕ, ◌<◌, ◌≤◌, length-append, ◌==◌, ◌&&◌, Bool, true, false, if◌then◌else◌, List, [], ◌∷◌, ◌++◌, map, length, slice_get, append-nil, refl, sym, ap, ap₂, ◌∙◌, subst, arith, Some, Result, Ok, Err, IfOk}
 use Rattle.std.proofs.lemmas.List.{map-append}
 use Rattle.std.specs.List.{flat_map, enumerate_from, AllByRecursion}
 use Rattle.std.specs.Option.{option_to_list}
@@ -13,12 +13,12 @@ use Rattle.dsde_routes_wiring.specs.declared.side.Side.{Side}
 use Rattle.dsde_routes_wiring.specs.declared.side.Side.TheVariants.{Out, Into}
 use Rattle.dsde_routes_wiring.specs.declared.wiring.WiredKid.{WiredKid}
 use Rattle.dsde_routes_wiring.specs.declared.wiring.Wiring.{Wiring}
-use Rattle.dsde_routes_wiring.specs.declared.wiring.WiredKid.TheOpen.{Wiring-F, WiredKid-F}
+use Rattle.dsde_routes_wiring.specs.declared.wiring.WiredKid.TheOpen.{Wiring-F}
 use Rattle.dsde_routes_wiring.specs.declared.wiring.WiredKid.TheViews.{out-Wiring, out-WiredKid}
 use Rattle.dsde_routes_wiring.specs.Routes as route
 use Rattle.dsde_routes_wiring.specs.Side.{near, far}
 use Rattle.dsde_routes_wiring.specs.Numbers.{numbers_at}
-use Rattle.dsde_routes_wiring.specs.Routes.{Step, Inner, Numbered, rank_of, is_border, extended, ways_by, at_part, at_end, of_kid, no_ways, around_of, links_of, step_from, inner_of, inner_of_kid}
+use Rattle.dsde_routes_wiring.specs.Routes.{Step, Inner, Numbered, is_border, extended, ways_by, at_part, at_end, of_kid, no_ways, around_of, links_of, step_from, inner_of, inner_of_kid}
 use Rattle.dsde_structure.specs.declared.plan.Part.{Part}
 use Rattle.dsde_routes_wiring.specs.Touched.{handles_of, handles_of_kid}
 use Rattle.dsde_repair_laws.proofs.Opens.{inner-is, kid-is}

@@ -1,9 +1,8 @@
 -- What a walk over a wiring gives: ways and rows with the numbers of their links alone.
-use Rattle.std.specs.Prelude.{ℕ, Bool, true, false, List, [], ◌∷◌, ◌++◌, map, slice_get, Option, Some, None}
+use Rattle.std.specs.Prelude.{ℕ, Bool, true, false, List, [], ◌∷◌, ◌++◌, map, slice_get, Some, None}
 use Rattle.std.specs.List.{flat_map}
 use Rattle.std.specs.Option.{option_to_list}
 use Rattle.dsde_bank.specs.declared.handle.Handle.{Handle}
-use Rattle.dsde_values.specs.declared.name.Name.{Name}
 use Rattle.dsde_structure.specs.declared.plan.End.{End}
 use Rattle.dsde_structure.specs.declared.plan.Link.{Link}
 use Rattle.dsde_routes_wiring.specs.declared.row.Row.{Row}
@@ -13,8 +12,7 @@ use Rattle.dsde_routes_wiring.specs.declared.wiring.WiredKid.{WiredKid}
 use Rattle.dsde_routes_wiring.specs.declared.wiring.Wiring.{Wiring}
 use Rattle.dsde_routes_wiring.specs.declared.wiring.WiredKid.TheViews.{out-Wiring}
 use Rattle.dsde_routes_wiring.specs.Routes as route
-use Rattle.dsde_routes_wiring.specs.Routes.{Ways, Around, Inner, rank_of, own, no_ways, inner_of, inner_of_kid, around_of, links_of, step_from, ways_by, at_end}
-use Rattle.dsde_routes_wiring.specs.Places.{changed, bared, only, passing, passing_kid, nothing}
+use Rattle.dsde_routes_wiring.specs.Routes.{Ways, rank_of, own, no_ways, inner_of_kid, around_of, step_from, ways_by, at_end}
 use Rattle.dsde_repair_walks.specs.declared.way.Way.{Way}
 
 -- a way without the networks of its links

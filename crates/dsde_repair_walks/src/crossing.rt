@@ -1,6 +1,6 @@
 //! Ways that go on over links, and rows where two ways meet.
 
-ghost use Rattle.std.specs.Prelude.{◌≡◌, [], ◌∷◌, ◌++◌, map, IfOk, OnOk};
+ghost use Rattle.std.specs.Prelude.{◌≡◌, ◌++◌, map, IfOk, OnOk};
 ghost use Rattle.dsde_repair_walks.specs.Walks.{extended_way, met_row, met_rows, crossed_rows};
 
 use crate::way::Way;

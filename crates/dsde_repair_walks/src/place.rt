@@ -2,7 +2,7 @@
 
 ghost use Rattle.std.specs.Prelude.{◌≡◌, OnOk};
 ghost use Rattle.dsde_routes_wiring.specs.Wired.{AreWired};
-ghost use Rattle.dsde_routes_wiring.specs.Places.{changed, renewed, below_changed};
+ghost use Rattle.dsde_routes_wiring.specs.Places.{changed, renewed};
 ghost use Rattle.dsde_repair_walks.specs.Places.{IsBelowWired, kid_with};
 
 use crate::found::index_of;

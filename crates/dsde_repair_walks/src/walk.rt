@@ -1,6 +1,6 @@
 //! The ways of parts, by a walk over the links that lead there.
 
-ghost use Rattle.std.specs.Prelude.{◌≡◌, [], ◌∷◌, ◌++◌, map, IfOk, OnOk};
+ghost use Rattle.std.specs.Prelude.{◌≡◌, ◌++◌, map, IfOk, OnOk};
 ghost use Rattle.dsde_routes_wiring.specs.Routes.{inner_of};
 ghost use Rattle.dsde_routes_wiring.specs.Wired.{AreWired};
 ghost use Rattle.dsde_repair_walks.specs.Places.{IsBelowWired};

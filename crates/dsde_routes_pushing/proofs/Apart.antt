@@ -15,7 +15,7 @@ use Rattle.dsde_routes_wiring.specs.declared.row.Way.{Way}
 use Rattle.dsde_routes_wiring.specs.Ways.{Ways, Sources, begin}
 use Rattle.dsde_routes_wiring.specs.Wired.{is_same_handle, kid_handles, net_handles, beneath, beneath_kid, handles, HasOwnHandles}
 use Rattle.dsde_routes_wiring.specs.Flatten.{Site, KidFlow, NetFlow, flow, flow_of_kid, kid_step, net_step, sources_of, sites, ways_at}
-use Rattle.dsde_routes_pushing.proofs.Lists.{Within, within-behind, within-append, distinct-within}
+use Rattle.dsde_routes_pushing.specs.lemmas.Lists.{Within, within-behind, within-append, distinct-within}
 use Rattle.dsde_routes_wiring.specs.Opened.{kids_of, below_of, Beneath, each_wiring, flow_opened, flow_kid_opened, flow-opens, flow_kid-opens, map-kid}
 use Rattle.dsde_routes_pushing.proofs.Rising.{Rise, SiteRises, all_rise}
 use Rattle.dsde_routes_pushing.proofs.Picking.{picked, same_handle}
@@ -29,7 +29,7 @@ beneath_kid-opens kid =
     ∙ fold-roll-WiredKid (List Handle) (List Handle) kid_handles net_handles (out-WiredKid kid)
     ∙ ap kid_handles (map-kid beneath_kid beneath (out-WiredKid kid))
 
-abbrev parts : List Site → List Handle
+abbrev pub parts : List Site → List Handle
 parts list = map (λ (site : Site). site.part) list
 
 abbrev AreBeneath : NetFlow → List Handle → Type 0
@@ -76,7 +76,7 @@ net_beneath net claims =
     (sym (map-append (λ (site : Site). site.part) first _))
     (within-append (parts first) all (boss ∷ []) (boss ∷ []) (kids_beneath links (kids_of net) claims sources) (inl (refl, tt)))))
 
-sites_beneath : (net : Wiring) → Within (parts (sites net)) (handles net)
+pub sites_beneath : (net : Wiring) → Within (parts (sites net)) (handles net)
 sites_beneath net =
     let first = (flow net).sites (begin (flow net).out.part) in
     subst (λ (own : List Handle). Within own (handles net))

@@ -1,4 +1,3 @@
-pub mod Lists
 pub mod Along
 pub mod Carrying
 pub mod Rising
@@ -7,3 +6,4 @@ pub mod Apart
 pub mod Whole
 pub mod Each
 pub mod Once
+pub mod Targets

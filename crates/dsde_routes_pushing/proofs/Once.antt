@@ -11,7 +11,7 @@ use Rattle.dsde_routes_wiring.specs.Sets.{row_cmp, row_cmp-total, row_cmp-same}
 use Rattle.dsde_routes_wiring.specs.Wired.{HasOwnHandles}
 use Rattle.dsde_routes_wiring.specs.Flatten.{rows, flatten, is_to}
 use Rattle.dsde_routes_pushing.specs.Pushed.{rank_cmp}
-use Rattle.dsde_routes_pushing.proofs.Lists.{Among, among-filter, any-among, each-among, Ascend}
+use Rattle.dsde_routes_pushing.specs.lemmas.Lists.{Among, among-filter, any-among, each-among, Ascend}
 use Rattle.dsde_routes_pushing.proofs.Whole.{rank_of, ascend}
 
 abbrev Rising : List Row → Type 0

@@ -13,7 +13,7 @@ use Rattle.dsde_routes_wiring.specs.Flatten.{rows, flatten, is_to, row_of, sites
 use Rattle.dsde_routes_pushing.specs.Carried.{Traffic, received, pushed}
 use Rattle.dsde_routes_pushing.specs.Fitting.{HavePorts}
 use Rattle.dsde_routes_pushing.specs.Pushed.{AreRowsTo, rank_cmp}
-use Rattle.dsde_routes_pushing.proofs.Lists.{Among, among-from, contains-from, among-filter, filter-among, any-among, among-any, Ascend, ascend-from, sorted-from, one-list}
+use Rattle.dsde_routes_pushing.specs.lemmas.Lists.{Among, among-from, contains-from, among-filter, filter-among, any-among, among-any, Ascend, ascend-from, sorted-from, one-list}
 use Rattle.dsde_routes_pushing.proofs.Rising.{Rise, IsBelow}
 use Rattle.dsde_routes_pushing.proofs.Picking.{picked, rows-picked, received-pushed}
 use Rattle.dsde_routes_pushing.proofs.Apart.{ways-rise}

@@ -1,2 +1,5 @@
 -- Lemmas that the crates above cite.
 pub mod Opens
+pub mod Lists
+pub mod Ascending
+pub mod Handles

@@ -1,12 +1,12 @@
 //! The law of pushing. It is a call that does nothing.
 
-ghost use Rattle.std.specs.Prelude.{◌≡◌, ℕ, List, [], length, slice_index_or};
+ghost use Rattle.std.specs.Prelude.{◌≡◌, ℕ, true, List, [], length, slice_index_or, Contains};
 ghost use Rattle.std.specs.FinSet as set;
 ghost use Rattle.std.specs.List.{flat_map, AllByRecursion};
 ghost use Rattle.dsde_bank.specs.declared.handle.Handle.{Handle};
 ghost use Rattle.dsde_routes_wiring.specs.declared.row.Row.{Row};
 ghost use Rattle.dsde_routes_wiring.specs.declared.wiring.Wiring.{Wiring};
-ghost use Rattle.dsde_routes_wiring.specs.Wired.{HasOwnHandles};
+ghost use Rattle.dsde_routes_wiring.specs.Wired.{HasOwnHandles, handles};
 ghost use Rattle.dsde_routes_wiring.specs.Flatten.{flatten, rows};
 ghost use Rattle.dsde_routes_pushing.specs.Carried.{Traffic, deliveries, pushed, received};
 ghost use Rattle.dsde_routes_pushing.specs.Fitting.{HavePorts};
@@ -27,4 +27,9 @@ pub fn push_equals_gather()
 /// are routes.
 pub fn rows_are_distinct()
     ensures { (wiring : Wiring) → HasOwnHandles wiring → set.len (flatten wiring) ≡ length (rows wiring) }
+{}
+
+/// Each row leads to a part of the wiring.
+pub fn rows_lead_to_parts()
+    ensures { (wiring : Wiring) (row : Row) → set.contains (flatten wiring) row ≡ true → Contains (handles wiring) row.target }
 {}

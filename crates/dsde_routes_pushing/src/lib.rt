@@ -3,4 +3,4 @@
 
 mod laws;
 
-pub use laws::{push_equals_gather, rows_are_distinct};
+pub use laws::{push_equals_gather, rows_are_distinct, rows_lead_to_parts};

@@ -1,5 +1,5 @@
 -- What the links of a tree carry is what those of its wiring carry.
-use Rattle.std.proofs.Common.{◌≡◌, ℕ, List, [], ◌∷◌, ◌++◌, map, inl, inr, refl, sym, ap, ◌∙◌, subst, Option, Some, None, Result, Ok, Err}
+use Rattle.std.proofs.Common.{◌≡◌, ℕ, List, [], ◌∷◌, ◌++◌, map, inl, inr, refl, sym, ap, ◌∙◌, subst, Option, Result, Ok, Err}
 use Rattle.std.proofs.lemmas.List.{map-append, append_assoc, append-nil}
 use Rattle.std.specs.Option.{option_map}
 use Rattle.std.specs.List.{AllByRecursion, flat_map}
@@ -34,11 +34,11 @@ use Rattle.dsde_sim_delivery.specs.lemmas.Opens.{deliveries-Leaf, deliveries-Net
 use Rattle.dsde_routes_wiring.specs.declared.wiring.Wiring.{Wiring}
 use Rattle.dsde_routes_wiring.specs.declared.wiring.WiredKid.{WiredKid}
 use Rattle.dsde_routes_wiring.specs.declared.wiring.WiredKid.TheOpen.{Wiring-F, WiredKid-F}
-use Rattle.dsde_routes_wiring.specs.declared.wiring.WiredKid.TheViews.{out-Wiring, out-WiredKid, out-roll-Wiring, out-roll-WiredKid}
 use Rattle.dsde_routes_pushing.specs.Carried as load
 use Rattle.dsde_routes_pushing.specs.Carried.{Traffic, Delivery, KidLoad, NetLoad, load, load_of_kid}
 use Rattle.dsde_routes_pushing.specs.lemmas.Opens.{load-opens, load_kid-opens}
-use Rattle.dsde_routes_trees.specs.Wire.{Wired, WiredAt, NetWired, wire_step, wire_kid, wire_net, wired, wired_kid, wired_net, handed, Place, Places, place_step, place_kid, place_net, places, places_of_kid, places_of_net, IsOf}
+use Rattle.dsde_routes_trees.specs.Wire.{WiredAt, wired, wired_kid, wired_net, handed, Place, Places, places, places_of_kid, IsOf}
+use Rattle.dsde_routes_trees.specs.lemmas.Opens.{places-kid, places-Leaf, places-Net, wired-Leaf, wired-Net, wired_kid-opens, wired_net-opens}
 
 -- how many in ports a part of this layer has
 abbrev ins_in : System → Sim-F Sim Kid Net → ℕ
@@ -52,21 +52,6 @@ ins-leaf system leaf = ap (ins_of system) (sym (rolls-Leaf leaf)) ∙ ap (ins_in
 
 ins-net : (system : System) (net : Net) → ins_of system (sim.Net net) ≡ (system.network (out-Net net).model (out-Net net).args).ins
 ins-net system net = ap (ins_of system) (sym (rolls-Net net)) ∙ ap (ins_in system) (out-roll-Sim (layer.Net net))
-
--- folds at their parts
-places-Leaf : (leaf : Leaf) (path : Path) → places (sim.Leaf leaf) path ≡ record { path = path; what = inl leaf } ∷ []
-places-Leaf leaf path =
-    ap (λ (s : Sim). places s path) (sym (rolls-Leaf leaf)) ∙ ap (λ (own : Places). own path) (fold-roll-Sim Places Places Places place_step place_kid place_net (layer.Leaf leaf))
-
-places-Net : (net : Net) (path : Path) → places (sim.Net net) path ≡
-    record { path = path; what = inr ((out-Net net).model, (out-Net net).args) } ∷ flat_map (λ (own : Places). own path) (map places_of_kid (out-Net net).kids) ++ record { path = to_boss path; what = inl (out-Net net).boss } ∷ []
-places-Net net path =
-    ap (λ (s : Sim). places s path) (sym (rolls-Net net)) ∙ ap (λ (own : Places). own path) (fold-roll-Sim Places Places Places place_step place_kid place_net (layer.Net net))
-    ∙ ap (λ (n : Net). places_of_net n path) (sym (roll-out-Net net)) ∙ ap (λ (own : Places). own path) (fold-roll-Net Places Places Places place_step place_kid place_net (out-Net net))
-
-places-kid : (kid : Kid) (path : Path) → places_of_kid kid path ≡ places (out-Kid kid).sim (below path (out-Kid kid).name)
-places-kid kid path =
-    ap (λ (k : Kid). places_of_kid k path) (sym (roll-out-Kid kid)) ∙ ap (λ (own : Places). own path) (fold-roll-Kid Places Places Places place_step place_kid place_net (out-Kid kid))
 
 output-Leaf : (system : System) (leaf : Leaf) (path : Path) (time : ℕ) → output system (sim.Leaf leaf) path time ≡ at path (sent system leaf time)
 output-Leaf system leaf path time =
@@ -97,32 +82,6 @@ all-back P [] ys all = all
 all-back P (x ∷ xs) ys all = all-back P xs ys all.1
 
 module _ (system : System) (handle : Path → Handle) (time : ℕ) (traffic : Traffic) (same : traffic.translate ≡ system.translate) where
-  wired-Leaf : (leaf : Leaf) (path : Path) → wired handle (sim.Leaf leaf) path ≡ None
-  wired-Leaf leaf path =
-      ap (λ (s : Sim). wired handle s path) (sym (rolls-Leaf leaf)) ∙ ap (λ (own : Wired). own path) (fold-roll-Sim Wired WiredAt NetWired (wire_step handle) (wire_kid handle) (wire_net handle) (layer.Leaf leaf))
-
-  wired-Net : (net : Net) (path : Path) → wired handle (sim.Net net) path ≡ Some (wired_net handle net path)
-  wired-Net net path =
-      ap (λ (s : Sim). wired handle s path) (sym (rolls-Net net)) ∙ ap (λ (own : Wired). own path) (fold-roll-Sim Wired WiredAt NetWired (wire_step handle) (wire_kid handle) (wire_net handle) (layer.Net net))
-
-  abbrev opened_net : Net → Path → Wiring-F WiredKid Wiring
-  opened_net net path = record { me = handle path; boss = handle (to_boss path); links = (out-Net net).links; kids = map (λ (kid : WiredAt). kid path) (map (wired_kid handle) (out-Net net).kids) }
-
-  wired_net-opens : (net : Net) (path : Path) → out-Wiring (wired_net handle net path) ≡ opened_net net path
-  wired_net-opens net path =
-      ap (λ (n : Net). out-Wiring (wired_net handle n path)) (sym (roll-out-Net net))
-      ∙ ap (λ (own : NetWired). out-Wiring (own path)) (fold-roll-Net Wired WiredAt NetWired (wire_step handle) (wire_kid handle) (wire_net handle) (out-Net net))
-      ∙ out-roll-Wiring (opened_net net path)
-
-  abbrev opened_kid : Kid → Path → WiredKid-F WiredKid Wiring
-  opened_kid kid path = record { name = (out-Kid kid).name; handle = handle (below path (out-Kid kid).name); below = wired handle (out-Kid kid).sim (below path (out-Kid kid).name) }
-
-  wired_kid-opens : (kid : Kid) (path : Path) → out-WiredKid (wired_kid handle kid path) ≡ opened_kid kid path
-  wired_kid-opens kid path =
-      ap (λ (k : Kid). out-WiredKid (wired_kid handle k path)) (sym (roll-out-Kid kid))
-      ∙ ap (λ (own : WiredAt). out-WiredKid (own path)) (fold-roll-Kid Wired WiredAt NetWired (wire_step handle) (wire_kid handle) (wire_net handle) (out-Kid kid))
-      ∙ out-roll-WiredKid (opened_kid kid path)
-
   -- what a component of this name carries, by what is wired beneath it
   abbrev step : Name → Path → Option Wiring → KidLoad
   step name path own = load.kid_step traffic (record { name = name; handle = handle path; below = option_map (load traffic) own })
@@ -133,7 +92,7 @@ module _ (system : System) (handle : Path → Handle) (time : ℕ) (traffic : Tr
   kid_load-opens : (path : Path) (kid : Kid) → kid_load path kid ≡ step (out-Kid kid).name (below path (out-Kid kid).name) (wired handle (out-Kid kid).sim (below path (out-Kid kid).name))
   kid_load-opens path kid =
       load_kid-opens traffic (wired_kid handle kid path)
-      ∙ ap (λ (own : WiredKid-F WiredKid Wiring). load.kid_step traffic (record { name = own.name; handle = own.handle; below = option_map (load traffic) own.below })) (wired_kid-opens kid path)
+      ∙ ap (λ (own : WiredKid-F WiredKid Wiring). load.kid_step traffic (record { name = own.name; handle = own.handle; below = option_map (load traffic) own.below })) (wired_kid-opens handle kid path)
 
   abbrev received : Sim → Name → Path → List Link → Sources → List Delivery
   received own name path links sources = map (handed handle) (deliveries system own path time (gathered system.translate links sources (part.Kid name) (ins_of system own)))
@@ -153,7 +112,7 @@ module _ (system : System) (handle : Path → Handle) (time : ℕ) (traffic : Tr
   leaf_carried : (leaf : Leaf) → Claim (sim.Leaf leaf)
   leaf_carried leaf name path each =
       let fact = (subst (λ (list : List Place). AllByRecursion (IsOf system handle time traffic) list) (places-Leaf leaf path) each).0 in
-      subst (λ (own : Option Wiring). IsCarried (sim.Leaf leaf) name path (step name path own)) (sym (wired-Leaf leaf path)) (record {
+      subst (λ (own : Option Wiring). IsCarried (sim.Leaf leaf) name path (step name path own)) (sym (wired-Leaf handle leaf path)) (record {
         given = output-Leaf system leaf path time ∙ at-ok path (sent system leaf time) (traffic.sent (handle path)) fact.0;
         named = refl;
         brought = λ links sources.
@@ -209,7 +168,7 @@ module _ (system : System) (handle : Path → Handle) (time : ℕ) (traffic : Tr
   net_load-opens : (net : Net) (path : Path) → load traffic (wired_net handle net path) ≡ net_one net path
   net_load-opens net path =
       load-opens traffic (wired_net handle net path)
-      ∙ ap (λ (own : Wiring-F WiredKid Wiring). load.net_step traffic (record { me = own.me; boss = own.boss; links = own.links; kids = map (load_of_kid traffic) own.kids })) (wired_net-opens net path)
+      ∙ ap (λ (own : Wiring-F WiredKid Wiring). load.net_step traffic (record { me = own.me; boss = own.boss; links = own.links; kids = map (load_of_kid traffic) own.kids })) (wired_net-opens handle net path)
       ∙ ap (λ (kids : List KidLoad). load.net_step traffic (record { me = handle path; boss = handle (to_boss path); links = (out-Net net).links; kids = kids })) (kids-loads path (out-Net net).kids)
 
   kids_brought : (path : Path) (kids : List Kid) → AllByRecursion (KidCarried path) kids → (links : List Link) (sources : Sources) →
@@ -256,7 +215,7 @@ module _ (system : System) (handle : Path → Handle) (time : ℕ) (traffic : Tr
   net_carried : (net : Net) → AllByRecursion (λ kid. Claim (out-Kid kid).sim) (out-Net net).kids → Claim (sim.Net net)
   net_carried net claims name path each =
       let tied = net_tied net claims path each in
-      subst (λ (own : Option Wiring). IsCarried (sim.Net net) name path (step name path own)) (sym (wired-Net net path)) (record {
+      subst (λ (own : Option Wiring). IsCarried (sim.Net net) name path (step name path own)) (sym (wired-Net handle net path)) (record {
         given = tied.0;
         named = refl;
         brought = λ links sources.

@@ -20,12 +20,15 @@ ghost use Rattle.dsde_routes_trees.specs.Wire.{IsTrafficOf, handed, wired_net};
 use dsde_routes_pushing::push_equals_gather;
 
 /// What the links of a tree carry in a turn to its components and executives, and what it sends, is
-/// what those of its wiring carry, whatever handles its parts have.
+/// what those of its wiring carry, whatever handles its parts have. The root of the wiring has the handle
+/// of the tree's path.
 pub fn wirings_carry_as_trees()
     ensures received { (system : System) (handle : Path → Handle) (time : ℕ) (traffic : Traffic) (net : Net) (path : Path) → IsTrafficOf system handle time traffic (sim.Net net) path → (got : Ports) →
         map (handed handle) (tree.deliveries system (sim.Net net) path time got) ≡ (load traffic (wired_net handle net path)).deliveries got }
     ensures sent { (system : System) (handle : Path → Handle) (time : ℕ) (traffic : Traffic) (net : Net) (path : Path) → IsTrafficOf system handle time traffic (sim.Net net) path →
         output system (sim.Net net) path time ≡ Ok (load traffic (wired_net handle net path)).sends }
+    ensures root { (system : System) (handle : Path → Handle) (time : ℕ) (traffic : Traffic) (net : Net) (path : Path) → IsTrafficOf system handle time traffic (sim.Net net) path →
+        (load traffic (wired_net handle net path)).me ≡ handle path }
 {}
 
 /// So what each of them receives at a port is what the rows to that port push there, in the order of

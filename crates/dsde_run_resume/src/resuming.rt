@@ -1,9 +1,9 @@
 //! The turns of an engine that goes on with an input of which it took some records before.
 
-ghost use Rattle.std.specs.Prelude.{◌≡◌, ◌+◌, ◌<◌, ◌≤◌, ◌^◌, [], true, is_some, Ok, Err};
+ghost use Rattle.std.specs.Prelude.{◌≡◌, ◌+◌, ◌<◌, ◌≤◌, ◌^◌, [], true, is_some, Ok, Err, IfOk};
 ghost use Rattle.dsde_io.specs.Fault.{Rose};
 ghost use Rattle.dsde_run.specs.Ends.{answer_of};
-ghost use Rattle.dsde_run.specs.Reading.{TakesWanted, Told};
+ghost use Rattle.dsde_run.specs.Reading.{IsWhole, TakesWanted, Told};
 ghost use Rattle.dsde_run.specs.Steps.{IsRoot};
 ghost use Rattle.dsde_run_resume.specs.Resumed.{records_for, resumed_on};
 ghost use Rattle.dsde_run_resume.specs.Resuming.{ComesBack, stopped_as, taken_up};
@@ -33,8 +33,8 @@ pub enum Unresumed {
 ///
 /// Nothing is written before the records are skipped: where a line among them is bad the run ends with it, with no
 /// line of its own, and `FewRecords` comes exactly where the input ends before. Then the engine stays as it was.
-/// Otherwise the run ends as `run_turns` does, and the engine stands where it ended, unless by a fault. This
-/// project's profile.
+/// Otherwise the run ends as `run_turns` does, and the engine stands where it ended and is not spent, unless by a
+/// fault. An engine that took no record and goes on for no turn reads nothing. This project's profile.
 pub fn resume_turns<R: Source, W: Sink>(
     alloc: Global,
     plain: &mut Plain<'_>,
@@ -54,6 +54,10 @@ pub fn resume_turns<R: Source, W: Sink>(
         TakesWanted (resumed_on own.now turns plain.old.engine) (records_for own.now plain.old.engine before) [] before) }
     ensures quiet { result ≡ Ok Finish.Quiet → Told (R.left source.old) (R.left source.new) (λ _ after. after ≡ []) }
     ensures few { result ≡ Err Unresumed.FewRecords → (sink.new ≡ sink.old) × (plain.new ≡ plain.old) }
+
+    ensures program { plain.new.program ≡ plain.old.program }
+    ensures unspent { IfOk result (λ how. IsWhole how → is_some plain.new.engine.tree ≡ true) }
+    ensures idle { plain.old.engine.taken ≡ 0 → turns ≡ 0 → source.new ≡ source.old }
 
     ensures unread { result ≡ Err (Unresumed.Cut Cut.ReadFault) → Rose (R.faults source.old) (R.faults source.new) }
     ensures unwritten { result ≡ Err (Unresumed.Cut Cut.Unwritten) → Rose (W.faults sink.old) (W.faults sink.new) }

@@ -25,10 +25,13 @@ use Rattle.dsde_sim_tree.specs.declared.sim.TheConstants.{DEEPEST}
 use Rattle.dsde_sim_tree.specs.Start as tree
 use Rattle.dsde_sim_tree.specs.Tree.{parts}
 use Rattle.dsde_values.specs.Path.{root}
+use Rattle.dsde_values.specs.When.{IsMoment}
+use Rattle.dsde_sim_starting.specs.Fitting.{FitsTree}
 use Rattle.dsde_sim_delivery.specs.Deliveries.{Delivery}
 use Rattle.dsde_sim_movers.specs.Names.{IsNamed, NamesParts}
 use Rattle.dsde_sim_movers.specs.Turns.{free_turn, turn_movers}
 use Rattle.dsde_sim_stands.specs.Stands.{AdvanceStands, IsForward, IsNotBefore, StandsEngine, StandsTree, StartStands}
+use Rattle.dsde_sim_times.specs.InTime.{TurnsAreInTime}
 use Rattle.dsde_sim_turns.specs.declared.step.Step.{Step}
 use Rattle.dsde_sim_turns.specs.declared.step.Step.TheVariants.{Turned, Quiet}
 use Rattle.dsde_sim_turns.specs.declared.step.TheConstants.{MOST_PARTS}
@@ -52,6 +55,7 @@ pub record Laws (model : Model) : Type 0 where
   pub start_stands : StartStands
   pub advance_stands : AdvanceStands
   pub taken : TurnsAreTaken
+  pub in_time : TurnsAreInTime
   pub start_named : (own : System) (left : ℕ) (model : ModelId) (args : List Value) (path : Path) (time room rest : ℕ) (sim : Sim) → NamesParts own → (tree.start own left model args path time room).end ≡ Ok (sim, rest) → IsNamed sim
   pub turn_named : (own : System) (sim after : Sim) (number time : ℕ) (items : List Item) (order : List Delivery) → NamesParts own → IsNamed sim → (free_turn own sim number time items order).end ≡ Ok after → IsNamed after
   pub movers : (own : System) (sim : Sim) (number time : ℕ) (items : List Item) → IsNamed sim → turn own sim number time items ≡ free_turn own sim number time items (turn_movers own sim time items)
@@ -113,6 +117,7 @@ module _ (model : Model) (laws : Laws model) where
     pub fits : FitsEngine model engine
     pub stands : StandsEngine meaning engine
     pub holds : IfSome engine.tree Holds
+    pub moment : IsMoment engine.time
     pub taken : engine.taken ≤ engine.turn
     pub bounded : engine.turn ≤ most
 
@@ -123,9 +128,18 @@ module _ (model : Model) (laws : Laws model) where
         fits = laws.start_fits model engine laws.right is;
         stands = laws.start_stands meaning laws.forward engine is;
         holds = subst (λ (e : Engine). IfSome e.tree Holds) begin.is begin.holds;
+        moment = subst (λ (e : Engine). IsMoment e.time) begin.is (omega arith);
         taken = subst (λ (e : Engine). e.taken ≤ e.turn) begin.is (omega arith);
         bounded = subst (λ (e : Engine). e.turn ≤ 0) begin.is (omega arith);
       }
+
+  -- its tree, and the head of the input
+  fits-if : {engine : Engine} → FitsEngine model engine → IfSome engine.tree (FitsTree model)
+  fits-if fits = subst (λ (found : Option Sim). IfSome found (FitsTree model)) (sym fits.is) fits.fits
+
+  early : (head : Option Arrival) → IfSome head (Arrives model) → IfSome head (λ (own : Arrival). IsMoment own.time)
+  early None arrives = tt
+  early (Some head) arrives = arrives.early
 
   step-keeps : (most : ℕ) (engine : Engine) (head : Option Arrival) (took : Bool) (after : Engine) → Keeps most engine → IfSome head (Arrives model) → IsNotBefore engine.time head →
       (advance meaning engine head).end ≡ Ok (Turned took, after) → Keeps (suc most) after
@@ -135,6 +149,7 @@ module _ (model : Model) (laws : Laws model) where
         fits = laws.advance_fits model engine head (Turned took, after) laws.right keeps.fits arrives is;
         stands = laws.advance_stands meaning laws.forward engine head (Turned took, after) keeps.stands late is;
         holds = advance-keeps meaning Holds started turned engine head (Turned took) after keeps.holds is;
+        moment = subst IsMoment (sym turns.at) (laws.in_time model engine head turns.time (fits-if keeps.fits) (early head arrives) turns.next);
         taken = by-took took (omega (arith, turns.counted)) turns.taken;
         bounded = omega (arith, turns.counted, keeps.bounded);
       }
@@ -160,6 +175,7 @@ module _ (model : Model) (laws : Laws model) where
     fits = keeps.fits;
     stands = keeps.stands;
     holds = keeps.holds;
+    moment = keeps.moment;
     taken = keeps.taken;
     bounded = omega (arith, keeps.bounded, within);
   }
@@ -205,6 +221,7 @@ module _ (model : Model) (laws : Laws model) where
           is = keeps.fits.is;
           fits = record { fits = keeps.fits.fits; within = holds.within };
           stands = subst (λ (found : Option Sim). IfSome found (StandsTree meaning engine.time)) keeps.fits.is keeps.stands;
+          moment = keeps.moment;
           taken = keeps.taken;
           bounded = keeps.bounded;
         }

@@ -3,6 +3,7 @@ use Rattle.std.specs.Prelude.{◌≡◌, ◌≤◌, ℕ, List, Some, Ok}
 use Rattle.dsde_syntax.specs.declared.decl.Model.{Model}
 use Rattle.dsde_check_rules.specs.Right.{IsRight}
 use Rattle.dsde_declared.specs.Models.{top_ins, types_of}
+use Rattle.dsde_values.specs.When.{IsMoment}
 use Rattle.dsde_formalism.specs.System.{System}
 use Rattle.dsde_system.specs.Program.{system}
 use Rattle.dsde_sim_tree.specs.declared.sim.Sim.{Sim}
@@ -22,13 +23,14 @@ pub record HasBegun (engine : Engine) : Type 0 where
 abbrev pub RunsBegin : Type 0
 RunsBegin = (system : System) (engine : Engine) → (start system).end ≡ Ok engine → HasBegun engine
 
--- An engine has a tree of the program, which stands at its time; it has done so many turns at most, and taken
--- no more records than it has done turns.
+-- An engine has a tree of the program, which stands at its time, a moment of a run; it has done so many turns at
+-- most, and taken no more records than it has done turns.
 pub record HasStanding (model : Model) (turns : ℕ) (engine : Engine) : Type 0 where
   pub tree : Sim
   pub is : engine.tree ≡ Some tree
   pub fits : Stands model tree
   pub stands : StandsTree (system model) engine.time tree
+  pub moment : IsMoment engine.time
   pub taken : engine.taken ≤ engine.turn
   pub bounded : engine.turn ≤ turns
 

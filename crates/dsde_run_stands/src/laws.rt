@@ -7,6 +7,7 @@ use dsde_run_cuts::turns_are_taken;
 use dsde_run_delivery::models_name_parts;
 use dsde_sim_movers::{room_is_kept, trees_are_named, turns_move_one_by_one};
 use dsde_sim_stands::trees_stand;
+use dsde_sim_times::turns_are_in_time;
 use dsde_sound_forward::programs_lead_on;
 use dsde_sound_runs::{engines_fit, inputs_arrive};
 
@@ -16,8 +17,8 @@ pub fn runs_begin()
 {}
 
 /// A law: the engine with which a run of an accepted model ends by its bound or quiet has a tree of the
-/// program, with no more parts than may be alive, that stands at the time of the last turn; it has done no
-/// more turns than were asked for, and taken no more records than it has done turns.
+/// program, with no more parts than may be alive, that stands at the time of the last turn, a moment of a run;
+/// it has done no more turns than were asked for, and taken no more records than it has done turns.
 pub fn runs_stand()
     ensures { RunsStand }
 {
@@ -29,6 +30,7 @@ pub fn runs_stand()
     room_is_kept();
     trees_are_named();
     trees_stand();
+    turns_are_in_time();
     turns_are_taken();
     turns_move_one_by_one();
 }

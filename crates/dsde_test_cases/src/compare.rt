@@ -2,6 +2,7 @@
 
 use crate::run::Outcome;
 use anyhow::{Context, Result};
+use dsde_io::Stored;
 use dsde_test_data::{Value, number_at, tell_said, tell_text, text_at};
 use std::alloc::{AllocError, Global};
 
@@ -13,6 +14,7 @@ pub(crate) fn differences(alloc: Global, case: &Value, outcome: &Outcome) -> Res
     tell_out(alloc, &mut lines, case, outcome.out.contents())?;
     tell_text(alloc, &mut lines, case, "notes", outcome.notes.contents())?;
     tell_said(alloc, &mut lines, case, "left", outcome.input.contents())?;
+    tell_stored(alloc, &mut lines, case, outcome.shelf.contents().as_slice())?;
     if let Some(reads) = number_at(case, "reads")? {
         tell_number(&mut lines, "reads", reads, outcome.input.calls())?;
     }
@@ -28,6 +30,26 @@ fn tell_out(alloc: Global, lines: &mut String, case: &Value, out: &[u8]) -> Resu
     } else {
         tell_text(alloc, lines, case, "out", out)
     }
+}
+
+/// Compares what the shelf has under each name of which the case says what is to be there.
+fn tell_stored(alloc: Global, lines: &mut String, case: &Value, held: &[Stored]) -> Result<()> {
+    if let Some(wanted) = case.get("stored") {
+        for (name, _text) in wanted.as_object().context("stored: no object")? {
+            tell_text(alloc, lines, wanted, name, bytes_under(held, name))?;
+        }
+    }
+    Ok(())
+}
+
+/// The bytes under a name: none, where there is nothing.
+fn bytes_under<'s>(held: &'s [Stored], name: &str) -> &'s [u8] {
+    for item in held {
+        if item.name.as_slice() == name.as_bytes() {
+            return item.bytes.as_slice();
+        }
+    }
+    &[]
 }
 
 fn tell_number(lines: &mut String, what: &str, wanted: u64, got: u64) -> Result<(), AllocError> {

@@ -45,16 +45,18 @@ fn run_file(rt: &(impl Files + Print + AllocGlobal), name: &str) -> Result<()> {
 
 /// Runs a case of a file: what differs from what it wants.
 ///
-/// A case has the `words` of a command, a text that stands on its own shelf under the name `model`,
-/// the `input`, the most bytes that one read gives (`largest`), and the numbers, counted from 1, of
-/// the calls that fail. It wants the exit `status`, all of `out` or its end, the `notes`, and, where
-/// they are said, what is `left` of the input and how many `reads` there are.
+/// A case has the `words` of a command, `files` that stand on its own shelf, and a text there under the
+/// name `model`, the `input`, the most bytes that one read gives (`largest`), and the numbers, counted
+/// from 1, of the calls that fail; those of the shelf, loads and stores, are `failing_loads`. It wants
+/// the exit `status`, all of `out` or its end, the `notes`, and, where they are said, what is `stored`
+/// under each of these names, what is `left` of the input and how many `reads` there are.
 fn run_case(alloc: Global, case: &Value, file: &Value) -> Result<String> {
     check_names(
         case,
         &[
             "name",
             "words",
+            "files",
             "model",
             "input",
             "largest",
@@ -66,6 +68,7 @@ fn run_case(alloc: Global, case: &Value, file: &Value) -> Result<String> {
             "out",
             "out_ends_with",
             "notes",
+            "stored",
             "left",
             "reads",
         ],

@@ -11,6 +11,7 @@ use std::alloc::Global;
 #[derive(Drop)]
 pub(crate) struct Outcome {
     pub status: u8,
+    pub shelf: MemoryShelf,
     pub input: MemorySource,
     pub out: MemorySink,
     pub notes: MemorySink,
@@ -26,6 +27,7 @@ pub(crate) fn run(alloc: Global, case: &Value, file: &Value) -> Result<Outcome> 
     let status = dsde(alloc, &words, &mut shelf, &mut input, &mut out, &mut notes).number();
     Ok(Outcome {
         status,
+        shelf,
         input,
         out,
         notes,
@@ -41,31 +43,31 @@ fn words_of(alloc: Global, case: &Value) -> Result<Vec<String>> {
     Ok(words)
 }
 
-/// The file's models under their names, and the case's own under the name `model`.
+/// The file's models and the case's files under their names, and the case's own model under the name
+/// `model`.
 fn shelf_of(alloc: Global, case: &Value, file: &Value) -> Result<MemoryShelf> {
-    let mut held = models_of(alloc, file)?;
+    let mut held = Vec::new(alloc);
+    put_all(alloc, &mut held, file, "models")?;
+    put_all(alloc, &mut held, case, "files")?;
     if let Some(text) = case.get("model") {
         held.push(stored(alloc, "model", text)?)?;
     }
     let held = Seq::from_vec(held);
-    ensure!(
-        has_distinct_names(held.as_slice()),
-        "two models of one name"
-    );
+    ensure!(has_distinct_names(held.as_slice()), "two files of one name");
     Ok(MemoryShelf::new(
         held,
         Seq::from_vec(numbers_at(alloc, case, "failing_loads")?),
     ))
 }
 
-fn models_of(alloc: Global, file: &Value) -> Result<Vec<Stored>> {
-    let mut held = Vec::new(alloc);
-    if let Some(models) = file.get("models") {
-        for (name, text) in models.as_object().context("models: no object")? {
+/// Puts each text of an object under its name.
+fn put_all(alloc: Global, held: &mut Vec<Stored>, object: &Value, member: &str) -> Result<()> {
+    if let Some(texts) = object.get(member) {
+        for (name, text) in texts.as_object().context("texts: no object")? {
             held.push(stored(alloc, name, text)?)?;
         }
     }
-    Ok(held)
+    Ok(())
 }
 
 fn stored(alloc: Global, name: &str, text: &Value) -> Result<Stored> {

@@ -149,6 +149,14 @@ module _ (look : Look) where
   pub paths-apart : (handle : Handle) (path : Path) (own : Option Wiring) → HasOwnNames (part_under look handle own) → PathsApart (part_places handle path own)
   paths-apart handle path own names = part-apart handle path own (every own) names
 
+  all-every : (kids : List WiredKid) → AllByRecursion (OfKid AreApart) kids
+  all-every [] = tt
+  all-every (kid ∷ kids) = (every (out-WiredKid kid).below, all-every kids)
+
+  -- so do components of a network
+  pub kids-paths-apart : (path : Path) (kids : List WiredKid) → AreToldApart (map entry_of (map (kid_under look) kids)) → AllByRecursion KidHasOwnNames (map (kid_under look) kids) → PathsApart (flat_map (λ (kid : WiredKid). kid_places kid path) kids)
+  kids-paths-apart path kids named names = kids-apart path kids (all-every kids) named names
+
 -- places that have their paths in a grove
 module _ (own : Grove Spot) where
   births-differ : (at : Place) → StandsAt own at → (others : List Place) → AllByRecursion (StandsAt own) others → AllByRecursion (λ (other : Place). at.path.names ≢ other.path.names) others →

@@ -60,10 +60,10 @@ made-is made handle is kids =
     let opened = out-roll-Wiring made in
     net-is (roll-Wiring made) handle (is ∙ ap (λ (w : Wiring-F WiredKid Wiring). w.me) (sym opened)) (subst (λ (w : Wiring-F WiredKid Wiring). KidsAreThemselves w.kids) (sym opened) kids)
 
-first-itself : (kid : WiredKid) (kids : List WiredKid) → KidsAreThemselves (kid ∷ kids) → AreThemselves (out-WiredKid kid).handle (out-WiredKid kid).below
+pub first-itself : (kid : WiredKid) (kids : List WiredKid) → KidsAreThemselves (kid ∷ kids) → AreThemselves (out-WiredKid kid).handle (out-WiredKid kid).below
 first-itself kid kids all = subst (AllByRecursion IsItself) (kid-calls kid) (all-left IsItself (kid_called kid) (flat_map kid_called kids) all)
 
-later-itself : (kid : WiredKid) (kids : List WiredKid) → KidsAreThemselves (kid ∷ kids) → KidsAreThemselves kids
+pub later-itself : (kid : WiredKid) (kids : List WiredKid) → KidsAreThemselves (kid ∷ kids) → KidsAreThemselves kids
 later-itself kid kids all = all-right IsItself (kid_called kid) (flat_map kid_called kids) all
 
 -- The parts where names lead have their handles.

@@ -95,9 +95,14 @@ pub birth-right : (birth : ℕ) (xs ys : List Place) → HasBirth birth ys → H
 birth-right birth [] ys has = has
 birth-right birth (x ∷ xs) ys has = inr (birth-right birth xs ys has)
 
+births-split : (birth : ℕ) (xs ys : List Place) → HasBirth birth (xs ++ ys) → HasBirth birth xs ⊎ HasBirth birth ys
+births-split birth [] ys has = inr has
+births-split birth (x ∷ xs) ys (inl here) = inl (inl here)
+births-split birth (x ∷ xs) ys (inr later) = elim (births-split birth xs ys later) [ inl one ↦ inl (inr one) | inr other ↦ inr other ]
+
 -- nothing was put in yet
 pub graft-none : (own : Grove Spot) (path : Path) → AreGrafted own own path [] []
-graft-none own path = record { shows = refl; themselves = tt; live = tt; kept = λ birth part is. is; only = λ birth part is. inl is; next = omega arith }
+graft-none own path = record { shows = refl; themselves = tt; live = tt; kept = λ birth part is. is; only = λ birth part is. inl is; next = omega arith; young = λ birth has. absurd has }
 
 -- some components, and then others
 pub graft-join : (old mid new : Grove Spot) (path : Path) (own more : List Kid) (kids others : List WiredKid) →
@@ -120,6 +125,10 @@ graft-join old mid new path own more kids others one other =
         | inr its ↦ inr (subst (HasBirth birth) (sym (flat-join at kids others)) (birth-right birth (flat_map at kids) (flat_map at others) its))
       ];
       next = omega (arith, one.next, other.next, parts-join own more);
+      young = λ birth has. elim (births-split birth (flat_map at kids) (flat_map at others) (subst (HasBirth birth) (flat-join at kids others) has)) [
+        | inl here ↦ one.young birth here
+        | inr there ↦ let late = other.young birth there in omega (arith, late, one.next)
+      ];
     }
 
 -- one part grows
@@ -187,6 +196,7 @@ graft-leaf old new parent name leaf kid path grows fresh at =
         | inr here ↦ inr (subst (HasBirth birth) (sym places) (inl here))
       ];
       next = omega (arith, grows.next, parts-leaf leaf name);
+      young = λ birth has. elim (subst (HasBirth birth) places has) [ inl here ↦ omega (arith, grows.birth, here) | inr none ↦ absurd none ];
     }
 
 -- a network, behind its own part, its executive and its components
@@ -261,4 +271,11 @@ module _ (one two three all : Grove Spot) (parent handle boss : Handle) (name : 
           | inr there ↦ inr (subst (HasBirth birth) (sym inner-stands) (inr (birth-left birth kids_at boss_at there)))
         ];
         next = omega (arith, first.next, second.next, grafted.next, parts-network model args leaf own links name);
+        young = λ birth has. elim (subst (HasBirth birth) inner-stands has) [
+          | inl here ↦ omega (arith, first.birth, here)
+          | inr others ↦ elim (births-split birth kids_at boss_at others) [
+            | inl there ↦ let late = grafted.young birth there in omega (arith, late, first.next, second.next)
+            | inr here ↦ elim here [ inl is ↦ omega (arith, second.birth, is, first.next) | inr none ↦ absurd none ]
+          ]
+        ];
       }

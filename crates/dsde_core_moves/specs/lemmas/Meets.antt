@@ -36,7 +36,7 @@ pub record Put (own : Grove Spot) (handle : Handle) (step : Told Leaf) (old new 
   pub tells : Tells step old new (Ok leaf)
   pub is : after ≡ with_value own handle (variant.Leaf leaf)
 
-put-at : (own : Grove Spot) (handle : Handle) (events : List Event) (end : Result Leaf TurnEnd) (old new : List Event) (after : Grove Spot) →
+pub put-at : (own : Grove Spot) (handle : Handle) (events : List Event) (end : Result Leaf TurnEnd) (old new : List Event) (after : Grove Spot) →
     (let step : Told Leaf = record { events = events; end = end } in Tells (step then put_under own handle) old new (Ok after)) → (let step : Told Leaf = record { events = events; end = end } in Put own handle step old new after)
 put-at own handle events (Ok leaf) old new after tells =
     let e : Ok (with_value own handle (variant.Leaf leaf)) ≡ Ok after = tells.1 in

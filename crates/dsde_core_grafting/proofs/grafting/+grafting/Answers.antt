@@ -1,28 +1,22 @@
-use Rattle.std.proofs.Common.{◌≡◌, ℕ, ◌+◌, ◌*◌, ◌^◌, ◌<◌, ◌≤◌, List, [], ◌∷◌, map, Option, Some, None, IsSome, refl, sym, ap, subst, ◌∙◌, arith}
-use Rattle.std.specs.List.{AllByRecursion}
+use Rattle.std.proofs.Common.{◌≡◌, ◌+◌, ◌^◌, ◌<◌, List, [], ◌∷◌, Some, None, refl, sym, ap, subst, ◌∙◌, arith}
 use Rattle.dsde_values.specs.declared.name.Name.{Name}
 use Rattle.dsde_values.specs.declared.path.Path.{Path}
-use Rattle.dsde_values.specs.Path.{EXEC}
 use Rattle.dsde_sim_events.specs.Told.{below}
-use Rattle.dsde_grove.specs.Grove as grove
-use Rattle.dsde_grove.specs.Grove.{spot, IsTree, Grows}
-use Rattle.dsde_sim_tree.specs.declared.sim.Kid.{Kid}
 use Rattle.dsde_sim_tree.specs.declared.sim.Net.{Net}
 use Rattle.dsde_sim_tree.specs.declared.sim.Sim.{Sim}
 use Rattle.dsde_sim_tree.specs.declared.sim.Sim.TheVariants as sim
-use Rattle.dsde_sim_tree.specs.declared.sim.Sim.TheViews.{out-Kid, out-Net, roll-out-Net}
-use Rattle.dsde_sim_tree.specs.Tree.{parts, parts_of_net, parts_of_kids, entry_of}
-use Rattle.dsde_sim_tree.specs.Start.{kid_of, net_of}
+use Rattle.dsde_sim_tree.specs.declared.sim.Sim.TheViews.{out-Net}
+use Rattle.dsde_sim_tree.specs.Tree.{parts_of_net, parts_of_kids}
+use Rattle.dsde_sim_tree.specs.Start.{kid_of}
 use Rattle.dsde_routes_wiring.specs.declared.wiring.Wiring.{Wiring}
 use Rattle.dsde_routes_wiring.specs.declared.wiring.WiredKid.{WiredKid}
 use Rattle.dsde_core_flat.specs.Grafts.{path_at, IsFree, AreGrafted}
-use Rattle.dsde_core_flat.specs.lemmas.Grafting.{graft-leaf, graft-net}
+use Rattle.dsde_core_flat.specs.lemmas.Grafting.{graft-leaf}
 use Rattle.dsde_structure.specs.declared.plan.Link.{Link}
 use Rattle.dsde_core_flat.specs.Change.{wired_kid, wiring_of}
-use Rattle.dsde_core_flat.specs.lemmas.Growing.{free-first, room-below, net-named}
-use Rattle.dsde_core_flat.specs.Named.{AreToldApart, HasOwnNames, KidHasOwnNames}
-use Rattle.dsde_core_flat.specs.Grafts.{IsRoomFor}
-use Rattle.dsde_core_grafting.proofs.Walking.{Grafts, begins, kid-room, kid-names, kid-births, kid-less, goes-on, all-grafted, path-there, grown-live, grown-path, net-parts, net-live, net-room, net-births, net-grafted}
+use Rattle.dsde_core_flat.specs.lemmas.Growing.{free-first, net-named}
+use Rattle.dsde_core_flat.specs.Named.{HasOwnNames}
+use Rattle.dsde_core_grafting.proofs.Walking.{Grafts, kid-room, kid-names, kid-births, kid-less, goes-on, path-there, grown-live, grown-path, net-parts, net-live, net-room, net-births, net-grafted}
 use Rattle.dsde_core_flat.specs.lemmas.Waiting.{net-waits}
 use Rattle.dsde_core_grafting.proofs.grafting.+grafting.Goals as goal
 

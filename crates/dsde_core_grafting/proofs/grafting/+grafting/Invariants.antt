@@ -1,4 +1,4 @@
-use Rattle.std.proofs.Common.{◌≡◌, ◌+◌, ◌*◌, ℕ, List}
+use Rattle.std.proofs.Common.{◌+◌, ◌*◌, List}
 use Rattle.dsde_sim_tree.specs.Tree.{parts, parts_of_net, parts_of_kids}
 use Rattle.dsde_core_grafting.proofs.Walking.{Grafts}
 use Rattle.dsde_bank.specs.declared.handle.Handle.{Handle}

@@ -1,4 +1,4 @@
-use Rattle.std.proofs.Common.{◌≡◌, List, ℕ, refl, sym, ap, subst, ◌∙◌}
+use Rattle.std.proofs.Common.{List, ℕ, refl, sym, ap, subst, ◌∙◌}
 use Rattle.dsde_bank.specs.declared.handle.Handle.{Handle}
 use Rattle.dsde_core_flat.specs.declared.spot.Spot.TheVariants as spot_variant
 use Rattle.dsde_core_flat.specs.Scheduled.{scheduled}

@@ -1,4 +1,4 @@
-use Rattle.std.proofs.Common.{◌≡◌, ℕ, List, sym, ap, subst, ◌∙◌}
+use Rattle.std.proofs.Common.{ℕ, List, sym, ap, subst, ◌∙◌}
 use Rattle.dsde_bank.specs.declared.handle.Handle.{Handle}
 use Rattle.dsde_core_flat.specs.Scheduled.{IsScheduled, scheduled}
 use Rattle.dsde_core_grafting.proofs.Planting.{planted-due, planted-leaf}

@@ -1,5 +1,4 @@
-use Rattle.std.proofs.Common.{◌≡◌, List, map, rules, is_lt, subst, sym, ap, ◌∙◌}
-use Rattle.std.specs.Prelude.{IsPermutation}
+use Rattle.std.proofs.Common.{List, map, rules, is_lt, subst, sym, ◌∙◌}
 use Rattle.std.proofs.lemmas.List.Sorted.{ranks_by}
 use Rattle.std.proofs.lemmas.Fn.{always_returns_same}
 use Rattle.dsde_values.specs.Path.{name_cmp}

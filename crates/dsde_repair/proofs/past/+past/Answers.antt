@@ -1,4 +1,4 @@
-use Rattle.std.proofs.Common.{rules, ◌≡◌, ◌<◌, ◌≤◌, [], false, ◌++◌, length, get_or, append-nil, map, sym, ap, ◌∙◌, subst, arith, IfOk, OnOk}
+use Rattle.std.proofs.Common.{rules, ◌≡◌, ◌<◌, ◌≤◌, [], false, ◌++◌, length, get_or, append-nil, sym, ap, ◌∙◌, subst}
 use Rattle.std.specs.List.{flat_map, AllByRecursion}
 use Rattle.dsde_routes_wiring.specs.declared.wiring.WiredKid.TheViews.{out-Wiring}
 use Rattle.dsde_routes_wiring.specs.Routes.{is_border, no_ways}
@@ -10,7 +10,7 @@ use Rattle.dsde_repair_walks.proofs.Walking.{ok-if}
 use Rattle.dsde_repair_walks.specs.Found.{IsOne}
 use Rattle.dsde_repair.specs.Walks.{over_link, past_around, at_ways}
 use Rattle.dsde_repair.proofs.Changing.{ok-map}
-use Rattle.dsde_repair.proofs.Passages.{link-border, few-over, past-none, past-one, past-other, past-named, past-here, past-above, one-wired}
+use Rattle.dsde_repair.proofs.Passages.{link-border, few-over, past-none, past-one, past-above, one-wired}
 use Rattle.dsde_repair.proofs.past.+past.Goals as goal
 
 pub past_numbered-returns-in-None : goal.past_numbered-returns-in-None

@@ -1,13 +1,11 @@
-use Rattle.std.proofs.Common.{rules, ◌≡◌, ◌++◌, List, map, sym, ap, ◌∙◌, subst}
+use Rattle.std.proofs.Common.{◌≡◌, ◌++◌, List, map, sym, ap, ◌∙◌, subst}
 use Rattle.std.specs.FinSet as set
 use Rattle.std.specs.List.{flat_map, IsDistinct}
 use Rattle.dsde_structure.specs.Gather.{is_same_name}
-use Rattle.dsde_routes_wiring.specs.declared.wiring.Wiring.{Wiring}
 use Rattle.dsde_routes_wiring.specs.declared.wiring.WiredKid.{WiredKid}
-use Rattle.dsde_routes_wiring.specs.declared.row.Row.{Row}
 use Rattle.dsde_routes_wiring.specs.Flatten.{flatten}
 use Rattle.dsde_routes_wiring.specs.Routes.{row_of}
-use Rattle.dsde_routes_wiring.specs.Places.{going, inside, kids_at, staying}
+use Rattle.dsde_routes_wiring.specs.Places.{going, inside, staying}
 use Rattle.dsde_routes_wiring.specs.Sets.{Rows, row_cmp-total, row_cmp-same}
 use Rattle.dsde_routes_wiring.specs.Touched.{handles_of, handles_of_kid}
 use Rattle.dsde_routes_wiring.specs.Wired.{AreWired}
@@ -15,7 +13,7 @@ use Rattle.dsde_repair_laws.proofs.Counting.{distinct-handles}
 use Rattle.dsde_repair_laws.proofs.Sets.{in-flatten}
 use Rattle.dsde_repair_walks.specs.Found.{name_of}
 use Rattle.dsde_repair.specs.Change.{wiring_after}
-use Rattle.dsde_repair.proofs.Changing.{ok-const, ok-map, bare-wired, after-is, same-after, after-wired, rows-then, bound-then, going-wired}
+use Rattle.dsde_repair.proofs.Changing.{ok-const, ok-map, bare-wired, after-is, same-after, after-wired, rows-then, ticks-repaired, going-wired}
 use Rattle.dsde_repair.proofs.repairing.repair.Goals as goal
 
 pub inside_rows-requires : goal.inside_rows-requires
@@ -64,14 +62,16 @@ returns-clause-table g c =
     ∙ sym (in-flatten c.renew.new.wiring wired row)))
     c.exchange.ensures.has
 
-pub returns-clause-bound : goal.returns-clause-bound
-returns-clause-bound g c =
-    let is : c.renew.new.wiring ≡ wiring_after c.args.place.now c.in_ok-kids-2.kids c.args.links c.args.wiring.now =
-    after-is c.args.place.now c.in_ok-kids-2.kids c.args.links c.args.wiring.now c.take_out.new.wiring c.renew.new.wiring c.in_ok-kids.ensures.wiring c.in_ok-renew.ensures in
-    ok-const c.exchange.result _
-    (λ net leads. bound-then c.args.place.now c.args.gone.now c.args.fresh c.in_ok-kids-2.kids c.args.links c.args.wiring.now c.requires.there c.requires.wired (same-after c.args.place.now c.args.gone.now c.args.fresh c.in_ok-kids.kids c.in_ok-parted.parted.staying c.in_ok-kids-2.kids c.args.wiring.now c.in_ok-kids.ensures.kids c.in_ok-parted.ensures.staying c.in_ok-kids-2.ensures.same) (distinct-handles (handles_of c.args.wiring.now ++ flat_map handles_of_kid c.args.fresh) c.requires.distinct)
-    c.as_slice-3.result.now c.as_slice-4.result.now c.in_ok-coming.coming c.in_ok-passing_then.passing_then c.renew.new.wiring is
+pub returns-clause-ticks : goal.returns-clause-ticks
+returns-clause-ticks g c =
+    ticks-repaired c.exchange.result c.args.place.now c.args.gone.now c.args.fresh c.in_ok-kids.kids c.in_ok-parted.parted.staying c.in_ok-parted.parted.going c.in_ok-kids-2.kids c.args.links
+    c.args.wiring.now c.take_out.new.wiring c.renew.new.wiring
+    c.requires.there c.requires.wired (distinct-handles (handles_of c.args.wiring.now ++ flat_map handles_of_kid c.args.fresh) c.requires.distinct)
+    c.in_ok-kids.ensures.kids c.in_ok-kids.ensures.wiring c.in_ok-parted.ensures.staying c.in_ok-parted.ensures.going c.in_ok-kids-2.ensures.same c.in_ok-kids-2.ensures.order
+    c.in_ok-renew.ensures c.requires.links c.requires.below
+    c.as_slice-3.result.now c.as_slice-4.result.now c.in_ok-coming.coming c.in_ok-passing_then.passing_then
     (c.as_slice-3.ensures ∙ c.in_ok-passing.ensures)
-    (c.as_slice-4.ensures ∙ c.in_ok-going.ensures ∙ ap (λ kids. map row_of (inside kids)) (c.as_slice.ensures ∙ c.in_ok-parted.ensures.going ∙ ap (going c.args.gone.now) c.in_ok-kids.ensures.kids))
+    (c.as_slice-4.ensures ∙ c.in_ok-going.ensures ∙ ap (λ kids. map row_of (inside kids)) c.as_slice.ensures)
     (c.in_ok-coming.ensures ∙ ap (λ kids. map row_of (inside kids)) c.as_slice-2.ensures)
-    c.in_ok-passing_then.ensures c.args.changes.now c.exchange.new.changes c.exchange.ensures.tick net leads)
+    c.in_ok-passing_then.ensures c.args.table.now c.exchange.new.table c.requires.table c.exchange.ensures.has
+    c.args.changes.now c.exchange.new.changes c.exchange.ensures.ticks

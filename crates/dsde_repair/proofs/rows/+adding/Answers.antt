@@ -1,9 +1,8 @@
-use Rattle.std.proofs.Common.{rules, ◌≡◌, ◌<◌, ◌++◌, map, ap, sym, ◌∙◌, subst, arith}
+use Rattle.std.proofs.Common.{◌++◌, map, ap, sym, ◌∙◌, subst, arith}
 use Rattle.std.specs.List.{AllByRecursion}
 use Rattle.dsde_routes_wiring.specs.Routes.{row_of, crossing, links_of}
 use Rattle.dsde_routes_wiring.specs.Places.{inside}
 use Rattle.dsde_repair_walks.specs.Places.{IsBelowWired}
-use Rattle.dsde_repair_walks.proofs.Walking.{below-handles}
 use Rattle.dsde_repair.specs.Walks.{open_around}
 use Rattle.dsde_repair.proofs.Changing.{ok-map}
 use Rattle.dsde_repair.proofs.Crossings.{kids-below-wired, net-whole, each-at, item-handles, kids-handles}

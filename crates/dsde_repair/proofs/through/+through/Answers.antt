@@ -1,16 +1,15 @@
-use Rattle.std.proofs.Common.{rules, ◌≡◌, false, ◌++◌, map, sym, ap, ◌∙◌, subst, Option, Some, None}
-use Rattle.std.specs.List.{flat_map, AllByRecursion}
+use Rattle.std.proofs.Common.{rules, ◌≡◌, false, ◌++◌, map, sym, ap, ◌∙◌, subst, Option}
+use Rattle.std.specs.List.{AllByRecursion}
 use Rattle.dsde_routes_wiring.specs.declared.wiring.Wiring.{Wiring}
-use Rattle.dsde_routes_wiring.specs.declared.wiring.WiredKid.TheViews.{out-Wiring, out-WiredKid}
-use Rattle.dsde_routes_wiring.specs.Routes.{row_of, links_of, no_ways}
+use Rattle.dsde_routes_wiring.specs.declared.wiring.WiredKid.TheViews.{out-Wiring}
+use Rattle.dsde_routes_wiring.specs.Routes.{row_of, no_ways}
 use Rattle.dsde_routes_wiring.specs.Places.{passing, passing_below, through}
 use Rattle.dsde_routes_wiring.specs.Wired.{AreWired}
 use Rattle.dsde_repair_walks.specs.Found.{InOrder, is_named}
 use Rattle.dsde_repair_walks.specs.Places.{IsBelowWired, BelowWired}
-use Rattle.dsde_repair_walks.specs.Walks.{beyond}
 use Rattle.dsde_repair_walks.proofs.Finding.{kids-in-order}
 use Rattle.dsde_repair_walks.specs.Found.{IsOne}
-use Rattle.dsde_repair.specs.Walks.{kid_routes, passing_kids, open_around, past_around}
+use Rattle.dsde_repair.specs.Walks.{kid_routes, passing_kids}
 use Rattle.dsde_repair.proofs.Changing.{ok-map}
 use Rattle.dsde_repair.proofs.Passages.{one-wired}
 use Rattle.dsde_repair.proofs.Thoroughfares.{routes-none, routes-one, passing-routes, none-added, through-above, added-thrice}

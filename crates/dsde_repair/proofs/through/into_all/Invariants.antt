@@ -3,7 +3,7 @@ use Rattle.std.specs.List.{flat_map}
 use Rattle.dsde_routes_wiring.specs.declared.wiring.WiredKid.TheViews.{out-Wiring}
 use Rattle.dsde_routes_wiring.specs.Places.{only}
 use Rattle.dsde_repair_walks.specs.Walks.{beyond, link_at}
-use Rattle.dsde_repair.specs.Walks.{between_link, open_around, passing_kids, past_around}
+use Rattle.dsde_repair.specs.Walks.{between_link, passing_kids, past_around}
 use Rattle.dsde_repair.proofs.through.into_all.Given as goal
 
 abbrev pub invariant-loop-number : goal.invariant-loop-number

@@ -1,12 +1,10 @@
-use Rattle.std.proofs.Common.{◌≡◌, ◌<◌, ◌≤◌, ◌++◌, length, get_or, append-nil, ap, sym, subst, ◌∙◌}
-use Rattle.std.specs.List.{flat_map}
+use Rattle.std.proofs.Common.{◌++◌, append-nil, ap, sym, ◌∙◌}
 use Rattle.dsde_routes_wiring.specs.declared.wiring.WiredKid.TheViews.{out-Wiring}
 use Rattle.dsde_routes_wiring.specs.Places.{only}
-use Rattle.dsde_repair_walks.specs.Walks.{beyond, link_at}
-use Rattle.dsde_repair_walks.proofs.Serving.{link-none, link-some, numbers-done}
-use Rattle.dsde_repair.specs.Walks.{between_link, open_around, passing_kids, past_around}
+use Rattle.dsde_repair_walks.specs.Walks.{beyond}
+use Rattle.dsde_repair.specs.Walks.{passing_kids, past_around}
 use Rattle.dsde_repair.proofs.Changing.{ok-map}
-use Rattle.dsde_repair.proofs.Thoroughfares.{link-between, none-before, none-after}
+use Rattle.dsde_repair.proofs.Thoroughfares.{link-between, none-after}
 use Rattle.dsde_repair.proofs.through.into_link.Goals as goal
 
 pub returns-then-is_empty : goal.returns-then-is_empty

@@ -1,16 +1,15 @@
-use Rattle.std.proofs.Common.{◌≡◌, ◌<◌, ◌≤◌, ◌++◌, length, get_or, append-nil, ap, sym, subst, ◌∙◌}
+use Rattle.std.proofs.Common.{◌++◌, ap, ◌∙◌}
 use Rattle.std.specs.List.{flat_map}
 use Rattle.dsde_routes_wiring.specs.declared.wiring.WiredKid.TheViews.{out-Wiring}
 use Rattle.dsde_routes_wiring.specs.Places.{only}
-use Rattle.dsde_repair_walks.specs.Walks.{beyond, link_at}
-use Rattle.dsde_repair_walks.proofs.Serving.{link-none, link-some, numbers-done}
-use Rattle.dsde_repair.specs.Walks.{between_link, open_around, passing_kids, past_around}
-use Rattle.dsde_repair.proofs.Changing.{ok-map}
-use Rattle.dsde_repair.proofs.Thoroughfares.{few-out, few-into}
+use Rattle.dsde_repair_walks.specs.Walks.{link_at}
+use Rattle.dsde_repair_walks.proofs.Serving.{numbers-done}
+use Rattle.dsde_repair.specs.Walks.{between_link, open_around, passing_kids}
+use Rattle.dsde_repair.proofs.Thoroughfares.{few-out}
 use Rattle.dsde_values.specs.declared.name.Name.{Name}
 use Rattle.dsde_structure.specs.declared.plan.Part.TheVariants as part
 use Rattle.dsde_routes_wiring.specs.Numbers.{numbers_at}
-use Rattle.dsde_routes_wiring.specs.declared.side.Side.TheVariants.{Out, Into}
+use Rattle.dsde_routes_wiring.specs.declared.side.Side.TheVariants.{Into}
 use Rattle.dsde_repair.proofs.through.out_all.Goals as goal
 
 pub returns : goal.returns

@@ -1,10 +1,8 @@
-use Rattle.std.proofs.Common.{◌≡◌, ◌<◌, ◌≤◌, ◌++◌, length, get_or, append-nil, ap, sym, subst, ◌∙◌}
-use Rattle.std.specs.List.{flat_map}
+use Rattle.std.proofs.Common.{◌<◌, ◌≤◌, ◌++◌, length, get_or, append-nil, ap, sym, subst, ◌∙◌}
 use Rattle.dsde_routes_wiring.specs.declared.wiring.WiredKid.TheViews.{out-Wiring}
 use Rattle.dsde_routes_wiring.specs.Places.{only}
-use Rattle.dsde_repair_walks.specs.Walks.{beyond, link_at}
-use Rattle.dsde_repair_walks.proofs.Serving.{link-none, link-some, numbers-done}
-use Rattle.dsde_repair.specs.Walks.{between_link, open_around, passing_kids, past_around}
+use Rattle.dsde_repair_walks.proofs.Serving.{link-none, link-some}
+use Rattle.dsde_repair.specs.Walks.{between_link, open_around, passing_kids}
 use Rattle.dsde_repair.proofs.Changing.{ok-map}
 use Rattle.dsde_repair.proofs.through.out_numbered.Goals as goal
 

@@ -1,4 +1,4 @@
-use Rattle.std.proofs.Common.{◌≡◌, Ok, Err, sym, rules}
+use Rattle.std.proofs.Common.{rules}
 use Rattle.std.proofs.lemmas.Fn.{always_returns_same}
 use Rattle.dsde_values.specs.Path.{name_cmp}
 use Rattle.dsde_routes_wiring.specs.declared.wiring.WiredKid.{WiredKid}

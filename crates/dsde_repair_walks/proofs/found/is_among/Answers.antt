@@ -1,4 +1,4 @@
-use Rattle.std.proofs.Common.{◌≡◌, List, map, sym, subst, rules}
+use Rattle.std.proofs.Common.{List, map, sym, subst, rules}
 use Rattle.std.proofs.lemmas.Fn.{always_returns_same}
 use Rattle.dsde_values.specs.declared.name.Name.{Name}
 use Rattle.dsde_values.specs.Path.{name_cmp}

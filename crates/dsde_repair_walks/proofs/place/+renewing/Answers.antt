@@ -1,6 +1,5 @@
-use Rattle.std.proofs.Common.{rules, ◌≡◌, sym, ap, ◌∙◌, subst, arith, Some}
-use Rattle.dsde_routes_wiring.specs.Places.{changed, renewed}
-use Rattle.dsde_routes_wiring.specs.declared.wiring.WiredKid.TheViews.{out-Wiring}
+use Rattle.std.proofs.Common.{rules, sym, subst}
+use Rattle.dsde_routes_wiring.specs.Places.{renewed}
 use Rattle.dsde_repair_walks.specs.Found.{InOrder, IsAt}
 use Rattle.dsde_repair_walks.proofs.Finding.{ok-map, kids-in-order, found-wired, written, set-there, none-there}
 use Rattle.dsde_repair_walks.proofs.place.+renewing.Goals as goal

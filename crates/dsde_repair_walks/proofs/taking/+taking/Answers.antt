@@ -1,8 +1,7 @@
-use Rattle.std.proofs.Common.{rules, ◌≡◌, sym, ap, ◌∙◌, subst, arith, Some}
-use Rattle.dsde_routes_wiring.specs.Places.{changed, bared}
-use Rattle.dsde_routes_wiring.specs.declared.wiring.WiredKid.TheViews.{out-Wiring}
+use Rattle.std.proofs.Common.{rules, sym, ◌∙◌, subst}
+use Rattle.dsde_routes_wiring.specs.Places.{bared}
 use Rattle.dsde_repair_walks.specs.Found.{InOrder, IsAt}
-use Rattle.dsde_repair_walks.proofs.Finding.{ok-map, kids-in-order, found-wired, set-there, none-there, kids-found, kids-missing, here-changed, here-kids}
+use Rattle.dsde_repair_walks.proofs.Finding.{ok-map, kids-in-order, found-wired, set-there, none-there, kids-found, kids-missing}
 use Rattle.dsde_repair_walks.proofs.Walking.{ok-if}
 use Rattle.dsde_repair_walks.proofs.taking.+taking.Goals as goal
 

@@ -1,12 +1,12 @@
-use Rattle.std.proofs.Common.{rules, ◌≡◌, [], ◌++◌, ◌<◌, ◌≤◌, get_or, length, sym, ap, ◌∙◌, subst, arith, Some, map, IfOk, OnOk, append_assoc, append-nil}
+use Rattle.std.proofs.Common.{[], ◌++◌, ◌<◌, ◌≤◌, get_or, length, sym, ap, ◌∙◌, subst, arith, map, append-nil}
 use Rattle.dsde_routes_wiring.specs.declared.wiring.WiredKid.TheViews.{out-Wiring}
 use Rattle.dsde_routes_wiring.specs.Routes.{is_border}
 use Rattle.dsde_repair_walks.specs.Found.{InOrder, IsAt}
 use Rattle.std.specs.List.{flat_map}
 use Rattle.dsde_repair_walks.proofs.Serving.{link-none, link-some, numbers-done}
-use Rattle.dsde_repair_walks.specs.Walks.{link_at, ranked, extended_way, ways_over, ways_at, kid_ways}
+use Rattle.dsde_repair_walks.specs.Walks.{link_at, ranked, extended_way, ways_over, ways_at}
 use Rattle.dsde_repair_walks.proofs.Finding.{kids-in-order, found-wired, ok-map}
-use Rattle.dsde_repair_walks.proofs.Walking.{over-border, over-none, ways-whole, none-ways, found-ways, fewer-handles, below-handles, ok-if, at-kid}
+use Rattle.dsde_repair_walks.proofs.Walking.{over-border, ways-whole, none-ways, found-ways, fewer-handles, ok-if, at-kid}
 use Rattle.dsde_repair_walks.proofs.walk.+walking.Goals as goal
 
 pub ways_by-returns : goal.ways_by-returns

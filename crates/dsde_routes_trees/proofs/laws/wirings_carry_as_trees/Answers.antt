@@ -1,4 +1,4 @@
-use Rattle.dsde_routes_trees.proofs.Tying.{each-tied}
+use Rattle.dsde_routes_trees.proofs.Tying.{each-tied, root-handle}
 use Rattle.dsde_routes_trees.proofs.laws.wirings_carry_as_trees.Goals as goal
 
 pub returns-clause-received : goal.returns-clause-received
@@ -6,3 +6,6 @@ returns-clause-received c = λ system handle time traffic net path of got. (each
 
 pub returns-clause-sent : goal.returns-clause-sent
 returns-clause-sent c = λ system handle time traffic net path of. (each-tied system handle time traffic of.translate net path of.each).0
+
+pub returns-clause-root : goal.returns-clause-root
+returns-clause-root c = λ system handle time traffic net path of. root-handle system handle time traffic of.translate net path

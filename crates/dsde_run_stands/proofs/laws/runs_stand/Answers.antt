@@ -16,6 +16,7 @@ returns c = λ model spots bytes turns more right can.
       start_stands = c.trees_stand.ensures.start;
       advance_stands = c.trees_stand.ensures.advance;
       taken = c.turns_are_taken.ensures;
+      in_time = c.turns_are_in_time.ensures;
       start_named = c.trees_are_named.ensures.start;
       turn_named = c.trees_are_named.ensures.turn;
       movers = c.turns_move_one_by_one.ensures;

@@ -1,0 +1,4 @@
+pub mod Coming
+pub mod Fitting
+pub mod Returning
+pub mod Storing

@@ -1,0 +1,20 @@
+-- What the words ask a run to be.
+use Rattle.std.specs.Prelude.{Option, Some, None}
+use Rattle.dsde_input_records.specs.Records.{Records}
+use Rattle.dsde_run_meaning.specs.Run.{Run}
+use Rattle.dsde_run.specs.Run.{Running, run}
+use Rattle.dsde_cli_command.specs.Commands.{RunCommand}
+use Rattle.dsde_cli_command.specs.declared.command.Only.{Only}
+use Rattle.dsde_cli_command.specs.declared.command.Only.TheVariants as only
+use Rattle.dsde_trace.specs.declared.pick.Pick.{Pick}
+use Rattle.dsde_trace.specs.declared.pick.Pick.TheVariants.{All, Outputs, Structure}
+
+-- the lines that a command keeps: all, where it does not say which
+abbrev pub pick_of : Option Only → Pick
+pick_of None = All
+pick_of (Some only.Outputs) = Outputs
+pick_of (Some only.Structure) = Structure
+
+-- what the run tells on records
+abbrev pub tells_on : Running → RunCommand → Records → Run
+tells_on own asked records = run own records asked.turns

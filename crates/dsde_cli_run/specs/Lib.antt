@@ -1,0 +1,6 @@
+pub mod Asked
+pub mod Back
+pub mod Loads
+pub mod Outcome
+pub mod Saved
+pub mod lemmas

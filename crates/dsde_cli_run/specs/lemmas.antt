@@ -1,0 +1,3 @@
+-- Lemmas that the crate above cites.
+pub mod Fronts
+pub mod Later

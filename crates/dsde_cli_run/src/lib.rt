@@ -1,0 +1,10 @@
+//! Programs are run, or runs of them are taken up again, and their images stored, each with the status that
+//! says how it ended.
+#![tactic(auto)]
+
+mod resume;
+mod run;
+mod save;
+
+pub use resume::resume_and_store;
+pub use run::{run_and_store, status_by};

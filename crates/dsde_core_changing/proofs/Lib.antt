@@ -1,0 +1,4 @@
+pub mod Names
+pub mod Room
+pub mod Staying
+pub mod Whole

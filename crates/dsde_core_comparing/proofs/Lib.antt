@@ -1,0 +1,3 @@
+mod Surviving
+mod Holding
+mod Stepping

@@ -1,0 +1,38 @@
+use Rattle.std.proofs.Common.{◌≡◌, ℕ, List, ◌∷◌, Option, sym, ap, subst, ◌∙◌}
+use Rattle.dsde_bank.specs.declared.handle.Handle.{Handle}
+use Rattle.dsde_formalism.specs.declared.leaf.Leaf.{Leaf}
+use Rattle.dsde_system.specs.Fitting.{FitsInputs, FitsLeaf}
+use Rattle.dsde_grove.specs.Grove.{Grove, value_of}
+use Rattle.dsde_core_flat.specs.declared.spot.Spot.{Spot}
+use Rattle.dsde_core_flat.specs.Scheduled.{IsScheduledBut}
+use Rattle.dsde_core_flat.specs.Shown.{leaf_in}
+use Rattle.dsde_core_moves.specs.Moved.{StaysOf}
+use Rattle.dsde_core_moves.proofs.Valued.{leaf-held, valued-here}
+use Rattle.dsde_core_moves.proofs.moving.component_moves.Goals as goal
+
+pub returns-clause-fits : goal.returns-clause-fits
+returns-clause-fits g c =
+    let here = ap (λ (own : Grove Spot). value_of own c.args.handle) c.put_moved.ensures.put ∙ valued-here c.args.grove.now c.args.handle c.in_ok-moved.moved c.requires.live in
+    subst (λ (held : Option Spot). FitsLeaf c.args.program.now (leaf_in held)) (sym here) c.in_ok-moved.ensures.fits
+
+pub returns-clause-stays : goal.returns-clause-stays
+returns-clause-stays g c =
+    let here = ap (λ (own : Grove Spot). value_of own c.args.handle) c.put_moved.ensures.put ∙ valued-here c.args.grove.now c.args.handle c.in_ok-moved.moved c.requires.live in
+    let was = leaf-held (value_of c.args.grove.now c.args.handle) c.in-Some.leaf.now c.in-Some.ensures.leaf in
+    subst (λ (held : Option Spot). StaysOf (leaf_in (value_of c.args.grove.now c.args.handle)) (leaf_in held)) (sym here)
+    (subst (λ (old : Leaf). StaysOf old c.in_ok-moved.moved) (sym was)
+    (record { model = c.in_ok-moved.ensures.model; args = c.in_ok-moved.ensures.args; boss = c.in_ok-moved.ensures.boss }))
+
+pub returns-clause-waits : goal.returns-clause-waits
+returns-clause-waits g c rest but =
+    c.put_moved.ensures.waits rest (subst (λ (pairs : List (ℕ × Handle)). IsScheduledBut c.args.grove.now (c.args.handle ∷ rest) pairs) (sym c.in_ok-reserve.ensures.kept) but)
+
+pub take_move-requires-clause-leaf : goal.take_move-requires-clause-leaf
+take_move-requires-clause-leaf g c =
+    let was = leaf-held (value_of c.args.grove.now c.args.handle) c.in-Some.leaf.now c.in-Some.ensures.leaf in
+    subst (FitsLeaf c.args.program.now) was c.requires.fits
+
+pub take_move-requires-clause-got : goal.take_move-requires-clause-got
+take_move-requires-clause-got g c =
+    let was = leaf-held (value_of c.args.grove.now c.args.handle) c.in-Some.leaf.now c.in-Some.ensures.leaf in
+    subst (λ (leaf : Leaf). FitsInputs c.args.program.now leaf.model.0 c.args.got) was c.requires.got

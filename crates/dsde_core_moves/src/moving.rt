@@ -1,0 +1,65 @@
+//! A component or an executive moves where it lies.
+
+ghost use Rattle.std.specs.Prelude.{◌≡◌, ◌+◌, ◌<◌, ◌≤◌, ◌^◌, ◌∷◌, length, List, IsSome, OnOk};
+ghost use Rattle.dsde_bank.specs.declared.handle.Handle.{Handle};
+ghost use Rattle.dsde_values.specs.When.{IsMoment};
+ghost use Rattle.dsde_system.specs.Fitting.{FitsInputs, FitsLeaf};
+ghost use Rattle.dsde_system.specs.Program.{system};
+ghost use Rattle.dsde_sim_events.specs.Told.{◌then◌, Tells};
+ghost use Rattle.dsde_sim_tree.specs.Move.{take_move};
+ghost use Rattle.dsde_grove.specs.Grove.{value_of, IsTree};
+ghost use Rattle.dsde_core_flat.specs.Scheduled.{held_leaf, IsScheduledBut};
+ghost use Rattle.dsde_core_flat.specs.Shown.{leaf_in};
+ghost use Rattle.dsde_core_moves.specs.Moved.{after, put_under, StaysOf};
+
+use crate::held::put_moved;
+use dsde_bank::Handle;
+use dsde_base::Steps;
+use dsde_core_due::leaf_at;
+use dsde_core_flat::Spot;
+use dsde_formalism::MoveKind;
+use dsde_grove::Grove;
+use dsde_program::Program;
+use dsde_queue::Queue;
+use dsde_sim_events::{Event, TurnEnd};
+use dsde_sim_moving::take_move;
+use dsde_values::{Path, Seq, Values};
+use std::alloc::Global;
+use std::sync::ledger::Ledger;
+
+/// The component or the executive under a handle, at this path, takes this transition with what came to it,
+/// which is told, and its next event is scheduled: it waits no longer. Counts at most 4 looks. A fault ends
+/// it, or `Memory` where there is none: then it is as it was.
+pub fn component_moves<L: Ledger>(
+    alloc: Global,
+    program: &Program,
+    grove: &mut Grove<Spot>,
+    queue: &mut Queue,
+    handle: Handle,
+    kind: MoveKind,
+    path: &Path,
+    time: u64,
+    got: Seq<Values>,
+    events: &mut Seq<Event>,
+    looks: &mut Steps<L>,
+) -> Result<(), TurnEnd>
+    requires moment { IsMoment time }
+    requires live { IsSome (held_leaf (value_of grove.old handle)) }
+    requires fits { FitsLeaf program.now (leaf_in (value_of grove.old handle)) }
+    requires got { FitsInputs program.now (leaf_in (value_of grove.old handle)).model.0 got }
+    requires few { length got < 2 ^ 32 }
+    ensures told { Tells (take_move (system program.now) (leaf_in (value_of grove.old handle)) kind path.now time got then put_under grove.old handle) events.old events.new (after result grove.new) }
+    ensures fits { OnOk result (FitsLeaf program.now (leaf_in (value_of grove.new handle))) }
+    ensures stays { OnOk result (StaysOf (leaf_in (value_of grove.old handle)) (leaf_in (value_of grove.new handle))) }
+    ensures waits { (rest : List Handle) → IsScheduledBut grove.old (handle ∷ rest) queue.old.pairs → OnOk result (IsScheduledBut grove.new rest queue.new.pairs) }
+    ensures tree { OnOk result (IsTree grove.new) }
+    ensures ticks { looks.new ≤ looks.old + 4 }
+{
+    queue.reserve(1)?;
+    let Some(leaf) = leaf_at(grove, handle, looks) else {
+        unreachable!();
+    };
+    let moved = take_move(alloc, program, leaf, kind, path, time, got, events)?;
+    put_moved(grove, queue, handle, moved, looks);
+    Ok(())
+}

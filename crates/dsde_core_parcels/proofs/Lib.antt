@@ -1,0 +1,4 @@
+mod Translating
+mod Putting
+mod Pushing
+mod Adding

@@ -1,0 +1,5 @@
+pub mod Along
+pub mod Parcels
+pub mod Inboxes
+pub mod Ports
+pub mod lemmas

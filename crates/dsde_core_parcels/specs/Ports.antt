@@ -1,0 +1,10 @@
+-- What comes to a target, port by port.
+use Rattle.std.specs.Prelude.{List, [], ◌∷◌}
+use Rattle.dsde_structure.specs.Gather.{Ports}
+use Rattle.dsde_sim_gathering.specs.Boxes.{added}
+use Rattle.dsde_core_parcels.specs.declared.inbox.Get.{Get}
+
+-- one after another, each behind what is there at its port; what is for a port that there is not is lost
+abbrev pub add_all : List Get → Ports → Ports
+add_all [] ports = ports
+add_all (get ∷ gets) ports = add_all gets (added get.port get.values ports)

@@ -1,0 +1,6 @@
+mod Members
+mod Apart
+mod Received
+mod Cut
+mod Delivering
+mod Calling

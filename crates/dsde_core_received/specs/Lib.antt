@@ -1,0 +1,4 @@
+pub mod Sent
+pub mod Brought
+pub mod Delivered
+pub mod lemmas

@@ -1,0 +1,4 @@
+pub mod Taking
+pub mod Started
+pub mod Needed
+pub mod Permuted

@@ -1,0 +1,3 @@
+pub mod Fitting
+mod Places
+mod Handles

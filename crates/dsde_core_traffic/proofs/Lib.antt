@@ -1,0 +1,8 @@
+mod Going
+mod Flowing
+mod Wiring
+mod Handling
+mod Placing
+mod Porting
+mod Carrying
+mod Outlets
