@@ -1,5 +1,5 @@
 -- What holds of a whole wiring, by what was found of its parts.
-use Rattle.std.proofs.Common.{◌≡◌, Bool, true, false, if◌then◌else◌, List, [], ◌∷◌, ◌++◌, Some, None, Option, Result, Ok, Err, IfOk, IfSome, append_assoc, append-nil, sym, ap, ap₂, ◌∙◌, subst, refl}
+use Rattle.std.proofs.Common.{◌≡◌, Bool, true, false, if◌then◌else◌, List, [], ◌∷◌, ◌++◌, Some, None, Option, Result, Ok, Err, IfOk, MatchOption, append_assoc, append-nil, sym, ap, ap₂, ◌∙◌, subst, refl}
 use Rattle.std.specs.Bool.{OnTrue}
 use Rattle.std.specs.List.{AllByRecursion, flat_map}
 use Rattle.dsde_bank.specs.declared.handle.Handle.{Handle}
@@ -52,9 +52,9 @@ leaf-handles kid is = kid-handles kid ∙ ap (below_known (out-WiredKid kid).han
 pub below-handles : (kid : WiredKid) (net : Wiring) → (out-WiredKid kid).below ≡ Some net → handles_of_kid kid ≡ handles_of net
 below-handles kid net is = kid-handles kid ∙ ap (below_known (out-WiredKid kid).handle) is
 
-pub if-some : {X : Type 0} (found : Option X) (P Q : X → Type 0) → ((x : X) → P x → Q x) → IfSome found P → IfSome found Q
-if-some None P Q gives holds = tt
-if-some (Some x) P Q gives holds = gives x holds
+pub match-option : {X : Type 0} (found : Option X) (N M : Type 0) (P Q : X → Type 0) → (N → M) → ((x : X) → P x → Q x) → MatchOption found N P → MatchOption found M Q
+match-option None N M P Q none some holds = none holds
+match-option (Some x) N M P Q none some holds = some x holds
 
 -- the network at a place, by the component that leads there
 module _ (name : Name) (place : List Name) where
@@ -79,9 +79,14 @@ module _ (name : Name) (place : List Name) where
   nets-middle [] kid after none named later = ap₂ (λ (xs ys : List Wiring). xs ++ ys) (nets-named kid named) (nets-none after later) ∙ append-nil (below_at (nets_at place) (out-WiredKid kid).below)
   nets-middle (own ∷ before) kid after none named later = ap₂ (λ (xs ys : List Wiring). xs ++ ys) (nets-other own none.0) (nets-middle before kid after none.1 named later)
 
-pub nets-found : (place rest : List Name) (name : Name) → place ≡ name ∷ rest → (wiring : Wiring) (kid : WiredKid) → IsOne name (out-Wiring wiring).kids kid → (net : Wiring) → (out-WiredKid kid).below ≡ Some net → nets_at place wiring ≡ nets_at rest net
-nets-found place rest name is wiring kid one net below =
+-- where no component has the name the place leads nowhere
+pub nets-missing : (place rest : List Name) (name : Name) → place ≡ name ∷ rest → (wiring : Wiring) → AllByRecursion (λ kid. is_named name kid ≡ false) (out-Wiring wiring).kids → nets_at place wiring ≡ []
+nets-missing place rest name is wiring none = ap (λ own. nets_at own wiring) is ∙ nets-none name rest (out-Wiring wiring).kids none
+
+-- else it leads on beneath the one that has it
+pub nets-found : (place rest : List Name) (name : Name) → place ≡ name ∷ rest → (wiring : Wiring) (kid : WiredKid) → IsOne name (out-Wiring wiring).kids kid → nets_at place wiring ≡ below_at (nets_at rest) (out-WiredKid kid).below
+nets-found place rest name is wiring kid one =
     let at : IsAt name (out-Wiring wiring).kids one.0 = one.1 in
     let same : at.kid ≡ kid = some-one at.kid kid (sym (kid-at name (out-Wiring wiring).kids one.0 at) ∙ one.2) in
     ap (λ own. nets_at own wiring) is ∙ ap (flat_map (kid_at name (nets_at rest))) at.is ∙ nets-middle name rest at.before at.kid at.after at.none_before at.named at.none_after
-    ∙ ap (λ (own : WiredKid). below_at (nets_at rest) (out-WiredKid own).below) same ∙ ap (below_at (nets_at rest)) below
+    ∙ ap (λ (own : WiredKid). below_at (nets_at rest) (out-WiredKid own).below) same

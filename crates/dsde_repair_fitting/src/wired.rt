@@ -1,6 +1,6 @@
 //! What each network of a wiring keeps.
 
-ghost use Rattle.std.specs.Prelude.{◌≡◌, false, ◌∷◌, [], IfOk, IfSome};
+ghost use Rattle.std.specs.Prelude.{◌≡◌, false, ◌∷◌, [], IfOk, MatchOption};
 ghost use Rattle.std.specs.Bool.{OnTrue};
 ghost use Rattle.std.specs.List.{AllByRecursion};
 ghost use Rattle.dsde_routes_wiring.specs.Wired.{AreWired, LeadsInside};
@@ -78,10 +78,10 @@ fn is_wired_below(alloc: Global, kid: &WiredKid) -> Result<bool, Memory>
     }
 }
 
-/// The network at a place, if it leads to one.
+/// The network at a place of a wiring; `None` exactly where the place leads to none.
 pub fn net_at<'w>(wiring: &'w Wiring, place: &[Name]) -> Option<&'w Wiring>
     requires { AreWired wiring.now }
-    ensures { IfSome result (λ net. nets_at place.now wiring.now ≡ net.now ∷ []) }
+    ensures { MatchOption result (nets_at place.now wiring.now ≡ []) (λ net. nets_at place.now wiring.now ≡ net.now ∷ []) }
 {
     match place.split_first() {
         None => Some(wiring),
