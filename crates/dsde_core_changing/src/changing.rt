@@ -86,6 +86,7 @@ pub fn change<L: Ledger>(
     ensures itself { OnOk result (value_of grove.new (out-Wiring wiring.now).me ≡ value_of grove.old (out-Wiring wiring.now).me) }
     ensures executive { OnOk result (value_of grove.new (out-Wiring wiring.now).boss ≡ value_of grove.old (out-Wiring wiring.now).boss) }
     ensures born { IfOk result (λ changed. grove.new.next_birth + changed.room ≡ grove.old.next_birth + room + parts_of_kids (gone entries (shown grove.old (out-Wiring wiring.now).kids))) }
+    ensures room { IfOk result (λ changed. parts_of_kids (shown grove.new changed.fresh) + changed.room ≡ room + parts_of_kids (gone entries (shown grove.old (out-Wiring wiring.now).kids))) }
     ensures young { IfOk result (λ changed. (birth : ℕ) → HasBirth birth (places_of path.now changed.fresh) → grove.old.next_birth ≤ birth) }
     ensures waits { (waiting : List Handle) → IsScheduledBut grove.old waiting queue.old.pairs → OnOk result (IsScheduledBut grove.new waiting queue.new.pairs) }
     ensures tree { OnOk result (IsTree grove.new) }

@@ -232,6 +232,13 @@ returns-clause-born g c =
     let is = lost-gone own c.args.entries kids c.as_slice.result.now c.in_ok-gone.gone (c.as_slice.ensures ∙ c.in_ok-tests.ensures.tests) (c.in_ok-gone.ensures ∙ ap (λ (ts : List Bool). map name_of (lost ts kids)) (sym c.as_slice.ensures)) (wired-order own c.args.entries kids c.requires.named.order) in
     omega (arith, ap parts_of_kids is, c.in_ok-more.ensures.born, c.in_ok-more.ensures.room, c.in_ok-fresh.ensures.grafted.next, c.in_ok-fresh.ensures.room)
 
+pub returns-clause-room : goal.returns-clause-room
+returns-clause-room g c =
+    let own = c.args.grove.now in
+    let kids = (out-Wiring c.args.wiring.now).kids in
+    let is = lost-gone own c.args.entries kids c.as_slice.result.now c.in_ok-gone.gone (c.as_slice.ensures ∙ c.in_ok-tests.ensures.tests) (c.in_ok-gone.ensures ∙ ap (λ (ts : List Bool). map name_of (lost ts kids)) (sym c.as_slice.ensures)) (wired-order own c.args.entries kids c.requires.named.order) in
+    omega (arith, ap parts_of_kids is, c.in_ok-more.ensures.room, c.in_ok-fresh.ensures.room)
+
 pub returns-clause-waits : goal.returns-clause-waits
 returns-clause-waits g c waiting but = c.in_ok-fresh.ensures.waits waiting (c.in_ok-more.ensures.waits waiting c.args.queue.now.pairs but)
 
