@@ -1,0 +1,5 @@
+mod Opening
+mod Permuting
+mod Working
+mod Closing
+mod Ending
