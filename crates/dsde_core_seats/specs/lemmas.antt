@@ -1,0 +1,4 @@
+-- Lemmas that the crates above cite.
+pub mod Seated
+pub mod Leaves
+pub mod Living
