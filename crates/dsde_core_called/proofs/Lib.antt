@@ -1,0 +1,7 @@
+mod Taking
+mod Bringing
+mod Members
+mod Standing
+mod Moving
+mod Typing
+mod Sending
