@@ -6,3 +6,4 @@ mod outlets;
 mod sending;
 
 pub use outlets::turn_outlets;
+pub use sending::sent;

@@ -41,7 +41,12 @@ fn sent_at(alloc: Global, program: &Program, leaf: &Leaf, time: u64) -> Result<S
 }
 
 /// What a component or an executive sends at this time, port by port.
-fn sent(alloc: Global, program: &Program, leaf: &Leaf, time: u64) -> Result<Seq<Values>, LeafEnd>
+pub fn sent(
+    alloc: Global,
+    program: &Program,
+    leaf: &Leaf,
+    time: u64,
+) -> Result<Seq<Values>, LeafEnd>
     requires { FitsLeaf program.now leaf.now }
     ensures gives { Gives (sent (system program.now) leaf.now time) result }
     ensures fits { IfOk result (λ sent. FitsBodySent program.now leaf.now.model.0 sent) }

@@ -1,4 +1,4 @@
-use Rattle.dsde_core_sending.proofs.Sent.{all-send}
+use Rattle.dsde_core_sending.proofs.Outgoing.{all-send}
 use Rattle.dsde_core_sending.proofs.outlets.turn_outlets.Goals as goal
 
 pub returns-clause-send : goal.returns-clause-send

@@ -1,7 +1,7 @@
 use Rattle.std.proofs.Common.{List, sym, ap, ◌∙◌}
 use Rattle.dsde_values.specs.declared.arrival.Item.{Item}
 use Rattle.dsde_sim_tree.specs.Output.{by_port}
-use Rattle.dsde_core_sending.proofs.Sent.{body-sent}
+use Rattle.dsde_core_sending.proofs.Outgoing.{body-sent}
 use Rattle.dsde_core_sending.proofs.sending.sent.Goals as goal
 
 pub returns-clause-fits : goal.returns-clause-fits

@@ -1,5 +1,5 @@
 use Rattle.dsde_grove.specs.Grove.{value_of}
-use Rattle.dsde_core_sending.proofs.Sent.{leaf-is}
+use Rattle.dsde_core_sending.proofs.Outgoing.{leaf-is}
 use Rattle.dsde_core_sending.proofs.sending.sent_by.Goals as goal
 
 pub sent-requires : goal.sent-requires
