@@ -1,2 +1,3 @@
 pub mod Sitting
+pub mod Keeping
 pub mod Stepping

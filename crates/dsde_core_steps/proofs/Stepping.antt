@@ -1,5 +1,5 @@
 -- The step of an atomic component where it lies is its step in the tree.
-use Rattle.std.proofs.Common.{◌≡◌, inl, inr, ℕ, ◌^◌, ◌<◌, Bool, true, false, List, [], ◌∷◌, ◌++◌, length, drop, Option, Some, None, Result, Ok, Err, OnOk, IsSome, refl, sym, ap, subst, ◌∙◌}
+use Rattle.std.proofs.Common.{◌≡◌, ◌≢◌, inl, inr, ℕ, ◌^◌, ◌<◌, Bool, true, false, List, [], ◌∷◌, ◌++◌, length, drop, Option, Some, None, Result, Ok, Err, OnOk, IsSome, refl, sym, ap, subst, ◌∙◌}
 use Rattle.std.specs.Option.{option_map}
 use Rattle.std.specs.List.{AllByRecursion}
 use Rattle.std.specs.FinMap as map
@@ -55,6 +55,7 @@ use Rattle.dsde_core_steps.specs.declared.flat.Flat.{Flat}
 use Rattle.dsde_core_steps.specs.declared.flat.Mover.{Mover}
 use Rattle.dsde_core_steps.specs.Flat.{delivery_of, leaf_of, rows_of, tree_of, with_tree, IsComponent, IsThere, Stands}
 use Rattle.dsde_core_steps.proofs.Sitting.{none-boss, seat-component, sits, Sits}
+use Rattle.dsde_core_steps.proofs.Keeping.{value-other}
 
 -- a step that ends behind a view ends behind any other
 stop-any : {A B C : Type 0} (events : List Event) (end : Result A TurnEnd) (view : A → B) (next : A → Told C) (old new : List Event) (e : TurnEnd) →
@@ -245,3 +246,15 @@ module _ (model : Model) (flat : Flat) (mover : Mover) (stands : Stands model fl
       pub others-by : {U : Type 0} (result : Result U TurnEnd) → Tells put_step old new (after result own) → Kept result → OnOk result ((other : Mover) → IsThere flat other → IsThere next_flat other)
       others-by (Ok done) tells kept = others-there tells kept.0 kept.1 kept.2
       others-by (Err end) tells kept = tt
+
+      -- no part is born
+      pub births-by : {U : Type 0} (result : Result U TurnEnd) → Tells put_step old new (after result own) → OnOk result (own.next_birth ≡ flat.grove.next_birth)
+      births-by (Ok done) tells = ap (λ (g : Grove Spot). g.next_birth) (put-at flat.grove mover.handle taken.events taken.end old new own tells).is
+      births-by (Err end) tells = tt
+
+      -- under each other handle lies what lay there
+      pub kept-by : {U : Type 0} (result : Result U TurnEnd) → Tells put_step old new (after result own) → OnOk result ((handle : Handle) → handle ≢ mover.handle → value_of own handle ≡ value_of flat.grove handle)
+      kept-by (Ok done) tells = λ handle apart.
+          let put = put-at flat.grove mover.handle taken.events taken.end old new own tells in
+          ap (λ (g : Grove Spot). value_of g handle) put.is ∙ value-other flat.grove mover.handle (variant.Leaf put.leaf) there.part there.live handle apart
+      kept-by (Err end) tells = tt

@@ -1,6 +1,6 @@
 //! A component moves.
 
-ghost use Rattle.std.specs.Prelude.{◌≡◌, ◌+◌, ◌<◌, ◌≤◌, ◌^◌, ◌∷◌, ℕ, length, List, Some, OnOk};
+ghost use Rattle.std.specs.Prelude.{◌≡◌, ◌≢◌, ◌+◌, ◌<◌, ◌≤◌, ◌^◌, ◌∷◌, ℕ, length, List, Some, OnOk};
 ghost use Rattle.dsde_bank.specs.declared.handle.Handle.{Handle};
 ghost use Rattle.dsde_values.specs.Path.{root};
 ghost use Rattle.dsde_values.specs.When.{IsMoment};
@@ -8,6 +8,7 @@ ghost use Rattle.dsde_formalism.specs.Leaf.{kind_of};
 ghost use Rattle.dsde_system.specs.Fitting.{FitsInputs};
 ghost use Rattle.dsde_system.specs.Program.{system};
 ghost use Rattle.dsde_sim_events.specs.Told.{Tells};
+ghost use Rattle.dsde_grove.specs.Grove.{value_of};
 ghost use Rattle.dsde_sim_movers.specs.Movers.{move_one};
 ghost use Rattle.dsde_core_flat.specs.Scheduled.{IsScheduledBut};
 ghost use Rattle.dsde_core_steps.specs.Flat.{delivery_of, leaf_of, tree_of, with_tree, IsComponent, IsThere, Stands};
@@ -25,8 +26,8 @@ use std::alloc::Global;
 use std::sync::ledger::Ledger;
 
 /// An atomic component takes this transition with what it received, where it lies: its step in the tree. Its
-/// next event is scheduled, and it waits no longer. Counts at most 4 looks. A fault ends it, or `Memory` where
-/// there is none.
+/// next event is scheduled, and it waits no longer; under each other handle lies what lay there. Counts at most
+/// 4 looks. A fault ends it, or `Memory` where there is none.
 pub fn component_steps<L: Ledger>(
     alloc: Global,
     program: &Program,
@@ -47,7 +48,9 @@ pub fn component_steps<L: Ledger>(
     ensures told { (room : ℕ) → Tells (move_one (system program.now) root time (delivery_of mover) (tree_of flat.old) room) events.old events.new (with_tree flat.new room result) }
     ensures stands { OnOk result (Stands program.now flat.new) }
     ensures others { OnOk result ((other : AMover) → IsThere flat.old other → IsThere flat.new other) }
+    ensures kept { OnOk result ((handle : Handle) → handle ≢ mover.handle → value_of flat.new.grove handle ≡ value_of flat.old.grove handle) }
     ensures waits { (rest : List Handle) → IsScheduledBut flat.old.grove (mover.handle ∷ rest) flat.old.queue.pairs → OnOk result (IsScheduledBut flat.new.grove rest flat.new.queue.pairs) }
+    ensures births { OnOk result (flat.new.grove.next_birth ≡ flat.old.grove.next_birth) }
     ensures ticks { looks.new ≤ looks.old + 4 }
 {
     movers_take_their_steps();

@@ -1,5 +1,5 @@
 use Rattle.dsde_system.specs.Program.{system}
-use Rattle.dsde_core_steps.proofs.Stepping.{leaf-fits, leaf-live, others-by, stands-by, told-by}
+use Rattle.dsde_core_steps.proofs.Stepping.{births-by, kept-by, leaf-fits, leaf-live, others-by, stands-by, told-by}
 use Rattle.dsde_core_steps.proofs.component.component_steps.Goals as goal
 
 pub component_moves-requires-clause-live : goal.component_moves-requires-clause-live
@@ -27,3 +27,15 @@ returns-clause-others g c =
     others-by a.program.now a.flat.now a.mover c.requires.stands c.requires.there c.requires.component a.time a.kind c.requires.kind (c.movers_take_their_steps.ensures.component (system a.program.now))
     c.component_moves.new.grove c.component_moves.new.queue a.events.now c.component_moves.new.events c.component_moves.result c.component_moves.ensures.told
     (c.component_moves.ensures.fits, c.component_moves.ensures.stays, c.component_moves.ensures.tree)
+
+pub returns-clause-births : goal.returns-clause-births
+returns-clause-births g c =
+    let a = c.args in
+    births-by a.program.now a.flat.now a.mover c.requires.stands c.requires.there c.requires.component a.time a.kind c.requires.kind (c.movers_take_their_steps.ensures.component (system a.program.now))
+    c.component_moves.new.grove c.component_moves.new.queue a.events.now c.component_moves.new.events c.component_moves.result c.component_moves.ensures.told
+
+pub returns-clause-kept : goal.returns-clause-kept
+returns-clause-kept g c =
+    let a = c.args in
+    kept-by a.program.now a.flat.now a.mover c.requires.stands c.requires.there c.requires.component a.time a.kind c.requires.kind (c.movers_take_their_steps.ensures.component (system a.program.now))
+    c.component_moves.new.grove c.component_moves.new.queue a.events.now c.component_moves.new.events c.component_moves.result c.component_moves.ensures.told
