@@ -1,0 +1,7 @@
+mod Seating
+mod Again
+mod Follows
+mod Owning
+mod Moved
+mod Stepped
+mod Spared
