@@ -1,0 +1,33 @@
+-- Those who move in a turn of a tree that lies in a grove.
+use Rattle.std.specs.Prelude.{◌≡◌, ◌<◌, ◌^◌, ℕ, false, List, length, map}
+use Rattle.std.specs.List.{AllByRecursion}
+use Rattle.dsde_bank.specs.declared.handle.Handle.{Handle}
+use Rattle.dsde_syntax.specs.declared.decl.Model.{Model}
+use Rattle.dsde_values.specs.declared.arrival.Item.{Item}
+use Rattle.dsde_values.specs.Path.{root}
+use Rattle.dsde_system.specs.Program.{system}
+use Rattle.dsde_system.specs.Fitting.{FitsInputs}
+use Rattle.dsde_sim_movers.specs.Turns.{turn_movers}
+use Rattle.dsde_sim_orders.specs.Orders.{is_above}
+use Rattle.dsde_core_steps.specs.declared.flat.Flat.{Flat}
+use Rattle.dsde_core_steps.specs.declared.flat.Mover.{Mover}
+use Rattle.dsde_core_steps.specs.Flat.{delivery_of, leaf_of, tree_of, IsThere}
+
+-- whose handle
+abbrev pub handle_of : Mover → Handle
+handle_of mover = mover.handle
+
+-- The one is no executive beneath whose network the other stands.
+abbrev pub Spares : Mover → Mover → Type 0
+Spares own other = is_above root (delivery_of own) (delivery_of other) ≡ false
+
+-- What a mover receives fits it.
+pub record FitsMover (model : Model) (flat : Flat) (mover : Mover) : Type 0 where
+  pub got : FitsInputs model (leaf_of flat mover).model.0 mover.got
+  pub few : length mover.got < 2 ^ 32
+
+-- These are the movers of a turn with these items of input, in path order, each where it lies.
+pub record AreMovers (model : Model) (flat : Flat) (time : ℕ) (items : List Item) (list : List Mover) : Type 0 where
+  pub all : map delivery_of list ≡ turn_movers (system model) (tree_of flat) time items
+  pub there : AllByRecursion (IsThere flat) list
+  pub fit : AllByRecursion (FitsMover model flat) list
