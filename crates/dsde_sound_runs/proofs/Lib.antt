@@ -1,14 +1,14 @@
-mod Relied
-mod Safe
-mod Ports
-mod Opens
+pub mod Relied
+pub mod Safe
+pub mod Ports
+pub mod Opens
 mod Leaves
-mod Starting
+pub mod Starting
 mod Changing
-mod Sending
-mod Moving
+pub mod Sending
+pub mod Moving
 mod Times
-mod Turning
-mod Running
+pub mod Turning
+pub mod Running
 mod Arriving
 mod Fitting

@@ -53,23 +53,28 @@ module _ (model : Model) (laws : Laws model) (time : ℕ) (moment : IsMoment tim
       (path : Path) (got : Ports) (room : ℕ) → FitsTree model own → Receives model (model_of own).0 got
       → Safe (λ after. IsPart model (model_of own) (args_of own) after.0) (move (system model) own path time got room).end
 
-  leaf-case : (leaf : Leaf) → Moved (sim.Leaf leaf)
-  leaf-case leaf path got room fits has =
-      let atomic : FitsAtomic model leaf = leaf-tree model leaf fits in
-      let came : FitsInputs model leaf.model.0 got = inputs-of model leaf got atomic (subst (λ (number : ModelId). Receives model number.0 got) (model-leaf leaf) has) in
-      subst (λ (step : Told (Sim × ℕ)). Safe (λ after. IsPart model (model_of (sim.Leaf leaf)) (args_of (sim.Leaf leaf)) after.0) step.end) (sym (move-Leaf (system model) leaf path time got room))
-      (safe-then (IsLeaf model leaf.model leaf.boss leaf.args) (λ after. IsPart model (model_of (sim.Leaf leaf)) (args_of (sim.Leaf leaf)) after.0) (move_leaf_at (system model) leaf path time got) (as_leaf room)
+  -- an atomic component moves with what came to it, or faults
+  pub leaf-steps : (leaf : Leaf) (path : Path) (got : Ports) (room : ℕ) → FitsAtomic model leaf → FitsInputs model leaf.model.0 got →
+      Safe (λ after. IsPart model (model_of (sim.Leaf leaf)) (args_of (sim.Leaf leaf)) after.0) (move_leaf_at (system model) leaf path time got then as_leaf room).end
+  leaf-steps leaf path got room atomic came =
+      safe-then (IsLeaf model leaf.model leaf.boss leaf.args) (λ after. IsPart model (model_of (sim.Leaf leaf)) (args_of (sim.Leaf leaf)) after.0) (move_leaf_at (system model) leaf path time got) (as_leaf room)
       (leaf-moves model laws time moment leaf atomic.fits got came (kind_of leaf time got) path)
       (λ after own.
       let same : IsPart model leaf.model leaf.args (sim.Leaf after) = leaf-part model leaf.model leaf.args after atomic.atomic (record { fits = own.fits; model_is = own.model_is; boss_is = own.boss_is ∙ atomic.component; args_is = own.args_is }) in
-      record { fits = same.fits; model_is = same.model_is ∙ sym (model-leaf leaf); args_is = same.args_is ∙ sym (args-Leaf leaf) }))
+      record { fits = same.fits; model_is = same.model_is ∙ sym (model-leaf leaf); args_is = same.args_is ∙ sym (args-Leaf leaf) })
+
+  leaf-case : (leaf : Leaf) → Moved (sim.Leaf leaf)
+  leaf-case leaf path got room fits has =
+      let atomic : FitsAtomic model leaf = leaf-tree model leaf fits in
+      subst (λ (step : Told (Sim × ℕ)). Safe (λ after. IsPart model (model_of (sim.Leaf leaf)) (args_of (sim.Leaf leaf)) after.0) step.end) (sym (move-Leaf (system model) leaf path time got room))
+      (leaf-steps leaf path got room atomic (inputs-of model leaf got atomic (subst (λ (number : ModelId). Receives model number.0 got) (model-leaf leaf) has)))
 
   -- what links carry to the parts of a network
   module _ (own : Own) (entries : List Entry) (links : List Link) (sources : Sources) (order : IsInOrder entries) (joined : AllByRecursion (FitsLink model own entries) links) (given : FitsSources model own entries sources) where
     reaches : (to : Part) (ports : List Field) → ArePortsOf model own entries false to ports → Reach (types_of model) ports (gathered (system model).translate links sources to (length ports))
     reaches to ports are = laws.gathered model own entries links sources to ports laws.right order joined given are
 
-    box-fits : (kid : Kid) → Contains entries (entry_of kid) → FitsTree model (out-Kid kid).sim →
+    pub box-fits : (kid : Kid) → Contains entries (entry_of kid) → FitsTree model (out-Kid kid).sim →
         Receives model (model_of (out-Kid kid).sim).0 (gathered (system model).translate links sources (part.Kid (out-Kid kid).name) (ins_of (system model) (out-Kid kid).sim))
     box-fits kid among fits =
         let one : Stood model (out-Kid kid).sim = stood model (out-Kid kid).sim fits in
@@ -82,7 +87,7 @@ module _ (model : Model) (laws : Laws model) (time : ℕ) (moment : IsMoment tim
               (reaches (part.Kid (out-Kid kid).name) (ways model one.stands false) has);
         }
 
-    boss-fits : (boss : Leaf) → slice_get (owns_of model.decls) boss.model.0 ≡ Some own → FitsInputs model boss.model.0 (gathered (system model).translate links sources part.Boss (component_of (system model) boss).ins)
+    pub boss-fits : (boss : Leaf) → slice_get (owns_of model.decls) boss.model.0 ≡ Some own → FitsInputs model boss.model.0 (gathered (system model).translate links sources part.Boss (component_of (system model) boss).ins)
     boss-fits boss found = record {
       own = own;
       found = found;
@@ -131,7 +136,8 @@ module _ (model : Model) (laws : Laws model) (time : ℕ) (moment : IsMoment tim
         (change-safe model laws time moment plan.entries kids path room is.fits.order is.fits.entries fit)
         (λ changed all. net-part model number args boss changed.0 plan.entries plan.links head all (plan-links model number plan head.network is)))
 
-    boss-moves : (boss : Leaf) (links : List Link) (kids : List Kid) (entries : List Entry) (kind : Option MoveKind) (got : Ports) (room : ℕ) →
+    -- an executive with what came to it: it moves and its structure follows, or it stays, or there is a fault
+    pub boss-moves : (boss : Leaf) (links : List Link) (kids : List Kid) (entries : List Entry) (kind : Option MoveKind) (got : Ports) (room : ℕ) →
         IsHead model number args boss → AreKids model entries kids → FitsLinks model number entries links → FitsInputs model boss.model.0 got →
         (let step : Told (Net × ℕ) = elim kind [
           | Some kind ↦ take_move (system model) boss kind (to_boss path) time got then after_boss (system model) number args kids path time room

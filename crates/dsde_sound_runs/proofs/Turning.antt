@@ -68,7 +68,7 @@ module _ (model : Model) (laws : Laws model) where
 
   module _ (own : Sim) (fits : FitsTree model own) (number time : ℕ) (moment : IsMoment time) where
     -- what comes to the root
-    root-got : (items : List Item) → ComeBy model (model_of own).0 items → Receives model (model_of own).0 (by_port (ins_of (system model) own) items)
+    pub root-got : (items : List Item) → ComeBy model (model_of own).0 items → Receives model (model_of own).0 (by_port (ins_of (system model) own) items)
     root-got items come =
         let one : Stood model own = stood model own fits in
         let same = same-own (slice_get (owns_of model.decls) (model_of own).0) one.stands come.own one.found come.found in
@@ -96,7 +96,7 @@ module _ (model : Model) (laws : Laws model) where
   none-come own fits = let one : Stood model own = stood model own fits in record { own = one.stands; found = one.found; come = tt }
 
   -- the items of a head that may be taken
-  items-come : (own : Sim) → FitsTree model own → model_of own ≡ top_number model → (head : Option Arrival) (time : ℕ) → IfSome head (Arrives model) → ComeBy model (model_of own).0 (items_at head time)
+  pub items-come : (own : Sim) → FitsTree model own → model_of own ≡ top_number model → (head : Option Arrival) (time : ℕ) → IfSome head (Arrives model) → ComeBy model (model_of own).0 (items_at head time)
   items-come own fits root_is None time arrive = none-come own fits
   items-come own fits root_is (Some head) time arrive = by-test (head.time == time)
     where
@@ -120,6 +120,10 @@ module _ (model : Model) (laws : Laws model) where
     next-in-time =
         subst (λ (found : Option Sim). IsInTime (let next : When = elim found [ Some tree ↦ next_time tree | None ↦ Never ] in next)) (sym is) (tree-in-time model own fits)
 
+    -- the next turn is at a moment of a run
+    pub turn-moment : IfSome (turn_time (next_of engine) head) IsMoment
+    turn-moment = turn-in-time (next_of engine) head next-in-time (early head arrive)
+
     found-advances : Safe (Behind model) (advance (system model) engine head).end
     found-advances =
         subst
@@ -127,7 +131,7 @@ module _ (model : Model) (laws : Laws model) where
           | Some own ↦ advance_tree (system model) engine own head (turn_time (next_of engine) head)
           | None ↦ quietly (Err Memory)
         ] in step.end))
-        (sym is) (tree-advances (turn_time (next_of engine) head) (turn-in-time (next_of engine) head next-in-time (early head arrive)))
+        (sym is) (tree-advances (turn_time (next_of engine) head) turn-moment)
 
   -- the engine takes a turn, or faults
   pub engine-advances : (engine : Engine) → Stands model engine → (head : Option Arrival) → IfSome head (Arrives model) → Safe (Behind model) (advance (system model) engine head).end

@@ -1,5 +1,5 @@
 -- What comes to a model that runs, and that its runs end.
-use Rattle.std.specs.Prelude.{◌≡◌, ℕ, false, List, [], Option, Some, Ok, IfSome, slice_get}
+use Rattle.std.specs.Prelude.{◌≡◌, ℕ, false, List, Option, Some, Ok, IfSome, slice_get}
 use Rattle.dsde_syntax.specs.declared.decl.Model.{Model}
 use Rattle.dsde_values.specs.declared.arrival.Arrival.{Arrival}
 use Rattle.dsde_values.specs.declared.arrival.Item.{Item}

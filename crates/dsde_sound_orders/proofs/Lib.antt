@@ -1,0 +1,4 @@
+mod Relied
+mod Coming
+mod Seated
+mod Turning
