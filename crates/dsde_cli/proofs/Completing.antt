@@ -8,7 +8,9 @@ use Rattle.dsde_sim_events.specs.declared.event.Finish.{Finish}
 use Rattle.dsde_sim_events.specs.declared.event.Finish.TheVariants as how
 use Rattle.dsde_run_meaning.specs.Run.{Run}
 use Rattle.dsde_run.specs.Run.{Running, records_in, run}
+use Rattle.dsde_run_free.specs.Free.{free_run}
 use Rattle.dsde_sound_runs.specs.Ends.{HasEnd, InputsArrive, RunsEnd}
+use Rattle.dsde_sound_orders.specs.Ends.{DrawnRunsEnd}
 use Rattle.dsde_cli_status.specs.declared.status.Status.{Status}
 use Rattle.dsde_cli_status.specs.declared.status.Status.TheVariants.{Done, Refused, Usage, BadInput, ModelFault, Unread, Unwritten, Memory, BadSave}
 use Rattle.dsde_cli_status.specs.declared.status.What.TheVariants as what
@@ -53,15 +55,18 @@ cut-memory name held ShelfFails (ModelFault fault) none cut shelf = absurd cut
 cut-memory name held ShelfFails (Unwritten writing) none cut shelf = absurd cut
 cut-memory name held ShelfFails (BadSave fault) none cut shelf = absurd cut
 
-module _ (ends : RunsEnd) (inputs : InputsArrive) (name : List ℕ) (held : Option Bytes) (own : Running) (turns : ℕ) (holds : Holds name held own) where
-  abbrev tells : Records → Run
-  tells records = run own records turns
+module _ (inputs : InputsArrive) (name : List ℕ) (held : Option Bytes) (own : Running) (holds : Holds name held own) where
+  right : IsRight own.model
+  right = holds-right name held own holds
 
-  has-end : (bytes : List ℕ) → HasEnd (tells (records_in own bytes))
-  has-end bytes =
-      let right : IsRight own.model = holds-right name held own holds in
-      ends own.model own.spots (records_in own bytes) turns right (inputs own.model bytes right)
+  -- its runs end, and those in drawn orders
+  pub run-ends : RunsEnd → (turns : ℕ) (bytes : List ℕ) → HasEnd (run own (records_in own bytes) turns)
+  run-ends ends turns bytes = ends own.model own.spots (records_in own bytes) turns right (inputs own.model bytes right)
 
+  pub drawn-ends : DrawnRunsEnd → (seed turns : ℕ) (bytes : List ℕ) → HasEnd (free_run own seed (records_in own bytes) turns)
+  drawn-ends ends seed turns bytes = ends own seed (records_in own bytes) turns right (inputs own.model bytes right)
+
+module _ (own : Running) (tells : Records → Run) (has-end : (bytes : List ℕ) → HasEnd (tells (records_in own bytes))) where
   -- memory ran out
   spent : (input : Option (List ℕ)) → Completes own tells input Memory
   spent None = record { how = how.Bound; end = tt; is = inr refl }
@@ -98,8 +103,8 @@ module _ (ends : RunsEnd) (inputs : InputsArrive) (name : List ℕ) (held : Opti
   run-completes name ShelfFails SourceFails SinkFails input left (BadSave fault) is says shelf source sink = absurd is
 
   -- a run of which no model was loaded
-  pub none-completes : (ShelfFails : Type 0) (input : Option (List ℕ)) (status : Status) → NoModel Refuses name held ShelfFails status → IsCut status → ¬ ShelfFails → Completes own tells input status
-  none-completes ShelfFails input status none cut shelf = subst (Completes own tells input) (sym (cut-memory name held ShelfFails status none cut shelf)) (spent input)
+  pub none-completes : (name : List ℕ) (held : Option Bytes) (ShelfFails : Type 0) (input : Option (List ℕ)) (status : Status) → NoModel Refuses name held ShelfFails status → IsCut status → ¬ ShelfFails → Completes own tells input status
+  none-completes name held ShelfFails input status none cut shelf = subst (Completes own tells input) (sym (cut-memory name held ShelfFails status none cut shelf)) (spent input)
 
 -- The end is told in the report, unless memory ran out.
 pub completes-reported : (own : Running) (tells : Records → Run) (input : Option (List ℕ)) (status result : Status) → Completes own tells input status → (result ≡ status) ⊎ (result ≡ Memory) → Completes own tells input result

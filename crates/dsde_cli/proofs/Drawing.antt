@@ -21,7 +21,7 @@ use Rattle.dsde_cli.specs.Causes.{NoModel, NoneIn, Runs, RunsSome, Tells}
 use Rattle.dsde_cli_run.specs.Outcome.{SaysEnd, status_of}
 use Rattle.dsde_cli_run.specs.Saved.{IsOfStored}
 use Rattle.dsde_cli.specs.Outcome.{Completes}
-use Rattle.dsde_cli.proofs.Completing.{cut-memory, run-completes}
+use Rattle.dsde_cli.proofs.Completing.{cut-memory, run-completes, run-ends}
 use Rattle.dsde_cli.proofs.Loads.{OneVerdict, refusal_tells, run_cut, run_unrefused}
 use Rattle.dsde_cli.proofs.Outcomes.{answers-none, answers-whole}
 
@@ -103,7 +103,7 @@ having bytes = Some (λ _. Some bytes)
 pub big-completes : (ends : RunsEnd) (inputs : InputsArrive) (bytes : List ℕ) (own : Running) (turns : ℕ) → Runs bytes own → (SinkFails : Type 0) (status : Status) → IsOfSummary SinkFails status →
     SaysEnd (big_run own turns).end (Some []) status → ¬ SinkFails → Completes own (λ records. run own records turns) (Some []) status
 big-completes ends inputs bytes own turns accepted SinkFails status is says sink =
-    run-completes ends inputs [] (having bytes) own turns accepted None ⊥ ⊥ SinkFails (Some []) (Some []) status (of-run SinkFails status is) says (λ never. never) (λ never. never) sink
+    run-completes own (λ records. run own records turns) (run-ends inputs [] (having bytes) own accepted ends turns) None ⊥ ⊥ SinkFails (Some []) (Some []) status (of-run SinkFails status is) says (λ never. never) (λ never. never) sink
 
 -- why a status comes of a run that was made
 pub cause-made : (seed : ℕ) (SinkFails : Type 0) (status : Status) → RunsSome (big_text seed) → IsOfSummary SinkFails status → CauseBig seed SinkFails status

@@ -11,6 +11,7 @@ use Rattle.dsde_cli_status.specs.declared.status.Why.TheVariants as why
 use Rattle.dsde_cli_run.specs.Back.{CauseBack, IsBeforeBack, IsMade, NoSave, RestoresSome}
 use Rattle.dsde_cli_run.specs.Loads.{Under}
 use Rattle.dsde_cli_run.specs.lemmas.Later.{back-later}
+use Rattle.dsde_cli_run.specs.Outcome.{IsOfRun}
 use Rattle.dsde_cli_run.specs.Saved.{IsOfStored}
 use Rattle.dsde_run.specs.Run.{Running}
 use Rattle.dsde_cli.specs.Causes.{CauseTakenUp, Holds, IsBeforeRun, Runs, RunsSome}
@@ -105,3 +106,22 @@ taken-up-cause name file store (Some map) ShelfFails SourceFails SinkFails statu
     by (Some text) is runs =
         let holds : IsSomeAnd (map name) (λ bytes. Runs bytes runs.own) = subst (λ found. IsSomeAnd found (λ bytes. Runs bytes runs.own)) is runs.runs in
         record { own = runs.own; runs = runs.runs; cause = subst (λ (own : Running). CauseBack own.model file store (Some map) ShelfFails SourceFails SinkFails status) (sym (only runs.own holds)) cause }
+
+-- A run in drawn orders stores nothing.
+pub drawn-unsaved : (ShelfFails SourceFails SinkFails : Type 0) (status : Status) → IsOfRun SourceFails SinkFails status → IsOfStored None ShelfFails SourceFails SinkFails status
+drawn-unsaved ShelfFails SourceFails SinkFails Done is = is
+drawn-unsaved ShelfFails SourceFails SinkFails (Refused kind line column) is = is
+drawn-unsaved ShelfFails SourceFails SinkFails Usage is = is
+drawn-unsaved ShelfFails SourceFails SinkFails (BadInput kind line) is = is
+drawn-unsaved ShelfFails SourceFails SinkFails (ModelFault fault) is = is
+drawn-unsaved ShelfFails SourceFails SinkFails (Unread reading because) is = is
+drawn-unsaved ShelfFails SourceFails SinkFails (Unwritten what.Output) is = is
+drawn-unsaved ShelfFails SourceFails SinkFails (Unwritten what.Input) is = is
+drawn-unsaved ShelfFails SourceFails SinkFails (Unwritten what.Model) is = is
+drawn-unsaved ShelfFails SourceFails SinkFails (Unwritten what.Save) is = absurd is
+drawn-unsaved ShelfFails SourceFails SinkFails Memory is = is
+drawn-unsaved ShelfFails SourceFails SinkFails (BadSave fault) is = is
+
+-- A run in drawn orders that was made did not end before.
+pub drawn-not-before : (SourceFails SinkFails : Type 0) (status : Status) → IsOfRun SourceFails SinkFails status → IsBeforeRun status → ⊥
+drawn-not-before SourceFails SinkFails status is before = run-not-before None ⊥ SourceFails SinkFails status (drawn-unsaved ⊥ SourceFails SinkFails status is) before

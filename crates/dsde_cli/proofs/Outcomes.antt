@@ -5,7 +5,7 @@ use Rattle.std.proofs.Math.Seq.{take-length}
 use Rattle.std.proofs.lemmas.List.{append-nil}
 use Rattle.dsde_input_records.specs.Records.{Records}
 use Rattle.dsde_io.specs.Held.{Bytes}
-use Rattle.dsde_cli_command.specs.Commands.{BigCommand, CheckCommand, ResumeCommand, RunCommand, Task, checks, counts, resumes, runs}
+use Rattle.dsde_cli_command.specs.Commands.{BigCommand, CheckCommand, FreeCommand, ResumeCommand, RunCommand, Task, checks, counts, draws, resumes, runs}
 use Rattle.dsde_cli.specs.Answer.{Answers, AnswersFront}
 use Rattle.dsde_cli.specs.Causes.{Cause, CauseResume}
 use Rattle.dsde_cli_status.specs.declared.status.SaveFault.{SaveFault}
@@ -144,18 +144,23 @@ same_check one other same = cc same
 pub same_big : (one other : BigCommand) → Some (counts one) ≡ Some (counts other) → one ≡ other
 same_big one other same = cc same
 
+pub same_free : (one other : FreeCommand) → Some (draws one) ≡ Some (draws other) → one ≡ other
+same_free one other same = cc same
+
 -- the command that a task is for
 pub data Kind : Type 0 where
   check : Kind
   run : Kind
   resume : Kind
   big : Kind
+  free : Kind
 
 abbrev pub kind_of : Task → Kind
 kind_of (checks task) = check
 kind_of (runs task) = run
 kind_of (resumes task) = resume
 kind_of (counts task) = big
+kind_of (draws task) = free
 
 -- no task is for two commands, and none is for no command
 pub other_task : (one other : Task) → kind_of one ≢ kind_of other → Some one ≡ Some other → ⊥

@@ -7,8 +7,8 @@ use Rattle.dsde_sim_turns.specs.Engine.{Engine}
 use Rattle.dsde_run.specs.Run.{Running, running}
 use Rattle.dsde_cli.specs.declared.load.Runnable.{Runnable}
 use Rattle.dsde_cli.specs.Causes.{Holds}
-use Rattle.dsde_cli_command.specs.Commands.{Asked, AsksResume, Task, command_of, checks, runs, resumes, counts}
-use Rattle.dsde_cli_run.specs.Asked.{pick_of, tells_on}
+use Rattle.dsde_cli_command.specs.Commands.{Asked, AsksFree, AsksResume, Task, command_of, checks, runs, resumes, counts, draws}
+use Rattle.dsde_cli_run.specs.Asked.{drawn_on, pick_of, tells_on}
 use Rattle.dsde_cli_run.specs.Back.{Restores}
 use Rattle.dsde_cli_run.specs.Loads.{Has}
 use Rattle.dsde_trace.specs.declared.pick.Pick.{Pick}
@@ -48,6 +48,17 @@ pick_back taken_up = pick_of taken_up.asked.resume.run.kept
 abbrev pub turns_back : {words : List (List ℕ)} {held : Option Bytes} → TakenUp words held → ℕ
 turns_back taken_up = taken_up.asked.resume.run.turns
 
+-- The words ask for a run in orders that are drawn, and the shelf tells that bytes are under its model's name
+-- which are accepted, with this model and its places.
+pub record LoadedFree (words : List (List ℕ)) (held : Option Bytes) : Type 0 where
+  pub asked : AsksFree words
+  pub own : Running
+  pub holds : Holds asked.free.model held own
+
+-- What that run tells on records.
+abbrev pub tells_free : {words : List (List ℕ)} {held : Option Bytes} → LoadedFree words held → Records → Run
+tells_free loaded = drawn_on loaded.own loaded.asked.free.seed loaded.asked.free.turns
+
 -- the name under which a task stores the image of its run, if it does
 abbrev pub save_in : Option Task → Option (List ℕ)
 save_in None = None
@@ -55,6 +66,7 @@ save_in (Some (checks check)) = None
 save_in (Some (runs run)) = run.save
 save_in (Some (resumes resume)) = resume.run.save
 save_in (Some (counts big)) = None
+save_in (Some (draws free)) = None
 
 -- the name under which the words ask for the image of a run to be stored, if they do
 abbrev pub save_of : List (List ℕ) → Option (List ℕ)

@@ -8,8 +8,9 @@ ghost use Rattle.dsde_run.specs.Run.{Running, records_in, run};
 ghost use Rattle.dsde_run_resume.specs.Resumed.{records_for, resumed, resumed_on};
 ghost use Rattle.dsde_run_saved.specs.Saved.{image_left};
 ghost use Rattle.dsde_run_big.specs.Model.{big_text};
+ghost use Rattle.dsde_trace.specs.declared.pick.Pick.TheVariants.{All};
 ghost use Rattle.dsde_run_count.specs.Counting.{summary_text};
-ghost use Rattle.dsde_cli_command.specs.Commands.{Asked, AsksBig, AsksCheck, AsksResume, command_of};
+ghost use Rattle.dsde_cli_command.specs.Commands.{Asked, AsksBig, AsksCheck, AsksFree, AsksResume, command_of};
 ghost use Rattle.dsde_cli_run.specs.Back.{ComesBack, IsRefusedFor, NoneSaved, SaysBack, TellsSave};
 ghost use Rattle.dsde_cli_run.specs.Loads.{Has};
 ghost use Rattle.dsde_cli_run.specs.Outcome.{Comes, SaysEnd};
@@ -22,11 +23,12 @@ ghost use Rattle.dsde_cli.specs.Causes.{Cause, CauseCheck, CauseResume, Holds, H
 ghost use Rattle.dsde_cli_verdict.specs.declared.refusal.Refusal.{Refusal};
 ghost use Rattle.dsde_cli_verdict.specs.Verdict.{Refuses};
 ghost use Rattle.dsde_cli.specs.Delivered.{IsDelivered};
-ghost use Rattle.dsde_cli.specs.Loaded.{Loaded, TakenUp, pick_back, pick_in, save_of, tells_of, turns_back};
+ghost use Rattle.dsde_cli.specs.Loaded.{Loaded, LoadedFree, TakenUp, pick_back, pick_in, save_of, tells_free, tells_of, turns_back};
 ghost use Rattle.dsde_cli.specs.Outcome.{Completes, CompletesBack, CompletesCheck};
 
 use crate::big::run_big;
 use crate::check::load_and_check;
+use crate::free::load_and_free;
 use crate::resume::load_and_resume;
 use crate::run::load_and_run;
 use dsde_cli_command::{Command, read_command};
@@ -47,6 +49,8 @@ use std::alloc::Global;
 /// is the whole input of the run from its start.
 /// `big SEED --turns N` runs the large model of a seed on an empty input, and writes the summary of its
 /// run to `out`: how many lines of each kind its trace has, and the last of them.
+/// `free MODEL --turns N --order SEED` runs the model as `run` does, but those that move in a turn do so in an
+/// order that the words of the generator of the seed draw: an executive after all beneath its network.
 /// Any other words spell no command. A write to `notes` that failed changes nothing; one that ran out
 /// of memory makes the status `Memory`.
 pub fn dsde<F: Shelf, R: Source, W: Sink, E: Sink>(
@@ -121,6 +125,20 @@ pub fn dsde<F: Shelf, R: Source, W: Sink, E: Sink>(
         → Completes drawn.own (λ records. run drawn.own records drawn.asked.big.turns) (Some []) result }
     ensures unread_big { AsksBig (map string_bytes words.now) → (shelf.new ≡ shelf.old) × (input.new ≡ input.old) }
 
+    // A run in drawn orders writes exactly the trace of the run whose turns take those orders, and the call ends as
+    // that run ends, which it does where no device fails, unless memory runs out.
+    ensures runs_free { (loaded : LoadedFree (map string_bytes words.now) (F.held shelf.old))
+        → IfSome (R.left input.old) (λ bytes. IfSome (W.written out.old) (λ written.
+        Comes loaded.own All (tells_free loaded) bytes (R.left input.new) written (W.written out.new) result)) }
+    ensures ends_free { (loaded : LoadedFree (map string_bytes words.now) (F.held shelf.old))
+        → IfSome (R.left input.old) (λ bytes. SaysEnd (tells_free loaded (records_in loaded.own bytes)).end (R.left input.new) result) }
+    ensures complete_free { (loaded : LoadedFree (map string_bytes words.now) (F.held shelf.old))
+        → ¬ (Rose (F.faults shelf.old) (F.faults shelf.new)) → ¬ (Rose (R.faults input.old) (R.faults input.new)) → ¬ (Rose (W.faults out.old) (W.faults out.new))
+        → Completes loaded.own (tells_free loaded) (R.left input.old) result }
+    ensures taken_free { (loaded : LoadedFree (map string_bytes words.now) (F.held shelf.old))
+        → Told (R.left input.old) (R.left input.new) (λ before. TakesWanted (tells_free loaded) (records_in loaded.own before) [] before) }
+    ensures idle_free { (asked : AsksFree (map string_bytes words.now)) → asked.free.turns ≡ 0 → input.new ≡ input.old }
+
     // Each status has its cause.
     ensures cause { (asked : Asked (map string_bytes words.now))
         → Cause asked.run.model asked.run.save (F.held shelf.old) (Rose (F.faults shelf.old) (F.faults shelf.new))
@@ -133,6 +151,9 @@ pub fn dsde<F: Shelf, R: Source, W: Sink, E: Sink>(
         (Rose (W.faults out.old) (W.faults out.new)) result }
     ensures cause_big { (asked : AsksBig (map string_bytes words.now))
         → CauseBig asked.big.seed (Rose (W.faults out.old) (W.faults out.new)) result }
+    ensures cause_free { (asked : AsksFree (map string_bytes words.now))
+        → Cause asked.free.model None (F.held shelf.old) (Rose (F.faults shelf.old) (F.faults shelf.new))
+        (Rose (R.faults input.old) (R.faults input.new)) (Rose (W.faults out.old) (W.faults out.new)) result }
     // A model that is refused is so exactly for what its bytes are refused for, and there.
     ensures refused { (asked : Asked (map string_bytes words.now)) → (kind : Refusal) → (line column : ℕ)
         → Has asked.run.model (F.held shelf.old) (λ bytes. Refuses bytes kind line column) → Tells kind line column result }
@@ -142,6 +163,8 @@ pub fn dsde<F: Shelf, R: Source, W: Sink, E: Sink>(
         → Has asked.check.model (F.held shelf.old) (λ bytes. Refuses bytes kind line column) → Tells kind line column result }
     ensures refused_big { (asked : AsksBig (map string_bytes words.now)) → (kind : Refusal) → (line column : ℕ)
         → Refuses (big_text asked.big.seed) kind line column → Tells kind line column result }
+    ensures refused_free { (asked : AsksFree (map string_bytes words.now)) → (kind : Refusal) → (line column : ℕ)
+        → Has asked.free.model (F.held shelf.old) (λ bytes. Refuses bytes kind line column) → Tells kind line column result }
     // And so is an image that is none of an engine of the model.
     ensures refused_save { (asked : AsksResume (map string_bytes words.now)) → (own : Running) → Holds asked.resume.run.model (F.held shelf.old) own
         → (fault : SaveFault) → Has asked.resume.file (F.held shelf.old) (IsRefusedFor own.model fault) → TellsSave fault result }
@@ -159,6 +182,8 @@ pub fn dsde<F: Shelf, R: Source, W: Sink, E: Sink>(
         → HoldsNone asked.run.model (F.held shelf.old) → (input.new ≡ input.old) × (out.new ≡ out.old) }
     ensures unrun_resumed { (asked : AsksResume (map string_bytes words.now))
         → HoldsNone asked.resume.run.model (F.held shelf.old) → (input.new ≡ input.old) × (out.new ≡ out.old) }
+    ensures unrun_free { (asked : AsksFree (map string_bytes words.now))
+        → HoldsNone asked.free.model (F.held shelf.old) → (input.new ≡ input.old) × (out.new ≡ out.old) }
     ensures unresumed { (asked : AsksResume (map string_bytes words.now)) → (own : Running) → Holds asked.resume.run.model (F.held shelf.old) own
         → NoneSaved own.model asked.resume.file (F.held shelf.old) → (input.new ≡ input.old) × (out.new ≡ out.old) }
     ensures few { result ≡ Status.BadSave SaveFault.FewRecords → out.new ≡ out.old }
@@ -182,6 +207,9 @@ pub fn dsde<F: Shelf, R: Source, W: Sink, E: Sink>(
             load_and_resume(alloc, file, &run, shelf, input, out)
         }
         Some(Command::Big { seed, turns }) => run_big(alloc, seed, turns, out),
+        Some(Command::Free { model, turns, seed }) => {
+            load_and_free(alloc, model, seed, turns, shelf, input, out)
+        }
         None => Status::Usage,
     };
     report(alloc, status, notes)

@@ -4,6 +4,7 @@
 mod big;
 mod call;
 mod check;
+mod free;
 mod laws;
 mod load;
 mod resume;

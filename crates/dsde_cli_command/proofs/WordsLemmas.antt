@@ -12,7 +12,7 @@ use Rattle.std.proofs.lemmas.Slice.Eq.{bytes_eq-Decides}
 use Rattle.dsde_cli_command.specs.declared.given.Given.{Given}
 use Rattle.dsde_cli_command.specs.declared.given.Valued.{Valued}
 use Rattle.dsde_cli_command.specs.declared.given.Valued.TheVariants as valued
-use Rattle.dsde_cli_command.specs.Commands.{Task, Line, no_words, valued_of, with_value, with_word, is_option, is_number, ◌>>=◌, line_of, only, both, if_given, is_given, without, kept_of, seed_of, turns_of, check_of, run_on, run_of, resume_of, big_of, command_of}
+use Rattle.dsde_cli_command.specs.Commands.{Task, Line, no_words, valued_of, with_value, with_word, is_option, is_number, ◌>>=◌, line_of, only, both, if_given, is_given, without, kept_of, seed_of, turns_of, check_of, run_on, run_of, resume_of, big_of, free_of, command_of}
 use Rattle.dsde_cli_command.specs.Given.{joined, is_single, is_pair, is_read, read_of, read_with, read_words_of, given_after}
 
 -- what was given and then a line, if there is such a line
@@ -59,15 +59,16 @@ read_on-word given after word words left whole is plain taken before =
 
 -- an option that takes a value is no other word
 valued_alone : (word : List ℕ) (option : Valued) → valued_of word ≡ Some option → with_word word (Some no_words) ≡ None
-valued_alone word option = by (bytes_eq word (codes "--turns")) (bytes_eq word (codes "--only")) (bytes_eq word (codes "--save"))
-    ((bytes_eq-Decides word (codes "--turns")).0) ((bytes_eq-Decides word (codes "--only")).0) ((bytes_eq-Decides word (codes "--save")).0)
+valued_alone word option = by (bytes_eq word (codes "--turns")) (bytes_eq word (codes "--only")) (bytes_eq word (codes "--save")) (bytes_eq word (codes "--order"))
+    ((bytes_eq-Decides word (codes "--turns")).0) ((bytes_eq-Decides word (codes "--only")).0) ((bytes_eq-Decides word (codes "--save")).0) ((bytes_eq-Decides word (codes "--order")).0)
   where
-    by : (turns only save : Bool) → (turns ≡ true → word ≡ codes "--turns") → (only ≡ true → word ≡ codes "--only") → (save ≡ true → word ≡ codes "--save") →
-        (if turns then Some valued.Turns else (if only then Some valued.Only else (if save then Some valued.Save else None))) ≡ Some option → with_word word (Some no_words) ≡ None
-    by true only save turns_is only_is save_is some = subst (λ word. with_word word (Some no_words) ≡ None) (sym (turns_is refl)) refl
-    by false true save turns_is only_is save_is some = subst (λ word. with_word word (Some no_words) ≡ None) (sym (only_is refl)) refl
-    by false false true turns_is only_is save_is some = subst (λ word. with_word word (Some no_words) ≡ None) (sym (save_is refl)) refl
-    by false false false turns_is only_is save_is some = absurd (cc some)
+    by : (turns only save order : Bool) → (turns ≡ true → word ≡ codes "--turns") → (only ≡ true → word ≡ codes "--only") → (save ≡ true → word ≡ codes "--save") → (order ≡ true → word ≡ codes "--order") →
+        (if turns then Some valued.Turns else (if only then Some valued.Only else (if save then Some valued.Save else (if order then Some valued.Order else None)))) ≡ Some option → with_word word (Some no_words) ≡ None
+    by true only save order turns_is only_is save_is order_is some = subst (λ word. with_word word (Some no_words) ≡ None) (sym (turns_is refl)) refl
+    by false true save order turns_is only_is save_is order_is some = subst (λ word. with_word word (Some no_words) ≡ None) (sym (only_is refl)) refl
+    by false false true order turns_is only_is save_is order_is some = subst (λ word. with_word word (Some no_words) ≡ None) (sym (save_is refl)) refl
+    by false false false true turns_is only_is save_is order_is some = subst (λ word. with_word word (Some no_words) ≡ None) (sym (order_is refl)) refl
+    by false false false false turns_is only_is save_is order_is some = absurd (cc some)
 
 -- nothing is made of nothing
 pub map-none : {A : Type 0} (f : A → List ℕ) (items : List A) → length items ≡ 0 → map f items ≡ []
@@ -133,27 +134,30 @@ pub data Often (line : Line) : Type 0 where
   turns : is_single line.turns ≡ false → Often line
   onlys : is_single line.onlys ≡ false → Often line
   saves : is_single line.saves ≡ false → Often line
+  orders : is_single line.orders ≡ false → Often line
   prints : is_single line.prints ≡ false → Often line
 
 often : (line : Line) → is_read line ≡ false → Often line
-often line = by (is_pair line.positional) (is_single line.turns) (is_single line.onlys) (is_single line.saves) (is_single line.prints) positional turns onlys saves prints
+often line = by (is_pair line.positional) (is_single line.turns) (is_single line.onlys) (is_single line.saves) (is_single line.orders) (is_single line.prints) positional turns onlys saves orders prints
   where
-    by : (a b c d e : Bool) → (a ≡ false → Often line) → (b ≡ false → Often line) → (c ≡ false → Often line) → (d ≡ false → Often line) → (e ≡ false → Often line) → (a && b && c && d && e) ≡ false → Often line
-    by false b c d e at_a at_b at_c at_d at_e is = at_a refl
-    by true false c d e at_a at_b at_c at_d at_e is = at_b refl
-    by true true false d e at_a at_b at_c at_d at_e is = at_c refl
-    by true true true false e at_a at_b at_c at_d at_e is = at_d refl
-    by true true true true false at_a at_b at_c at_d at_e is = at_e refl
-    by true true true true true at_a at_b at_c at_d at_e is = absurd (cc is)
+    by : (a b c d e f : Bool) → (a ≡ false → Often line) → (b ≡ false → Often line) → (c ≡ false → Often line) → (d ≡ false → Often line) → (e ≡ false → Often line) → (f ≡ false → Often line) → (a && b && c && d && e && f) ≡ false → Often line
+    by false b c d e f at_a at_b at_c at_d at_e at_f is = at_a refl
+    by true false c d e f at_a at_b at_c at_d at_e at_f is = at_b refl
+    by true true false d e f at_a at_b at_c at_d at_e at_f is = at_c refl
+    by true true true false e f at_a at_b at_c at_d at_e at_f is = at_d refl
+    by true true true true false f at_a at_b at_c at_d at_e at_f is = at_e refl
+    by true true true true true false at_a at_b at_c at_d at_e at_f is = at_f refl
+    by true true true true true true at_a at_b at_c at_d at_e at_f is = absurd (cc is)
 
 -- such a line is no check
 not_check : (line : Line) → Often line → check_of line ≡ None
 not_check line (turns many) = without_many line.turns _ many
 not_check line (onlys many) = without_none line.turns _ (without_many line.onlys _ many)
 not_check line (saves many) = without_none line.turns _ (without_none line.onlys _ (without_many line.saves _ many))
-not_check line (positional many) = without_none line.turns _ (without_none line.onlys _ (without_none line.saves _ (none_of (only line.positional) _ (only_too_many line.positional many))))
+not_check line (orders many) = without_none line.turns _ (without_none line.onlys _ (without_none line.saves _ (without_many line.orders _ many)))
+not_check line (positional many) = without_none line.turns _ (without_none line.onlys _ (without_none line.saves _ (without_none line.orders _ (none_of (only line.positional) _ (only_too_many line.positional many)))))
 not_check line (prints many) =
-    without_none line.turns _ (without_none line.onlys _ (without_none line.saves _ (behind (only line.positional) _ (λ model. none_of (is_given line.prints) _ (is_given_none line.prints many)))))
+    without_none line.turns _ (without_none line.onlys _ (without_none line.saves _ (without_none line.orders _ (behind (only line.positional) _ (λ model. none_of (is_given line.prints) _ (is_given_none line.prints many))))))
 
 -- nothing that a run is asked to be
 unasked_turns : (line : Line) (model : List ℕ) → is_single line.turns ≡ false → run_on line model ≡ None
@@ -169,27 +173,41 @@ unasked_saves line model many =
 -- and no run
 not_run : (line : Line) → Often line → run_of line ≡ None
 not_run line (prints many) = without_many line.prints _ many
-not_run line (positional many) = without_none line.prints _ (none_of (only line.positional) _ (only_too_many line.positional many))
-not_run line (turns many) = without_none line.prints _ (behind (only line.positional) _ (λ model. none_of (run_on line model) _ (unasked_turns line model many)))
-not_run line (onlys many) = without_none line.prints _ (behind (only line.positional) _ (λ model. none_of (run_on line model) _ (unasked_onlys line model many)))
-not_run line (saves many) = without_none line.prints _ (behind (only line.positional) _ (λ model. none_of (run_on line model) _ (unasked_saves line model many)))
+not_run line (orders many) = without_none line.prints _ (without_many line.orders _ many)
+not_run line (positional many) = without_none line.prints _ (without_none line.orders _ (none_of (only line.positional) _ (only_too_many line.positional many)))
+not_run line (turns many) = without_none line.prints _ (without_none line.orders _ (behind (only line.positional) _ (λ model. none_of (run_on line model) _ (unasked_turns line model many))))
+not_run line (onlys many) = without_none line.prints _ (without_none line.orders _ (behind (only line.positional) _ (λ model. none_of (run_on line model) _ (unasked_onlys line model many))))
+not_run line (saves many) = without_none line.prints _ (without_none line.orders _ (behind (only line.positional) _ (λ model. none_of (run_on line model) _ (unasked_saves line model many))))
 
 -- and none that is taken up again
 not_resume : (line : Line) → Often line → resume_of line ≡ None
 not_resume line (prints many) = without_many line.prints _ many
-not_resume line (positional many) = without_none line.prints _ (none_of (both line.positional) _ (both_none line.positional many))
-not_resume line (turns many) = without_none line.prints _ (behind (both line.positional) _ (λ names. none_of (run_on line names.0) _ (unasked_turns line names.0 many)))
-not_resume line (onlys many) = without_none line.prints _ (behind (both line.positional) _ (λ names. none_of (run_on line names.0) _ (unasked_onlys line names.0 many)))
-not_resume line (saves many) = without_none line.prints _ (behind (both line.positional) _ (λ names. none_of (run_on line names.0) _ (unasked_saves line names.0 many)))
+not_resume line (orders many) = without_none line.prints _ (without_many line.orders _ many)
+not_resume line (positional many) = without_none line.prints _ (without_none line.orders _ (none_of (both line.positional) _ (both_none line.positional many)))
+not_resume line (turns many) = without_none line.prints _ (without_none line.orders _ (behind (both line.positional) _ (λ names. none_of (run_on line names.0) _ (unasked_turns line names.0 many))))
+not_resume line (onlys many) = without_none line.prints _ (without_none line.orders _ (behind (both line.positional) _ (λ names. none_of (run_on line names.0) _ (unasked_onlys line names.0 many))))
+not_resume line (saves many) = without_none line.prints _ (without_none line.orders _ (behind (both line.positional) _ (λ names. none_of (run_on line names.0) _ (unasked_saves line names.0 many))))
 
 -- and no run of the large model
 not_big : (line : Line) → Often line → big_of line ≡ None
 not_big line (prints many) = without_many line.prints _ many
 not_big line (onlys many) = without_none line.prints _ (without_many line.onlys _ many)
 not_big line (saves many) = without_none line.prints _ (without_none line.onlys _ (without_many line.saves _ many))
-not_big line (positional many) = without_none line.prints _ (without_none line.onlys _ (without_none line.saves _ (none_of (only line.positional) _ (only_too_many line.positional many))))
+not_big line (orders many) = without_none line.prints _ (without_none line.onlys _ (without_none line.saves _ (without_many line.orders _ many)))
+not_big line (positional many) = without_none line.prints _ (without_none line.onlys _ (without_none line.saves _ (without_none line.orders _ (none_of (only line.positional) _ (only_too_many line.positional many)))))
 not_big line (turns many) =
-    without_none line.prints _ (without_none line.onlys _ (without_none line.saves _ (behind (only line.positional) _ (λ word. behind (seed_of word) _ (λ seed. none_of (only line.turns) _ (only_none line.turns many))))))
+    without_none line.prints _ (without_none line.onlys _ (without_none line.saves _ (without_none line.orders _ (behind (only line.positional) _ (λ word. behind (seed_of word) _ (λ seed. none_of (only line.turns) _ (only_none line.turns many)))))))
+
+-- and no run in an order that is drawn
+not_free : (line : Line) → Often line → free_of line ≡ None
+not_free line (prints many) = without_many line.prints _ many
+not_free line (onlys many) = without_none line.prints _ (without_many line.onlys _ many)
+not_free line (saves many) = without_none line.prints _ (without_none line.onlys _ (without_many line.saves _ many))
+not_free line (positional many) = without_none line.prints _ (without_none line.onlys _ (without_none line.saves _ (none_of (only line.positional) _ (only_too_many line.positional many))))
+not_free line (turns many) =
+    without_none line.prints _ (without_none line.onlys _ (without_none line.saves _ (behind (only line.positional) _ (λ model. none_of (only line.turns) _ (only_none line.turns many)))))
+not_free line (orders many) =
+    without_none line.prints _ (without_none line.onlys _ (without_none line.saves _ (behind (only line.positional) _ (λ model. behind (only line.turns) _ (λ value. behind (turns_of value) _ (λ turns. none_of (only line.orders) _ (only_none line.orders many)))))))
 
 -- what takes no line where a word stands too often is the same of a line that was read
 by_read : (test : Bool) (line : Line) (next : Line → Option Task) → (test ≡ false → next line ≡ None) → ((if test then Some line else None) >>= next) ≡ next line
@@ -229,6 +247,12 @@ command_of-big all name words given is check run resume same read = spelled_by b
   where
     spelled : (line_of words >>= big_of) ≡ command_of (name ∷ words)
     spelled = rw (check, run, resume, same) refl
+
+pub command_of-free : (all : List (List ℕ)) (name : List ℕ) (words : List (List ℕ)) (given : Option Line) → all ≡ name ∷ words → bytes_eq name (codes "check") ≡ false → bytes_eq name (codes "run") ≡ false → bytes_eq name (codes "resume") ≡ false → bytes_eq name (codes "big") ≡ false → bytes_eq name (codes "free") ≡ true → given ≡ read_words_of words → (given >>= free_of) ≡ command_of all
+command_of-free all name words given is check run resume big same read = spelled_by free_of not_free all words given read (spelled ∙ ap command_of (sym is))
+  where
+    spelled : (line_of words >>= free_of) ≡ command_of (name ∷ words)
+    spelled = rw (check, run, resume, big, same) refl
 
 -- 1 to 10 digits are a number of 64 bits
 all_digits : IsNumeralModel (λ word. list_all is_ascii_digit word ≡ true) (digits_value 10)

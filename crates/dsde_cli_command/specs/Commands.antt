@@ -7,7 +7,7 @@ use Rattle.std.specs.Option.{option_map, option_and_then}
 use Rattle.std.specs.Str.{bytes_eq}
 use Rattle.std.specs.Str.Parse.{digits_value}
 use Rattle.dsde_cli_command.specs.declared.command.Command.{Command}
-use Rattle.dsde_cli_command.specs.declared.command.Command.TheVariants.{Check, Run, Resume, Big}
+use Rattle.dsde_cli_command.specs.declared.command.Command.TheVariants.{Check, Run, Resume, Big, Free}
 use Rattle.dsde_cli_command.specs.declared.command.Only.{Only}
 use Rattle.dsde_cli_command.specs.declared.command.Only.TheVariants.{Outputs, Structure}
 use Rattle.dsde_cli_command.specs.declared.command.RunWords.{RunWords}
@@ -20,6 +20,7 @@ IsBounded (Check model print) = ⊤
 IsBounded (Run run) = run.turns ≤ 1_000_000_000
 IsBounded (Resume file run) = run.turns ≤ 1_000_000_000
 IsBounded (Big seed turns) = turns ≤ 1_000_000_000
+IsBounded (Free model turns seed) = turns ≤ 1_000_000_000
 
 -- A model is to be checked: the bytes of its name, and whether its text is to be printed.
 pub record CheckCommand : Type 0 where
@@ -44,12 +45,20 @@ pub record BigCommand : Type 0 where
   pub seed : ℕ
   pub turns : ℕ
 
+-- A model is to be run in an order of moves that is drawn: the bytes of its name, the most turns, and the seed
+-- of the generator that draws.
+pub record FreeCommand : Type 0 where
+  pub model : List ℕ
+  pub turns : ℕ
+  pub seed : ℕ
+
 -- What is to be done.
 pub data Task : Type 0 where
   checks : CheckCommand → Task
   runs : RunCommand → Task
   resumes : ResumeCommand → Task
   counts : BigCommand → Task
+  draws : FreeCommand → Task
 
 -- What a run is asked to be.
 abbrev pub run_asked : RunWords → RunCommand
@@ -61,19 +70,21 @@ task_of (Check model print) = checks (record { model = model.now; print = print 
 task_of (Run run) = runs (run_asked run)
 task_of (Resume file run) = resumes (record { file = file.now; run = run_asked run })
 task_of (Big seed turns) = counts (record { seed = seed; turns = turns })
+task_of (Free model turns seed) = draws (record { model = model.now; turns = turns; seed = seed })
 
 -- What the words after the command give, each from left to right: the positional words, the values
--- of `--turns`, of `--only` and of `--save`, and each `--print`.
+-- of `--turns`, of `--only`, of `--save` and of `--order`, and each `--print`.
 pub record Line : Type 0 where
   pub positional : List (List ℕ)
   pub turns : List (List ℕ)
   pub onlys : List (List ℕ)
   pub saves : List (List ℕ)
+  pub orders : List (List ℕ)
   pub prints : List (List ℕ)
 
 -- A line of no words.
 abbrev pub no_words : Line
-no_words = record { positional = []; turns = []; onlys = []; saves = []; prints = [] }
+no_words = record { positional = []; turns = []; onlys = []; saves = []; orders = []; prints = [] }
 
 -- A line with one positional word more, before the others.
 abbrev pub with_positional : List ℕ → Line → Line
@@ -88,13 +99,15 @@ abbrev pub valued_of : List ℕ → Option Valued
 valued_of word =
     if bytes_eq word (codes "--turns") then Some valued.Turns
     else (if bytes_eq word (codes "--only") then Some valued.Only
-    else (if bytes_eq word (codes "--save") then Some valued.Save else None))
+    else (if bytes_eq word (codes "--save") then Some valued.Save
+    else (if bytes_eq word (codes "--order") then Some valued.Order else None)))
 
 -- A line with one value of such an option more, before the others.
 abbrev pub with_value : Valued → List ℕ → Line → Line
 with_value valued.Turns value line = record line { turns = value ∷ line.turns }
 with_value valued.Only value line = record line { onlys = value ∷ line.onlys }
 with_value valued.Save value line = record line { saves = value ∷ line.saves }
+with_value valued.Order value line = record line { orders = value ∷ line.orders }
 
 -- A word that may only be an option.
 abbrev pub is_option : List ℕ → Bool
@@ -173,12 +186,12 @@ abbrev pub ◌>>=◌ : {A B : Type 0} → Option A → (A → Option B) → Opti
 found >>= next = option_and_then next found
 
 -- The check of a line: its one positional word is the model's name, `--print` stands in it at most
--- once, and `--turns`, `--only` and `--save` nowhere.
+-- once, and `--turns`, `--only`, `--save` and `--order` nowhere.
 abbrev pub check_of : Line → Option Task
-check_of line = without line.turns (without line.onlys (without line.saves (do
+check_of line = without line.turns (without line.onlys (without line.saves (without line.orders (do
   model ← only line.positional
   print ← is_given line.prints
-  Some (checks (record { model = model; print = print })))))
+  Some (checks (record { model = model; print = print }))))))
 
 -- What a line asks a run of the model of this name to be: `--turns` stands in it once, `--only` and
 -- `--save` at most once.
@@ -190,30 +203,42 @@ run_on line model = do
   save ← if_given line.saves
   Some (record { model = model; turns = turns; kept = kept; save = save })
 
--- The run of a line: its one positional word is the model's name, and `--print` stands nowhere in it.
+-- The run of a line: its one positional word is the model's name, and `--print` and `--order`
+-- stand nowhere in it.
 abbrev pub run_of : Line → Option Task
-run_of line = without line.prints (do
+run_of line = without line.prints (without line.orders (do
   model ← only line.positional
   run ← run_on line model
-  Some (runs run))
+  Some (runs run)))
 
 -- The run of a line that is taken up again: its two positional words are the names of the model and of
--- the image, and `--print` stands nowhere in it.
+-- the image, and `--print` and `--order` stand nowhere in it.
 abbrev pub resume_of : Line → Option Task
-resume_of line = without line.prints (do
+resume_of line = without line.prints (without line.orders (do
   names ← both line.positional
   run ← run_on line names.0
-  Some (resumes (record { file = names.1; run = run })))
+  Some (resumes (record { file = names.1; run = run }))))
 
 -- The run of the large model of a line: its one positional word is the seed, `--turns` stands in it
--- once, and `--only`, `--save` and `--print` nowhere.
+-- once, and `--only`, `--save`, `--order` and `--print` nowhere.
 abbrev pub big_of : Line → Option Task
-big_of line = without line.prints (without line.onlys (without line.saves (do
+big_of line = without line.prints (without line.onlys (without line.saves (without line.orders (do
   word ← only line.positional
   seed ← seed_of word
   value ← only line.turns
   turns ← turns_of value
-  Some (counts (record { seed = seed; turns = turns })))))
+  Some (counts (record { seed = seed; turns = turns }))))))
+
+-- The run of a line in an order that is drawn: its one positional word is the model's name, `--turns` and
+-- `--order` stand in it once, and `--only`, `--save` and `--print` nowhere.
+abbrev pub free_of : Line → Option Task
+free_of line = without line.prints (without line.onlys (without line.saves (do
+  model ← only line.positional
+  value ← only line.turns
+  turns ← turns_of value
+  word ← only line.orders
+  seed ← seed_of word
+  Some (draws (record { model = model; turns = turns; seed = seed })))))
 
 -- The command that words spell: the first word names it.
 abbrev pub command_of : List (List ℕ) → Option Task
@@ -222,7 +247,8 @@ command_of (name ∷ words) =
     if bytes_eq name (codes "check") then line_of words >>= check_of
     else (if bytes_eq name (codes "run") then line_of words >>= run_of
     else (if bytes_eq name (codes "resume") then line_of words >>= resume_of
-    else (if bytes_eq name (codes "big") then line_of words >>= big_of else None)))
+    else (if bytes_eq name (codes "big") then line_of words >>= big_of
+    else (if bytes_eq name (codes "free") then line_of words >>= free_of else None))))
 
 -- The words ask for this check.
 pub record AsksCheck (words : List (List ℕ)) : Type 0 where
@@ -243,3 +269,8 @@ pub record AsksResume (words : List (List ℕ)) : Type 0 where
 pub record AsksBig (words : List (List ℕ)) : Type 0 where
   pub big : BigCommand
   pub spelled : command_of words ≡ Some (counts big)
+
+-- The words ask for this run in an order that is drawn.
+pub record AsksFree (words : List (List ℕ)) : Type 0 where
+  pub free : FreeCommand
+  pub spelled : command_of words ≡ Some (draws free)

@@ -29,6 +29,7 @@ joined given line = record {
   turns = words_of given.turns ++ line.turns;
   onlys = words_of given.only ++ line.onlys;
   saves = words_of given.save ++ line.saves;
+  orders = words_of given.order ++ line.orders;
   prints = prints_of given.print ++ line.prints;
 }
 
@@ -49,7 +50,7 @@ is_pair (item ∷ items) = is_single items
 
 -- Each of its words stands as often at most as in any command.
 abbrev pub is_read : Line → Bool
-is_read line = is_pair line.positional && is_single line.turns && is_single line.onlys && is_single line.saves && is_single line.prints
+is_read line = is_pair line.positional && is_single line.turns && is_single line.onlys && is_single line.saves && is_single line.orders && is_single line.prints
 
 -- A line, where each of its words stands so often at most.
 abbrev pub read_of : Line → Option Line

@@ -10,14 +10,29 @@ use crate::given::read_words;
 #[derive(Clone, Copy, Debug, PartialEq, Eq)]
 pub enum Command<'w> {
     /// `check MODEL [--print]`
-    Check { model: &'w str, print: bool },
+    Check {
+        model: &'w str,
+        print: bool,
+    },
     /// `run MODEL --turns N [--only outputs|structure] [--save FILE]`
     Run(RunWords<'w>),
     /// `resume MODEL FILE --turns N [--only outputs|structure] [--save FILE]`: `file` is the name of
     /// the image that is taken up.
-    Resume { file: &'w str, run: RunWords<'w> },
+    Resume {
+        file: &'w str,
+        run: RunWords<'w>,
+    },
     /// `big SEED --turns N`
-    Big { seed: u32, turns: u64 },
+    Big {
+        seed: u32,
+        turns: u64,
+    },
+    /// `free MODEL --turns N --order SEED`
+    Free {
+        model: &'w str,
+        turns: u64,
+        seed: u32,
+    },
 }
 
 /// What a run is asked to be: the name of its model, the most turns, which lines of its trace are
@@ -40,14 +55,15 @@ pub enum Only {
 /// The command that the words spell; `None` exactly where they spell none.
 ///
 /// The first word names the command. The words after it are read from left to right: `--turns`,
-/// `--only` and `--save` take the next word as their value, whatever it is, `--print` takes none, and
-/// each of the four stands at most once; any other word that begins with `--` spells no command; and
+/// `--only`, `--save` and `--order` take the next word as their value, whatever it is, `--print` takes
+/// none, and each of the five stands at most once; any other word that begins with `--` spells no command; and
 /// the words that are left are the positional ones, in order. The value of `--turns` is 1 to 10 decimal
-/// digits that spell at most a billion, that of `--only` is `outputs` or `structure`, and that of
-/// `--save` any name. `check`, `run` and `big` have one positional word: the model's name, which may be
-/// empty, or for `big` a number of 1 to 10 digits and at most 32 bits; `resume` has two, the names of
-/// the model and of the image. `run` and `resume` want `--turns` and have no `--print`, `check` has
-/// `--print` alone, and `big` wants `--turns` and has nothing else.
+/// digits that spell at most a billion, that of `--only` is `outputs` or `structure`, that of
+/// `--save` any name, and that of `--order` a seed: a number of 1 to 10 digits and at most 32 bits.
+/// `check`, `run`, `big` and `free` have one positional word: the model's name, which may be empty, or
+/// for `big` a seed; `resume` has two, the names of the model and of the image. `run` and `resume` want
+/// `--turns` and have no `--print` and no `--order`, `check` has `--print` alone, `big` wants `--turns`
+/// and has nothing else, and `free` wants `--turns` and `--order` and has nothing else.
 pub fn read_command(words: &[String]) -> Option<Command<'_>>
     ensures spelled { option_map task_of result ≡ command_of (map string_bytes words.now) }
     ensures bounded { IfSome result IsBounded }
@@ -61,6 +77,8 @@ pub fn read_command(words: &[String]) -> Option<Command<'_>>
         read_words(words)?.resume()
     } else if command.as_str() == "big" {
         read_words(words)?.big()
+    } else if command.as_str() == "free" {
+        read_words(words)?.free()
     } else {
         None
     }

@@ -18,6 +18,7 @@ ghost use Rattle.dsde_cli_command.specs.Commands.{
   run_of,
   resume_of,
   big_of,
+  free_of,
 };
 ghost use Rattle.dsde_cli_command.specs.Given.{line_given, joined, given_after, read_of, read_with, read_words_of};
 
@@ -31,6 +32,7 @@ pub(crate) struct Given<'w> {
     turns: Option<&'w str>,
     only: Option<&'w str>,
     save: Option<&'w str>,
+    order: Option<&'w str>,
     print: bool,
 }
 
@@ -48,6 +50,7 @@ enum Valued {
     Turns,
     Only,
     Save,
+    Order,
 }
 
 /// The option that a word is, of those that take the next word as their value.
@@ -58,6 +61,7 @@ fn valued_of(word: &str) -> Option<Valued>
         "--turns" => Some(Valued::Turns),
         "--only" => Some(Valued::Only),
         "--save" => Some(Valued::Save),
+        "--order" => Some(Valued::Order),
         _ => None,
     }
 }
@@ -87,6 +91,13 @@ impl<'w> Given<'w> {
                 Some(_) => None,
                 None => Some(Given {
                     save: Some(value),
+                    ..self
+                }),
+            },
+            Valued::Order => match self.order {
+                Some(_) => None,
+                None => Some(Given {
+                    order: Some(value),
                     ..self
                 }),
             },
@@ -144,7 +155,11 @@ impl<'w> Given<'w> {
         ensures spelled { option_map task_of result ≡ check_of (line_given self.entry) }
         ensures bounded { IfSome result IsBounded }
     {
-        if self.turns.is_some() || self.only.is_some() || self.save.is_some() {
+        if self.turns.is_some()
+            || self.only.is_some()
+            || self.save.is_some()
+            || self.order.is_some()
+        {
             return None;
         }
         match self.positional {
@@ -172,12 +187,13 @@ impl<'w> Given<'w> {
         })
     }
 
-    /// The run of a model, where it was named, its turns were given, and nothing is to be printed.
+    /// The run of a model, where it was named, its turns were given, no seed was, and nothing is to be
+    /// printed.
     pub fn run(self) -> Option<Command<'w>>
         ensures spelled { option_map task_of result ≡ run_of (line_given self.entry) }
         ensures bounded { IfSome result IsBounded }
     {
-        if self.print {
+        if self.print || self.order.is_some() {
             return None;
         }
         match self.positional {
@@ -187,12 +203,12 @@ impl<'w> Given<'w> {
     }
 
     /// The run of a model that is taken up again, where the model and the image were named, its turns
-    /// were given, and nothing is to be printed.
+    /// were given, no seed was, and nothing is to be printed.
     pub fn resume(self) -> Option<Command<'w>>
         ensures spelled { option_map task_of result ≡ resume_of (line_given self.entry) }
         ensures bounded { IfSome result IsBounded }
     {
-        if self.print {
+        if self.print || self.order.is_some() {
             return None;
         }
         match self.positional {
@@ -209,13 +225,32 @@ impl<'w> Given<'w> {
         ensures spelled { option_map task_of result ≡ big_of (line_given self.entry) }
         ensures bounded { IfSome result IsBounded }
     {
-        if self.print || self.only.is_some() || self.save.is_some() {
+        if self.print || self.only.is_some() || self.save.is_some() || self.order.is_some() {
             return None;
         }
         match self.positional {
             Positional::One(seed) => Some(Command::Big {
                 seed: read_seed(seed)?,
                 turns: read_turns(self.turns?)?,
+            }),
+            Positional::Nothing | Positional::Two(..) => None,
+        }
+    }
+
+    /// The run of a model in an order of moves that is drawn, where it was named, its turns and a seed
+    /// were given, and nothing else.
+    pub fn free(self) -> Option<Command<'w>>
+        ensures spelled { option_map task_of result ≡ free_of (line_given self.entry) }
+        ensures bounded { IfSome result IsBounded }
+    {
+        if self.print || self.only.is_some() || self.save.is_some() {
+            return None;
+        }
+        match self.positional {
+            Positional::One(model) => Some(Command::Free {
+                model,
+                turns: read_turns(self.turns?)?,
+                seed: read_seed(self.order?)?,
             }),
             Positional::Nothing | Positional::Two(..) => None,
         }
@@ -242,6 +277,7 @@ pub(crate) fn read_words(words: &[String]) -> Option<Given<'_>>
         turns: None,
         only: None,
         save: None,
+        order: None,
         print: false,
     };
     let mut left = words;

@@ -30,7 +30,7 @@ number_of (BadSave fault) = 8
 
 -- the line that tells the words of the program's commands
 abbrev pub usage_text : List ℕ
-usage_text = codes "usage: dsde check MODEL [--print] | run MODEL --turns N [--only outputs|structure] [--save FILE] | resume MODEL FILE --turns N [--only outputs|structure] [--save FILE] | big SEED --turns N"
+usage_text = codes "usage: dsde check MODEL [--print] | run MODEL --turns N [--only outputs|structure] [--save FILE] | resume MODEL FILE --turns N [--only outputs|structure] [--save FILE] | big SEED --turns N | free MODEL --turns N --order SEED"
 
 -- what a check of a model finds wrong
 abbrev pub wrong_text : WrongKind → List ℕ

@@ -16,7 +16,7 @@ use dsde_values::{Memory, Text, write_path};
 use std::alloc::Global;
 
 const USAGE: &str =
-    "usage: dsde check MODEL [--print] | run MODEL --turns N [--only outputs|structure] [--save FILE] | resume MODEL FILE --turns N [--only outputs|structure] [--save FILE] | big SEED --turns N";
+    "usage: dsde check MODEL [--print] | run MODEL --turns N [--only outputs|structure] [--save FILE] | resume MODEL FILE --turns N [--only outputs|structure] [--save FILE] | big SEED --turns N | free MODEL --turns N --order SEED";
 
 /// Writes the note of a status, if it has one, and answers the status. A write that failed changes
 /// nothing; where memory ran out, that is the status, and its note needs none.

@@ -9,7 +9,7 @@ use Rattle.dsde_cli_run.specs.Outcome.{Comes, SaysEnd}
 use Rattle.dsde_cli_run.specs.Saved.{Stores}
 use Rattle.dsde_cli_status.specs.declared.status.Status.TheVariants.{Done}
 use Rattle.dsde_cli_verdict.specs.Verdict.{Refuses}
-use Rattle.dsde_cli.proofs.Completing.{none-completes, run-completes}
+use Rattle.dsde_cli.proofs.Completing.{none-completes, run-completes, run-ends}
 use Rattle.dsde_cli_run.specs.lemmas.Fronts.{none-taken}
 use Rattle.dsde_cli_run.specs.lemmas.Later.{leaves-later, rose-later, stored-later}
 use Rattle.dsde_cli.proofs.Later.{run-not-before}
@@ -42,7 +42,8 @@ returns-in-Ok-clause-taken g c = λ own holds.
 
 pub returns-in-Ok-clause-complete : goal.returns-in-Ok-clause-complete
 returns-in-Ok-clause-complete g c = λ own holds shelf source sink.
-    run-completes c.runs_end.ensures c.inputs_arrive.ensures c.args.run.now.model.now (g.F.Shelf.held c.args.shelf.now) own c.args.run.now.turns holds (run_asked c.args.run.now).save _ _ _
+    run-completes own (tells_on own (run_asked c.args.run.now))
+    (run-ends c.inputs_arrive.ensures c.args.run.now.model.now (g.F.Shelf.held c.args.shelf.now) own holds c.runs_end.ensures c.args.run.now.turns) (run_asked c.args.run.now).save _ _ _
     (g.R.Source.left c.args.input.now) (g.R.Source.left c.run_loaded.new.input) c.run_loaded.result c.run_loaded.ensures.cause
     (subst (λ own. IfSome (g.R.Source.left c.args.input.now) (λ bytes.
     SaysEnd (tells_on own (run_asked c.args.run.now) (records_in own bytes)).end (g.R.Source.left c.run_loaded.new.input) c.run_loaded.result))
@@ -90,7 +91,9 @@ returns-in-Err-clause-stored g c = λ own holds well.
 
 pub returns-in-Err-clause-complete : goal.returns-in-Err-clause-complete
 returns-in-Err-clause-complete g c = λ own holds shelf source sink.
-    none-completes c.runs_end.ensures c.inputs_arrive.ensures c.args.run.now.model.now (g.F.Shelf.held c.args.shelf.now) own c.args.run.now.turns holds _
+    none-completes own (tells_on own (run_asked c.args.run.now))
+    (run-ends c.inputs_arrive.ensures c.args.run.now.model.now (g.F.Shelf.held c.args.shelf.now) own holds c.runs_end.ensures c.args.run.now.turns)
+    c.args.run.now.model.now (g.F.Shelf.held c.args.shelf.now) _
     (g.R.Source.left c.args.input.now) c.in-Err.status c.in-Err.ensures.none
     (run_cut c.one_verdict.ensures c.args.run.now.model.now (g.F.Shelf.held c.args.shelf.now) _ c.in-Err.status own c.in-Err.ensures.none holds) shelf
 
