@@ -56,7 +56,7 @@ pub record LoadedFree (words : List (List ℕ)) (held : Option Bytes) : Type 0 w
   pub holds : Holds asked.free.model held own
 
 -- What that run tells on records.
-abbrev pub tells_free : {words : List (List ℕ)} {held : Option Bytes} → LoadedFree words held → Records → Run
+unfoldable pub tells_free : {words : List (List ℕ)} {held : Option Bytes} → LoadedFree words held → Records → Run
 tells_free loaded = drawn_on loaded.own loaded.asked.free.seed loaded.asked.free.turns
 
 -- the name under which a task stores the image of its run, if it does

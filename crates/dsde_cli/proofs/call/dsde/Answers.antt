@@ -18,7 +18,7 @@ use Rattle.dsde_cli_status.specs.declared.status.SaveFault.{SaveFault}
 use Rattle.dsde_cli.specs.Answer.{Answers, answer_of}
 use Rattle.dsde_cli.specs.Big.{Summarizes, big_run}
 use Rattle.dsde_cli.specs.Causes.{Cause, CauseResume, Holds, HoldsModel, Runs}
-use Rattle.dsde_cli.specs.Loaded.{save_in, save_of}
+use Rattle.dsde_cli.specs.Loaded.{save_in, save_of, tells_free}
 use Rattle.dsde_cli.specs.Outcome.{Completes, CompletesBack}
 use Rattle.dsde_cli.proofs.Completing.{back-completed, check-reported, completes-reported, holds-right}
 use Rattle.dsde_cli.proofs.Drawing.{end-reported, summary-reported}
@@ -364,6 +364,7 @@ returns-clause-kept g c = elim c.match-read_command.branch [
 ]
 
 pub returns-clause-runs_free : goal.returns-clause-runs_free
+unfolding tells_free
 returns-clause-runs_free g c = λ loaded. elim c.match-read_command.branch [
   | in-Some-Check w ↦ absurd (other_task (checks (record { model = w.in-Some-Check.model.now; print = w.in-Some-Check.print })) (draws loaded.asked.free) (λ same. cc same) ((rw w.in-Some-Check.field-0-is at w.in-Some-Check.ensures.spelled) ∙ loaded.asked.spelled))
   | in-Some-Run w ↦ absurd (other_task (runs (run_asked w.in-Some-Run.run')) (draws loaded.asked.free) (λ same. cc same) ((rw w.in-Some-Run.field-0-is at w.in-Some-Run.ensures.spelled) ∙ loaded.asked.spelled))
@@ -381,6 +382,7 @@ returns-clause-runs_free g c = λ loaded. elim c.match-read_command.branch [
 ]
 
 pub returns-clause-ends_free : goal.returns-clause-ends_free
+unfolding tells_free
 returns-clause-ends_free g c = λ loaded. elim c.match-read_command.branch [
   | in-Some-Check w ↦ absurd (other_task (checks (record { model = w.in-Some-Check.model.now; print = w.in-Some-Check.print })) (draws loaded.asked.free) (λ same. cc same) ((rw w.in-Some-Check.field-0-is at w.in-Some-Check.ensures.spelled) ∙ loaded.asked.spelled))
   | in-Some-Run w ↦ absurd (other_task (runs (run_asked w.in-Some-Run.run')) (draws loaded.asked.free) (λ same. cc same) ((rw w.in-Some-Run.field-0-is at w.in-Some-Run.ensures.spelled) ∙ loaded.asked.spelled))
@@ -397,6 +399,7 @@ returns-clause-ends_free g c = λ loaded. elim c.match-read_command.branch [
 ]
 
 pub returns-clause-complete_free : goal.returns-clause-complete_free
+unfolding tells_free
 returns-clause-complete_free g c = λ loaded. elim c.match-read_command.branch [
   | in-Some-Check w ↦ absurd (other_task (checks (record { model = w.in-Some-Check.model.now; print = w.in-Some-Check.print })) (draws loaded.asked.free) (λ same. cc same) ((rw w.in-Some-Check.field-0-is at w.in-Some-Check.ensures.spelled) ∙ loaded.asked.spelled))
   | in-Some-Run w ↦ absurd (other_task (runs (run_asked w.in-Some-Run.run')) (draws loaded.asked.free) (λ same. cc same) ((rw w.in-Some-Run.field-0-is at w.in-Some-Run.ensures.spelled) ∙ loaded.asked.spelled))
@@ -413,6 +416,7 @@ returns-clause-complete_free g c = λ loaded. elim c.match-read_command.branch [
 ]
 
 pub returns-clause-taken_free : goal.returns-clause-taken_free
+unfolding tells_free
 returns-clause-taken_free g c = λ loaded. elim c.match-read_command.branch [
   | in-Some-Check w ↦ absurd (other_task (checks (record { model = w.in-Some-Check.model.now; print = w.in-Some-Check.print })) (draws loaded.asked.free) (λ same. cc same) ((rw w.in-Some-Check.field-0-is at w.in-Some-Check.ensures.spelled) ∙ loaded.asked.spelled))
   | in-Some-Run w ↦ absurd (other_task (runs (run_asked w.in-Some-Run.run')) (draws loaded.asked.free) (λ same. cc same) ((rw w.in-Some-Run.field-0-is at w.in-Some-Run.ensures.spelled) ∙ loaded.asked.spelled))
