@@ -9,9 +9,7 @@ use Rattle.dsde_values.specs.Path.{root, EXEC}
 use Rattle.dsde_syntax.specs.declared.decl.Model.{Model}
 use Rattle.dsde_formalism.specs.declared.leaf.Leaf.{Leaf}
 use Rattle.dsde_structure.specs.Gather.{is_same_name}
-use Rattle.dsde_grove.specs.Grove as grove
 use Rattle.dsde_grove.specs.Grove.{value_of}
-use Rattle.dsde_sim_events.specs.Told.{to_boss}
 use Rattle.dsde_sim_tree.specs.declared.sim.Kid.{Kid}
 use Rattle.dsde_sim_tree.specs.declared.sim.Net.{Net}
 use Rattle.dsde_sim_tree.specs.declared.sim.Sim.{Sim}
@@ -19,15 +17,14 @@ use Rattle.dsde_sim_tree.specs.declared.sim.Sim.TheVariants as sim
 use Rattle.dsde_sim_tree.specs.declared.sim.Sim.TheOpen as layer
 use Rattle.dsde_sim_tree.specs.declared.sim.Sim.TheOpen.{Sim-F}
 use Rattle.dsde_sim_tree.specs.declared.sim.Sim.TheViews.{out-Net, out-Sim, roll-Sim, roll-out-Sim, rolls-Leaf, rolls-Net}
-use Rattle.dsde_sim_movers.specs.Movers.{leaf_at, leaf_in as leaf_of_part, path_behind, seat_behind, seat_of, seat_within, Seat}
+use Rattle.dsde_sim_movers.specs.Movers.{leaf_at, leaf_in as leaf_of_part, path_behind, seat_behind, seat_of, Seat}
 use Rattle.dsde_sim_movers.specs.Names.{IsNamed}
 use Rattle.dsde_sim_movers.specs.Parts.{part_at}
 use Rattle.dsde_sim_movers.specs.lemmas.Seats.{drop-front}
 use Rattle.dsde_sim_movers.specs.lemmas.Spotting.{spots-at}
-use Rattle.dsde_sim_starting.specs.Fitting.{FitsAtomic, FitsSpot, FitsTree}
+use Rattle.dsde_sim_starting.specs.Fitting.{FitsSpot, FitsTree}
 use Rattle.dsde_sim_starting.specs.lemmas.Fits.{leaf-tree}
 use Rattle.dsde_routes_wiring.specs.declared.wiring.WiredKid.TheViews.{out-Wiring}
-use Rattle.dsde_core_flat.specs.declared.spot.Spot.{Spot}
 use Rattle.dsde_core_flat.specs.Places.{part_places}
 use Rattle.dsde_core_flat.specs.Shown.{leaf_in}
 use Rattle.dsde_core_flat.specs.Stands.{Leads}

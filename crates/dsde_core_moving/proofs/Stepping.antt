@@ -14,10 +14,10 @@ use Rattle.dsde_formalism.specs.declared.leaf.MoveKind.{MoveKind}
 use Rattle.dsde_formalism.specs.declared.leaf.MoveKind.TheVariants.{Internal, External, Confluent}
 use Rattle.dsde_formalism.specs.System.{Ports}
 use Rattle.dsde_formalism.specs.Leaf.{has_come, is_due, kind_of}
-use Rattle.dsde_sim_movers.specs.Movers.{leaf_at, seat_behind}
+use Rattle.dsde_sim_movers.specs.Movers.{seat_behind}
 use Rattle.dsde_core_steps.specs.declared.flat.Flat.{Flat}
 use Rattle.dsde_core_steps.specs.declared.flat.Mover.{Mover}
-use Rattle.dsde_core_steps.specs.Flat.{leaf_of, tree_of, IsComponent, IsThere, Stands}
+use Rattle.dsde_core_steps.specs.Flat.{leaf_of, IsComponent, IsThere, Stands}
 use Rattle.dsde_core_executives.specs.Executive.{IsExecutive}
 use Rattle.dsde_core_moving.specs.Moving.{most_births, IsCalled}
 use Rattle.dsde_core_moving.proofs.Held.{boss-seat, held-is}
