@@ -1,8 +1,7 @@
 //! `dsde_test_cases`: runs whole commands over memory, and compares how they end with what is wanted.
 //!
 //! The words after the program's name are names of files of cases. It writes a line for each case,
-//! which says `ok` or what differs, and then what `report` writes for statuses that no command
-//! comes to yet.
+//! which says `ok` or what differs, and then what `report` writes for some statuses by themselves.
 #![tactic(auto)]
 
 mod compare;

@@ -1,4 +1,4 @@
-//! Statuses to which no command comes yet.
+//! What is noted of statuses by themselves.
 
 use anyhow::{Result, anyhow};
 use dsde_check_rules::WrongKind;
