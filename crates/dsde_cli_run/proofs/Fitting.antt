@@ -1,17 +1,18 @@
 -- What bytes are the image of, from what is restored of them.
-use Rattle.std.proofs.Common.{◌≡◌, ◌≢◌, ℕ, ◌≤◌, ◌<◌, List, ◌++◌, length, sym, ap, subst, ◌∙◌, refl, arith}
-use Rattle.std.specs.Prelude.{Result, Ok, Err, Option, Some, None, IfOk, IfErr, IfSome, IsSomeAnd, codes}
+use Rattle.std.proofs.Common.{◌≡◌, ◌≢◌, ℕ, ◌≤◌, ◌<◌, ◌^◌, List, ◌++◌, length, sym, ap, subst, ◌∙◌, refl, arith}
+use Rattle.std.specs.Prelude.{is_some, Result, Ok, Err, Option, Some, None, IfOk, IfErr, IfSome, IsSomeAnd, codes}
 use Rattle.serde_json.specs.Data.{Data}
 use Rattle.dsde_syntax.specs.declared.decl.Model.{Model}
 use Rattle.dsde_values.specs.Path.{path_text}
 use Rattle.dsde_sim_turns.specs.Engine.{Engine}
-use Rattle.dsde_sim.specs.Working.{Working, working}
+use Rattle.dsde_sim_working.specs.Working.{Working, working}
+use Rattle.dsde_core.specs.Standing.{Standing}
 use Rattle.dsde_image.specs.Image.{IsImage}
 use Rattle.dsde_image.specs.declared.image.Image.{Image}
 use Rattle.dsde_image_fits.specs.Walk.{Walked}
 use Rattle.dsde_image_json.specs.Json.{image_data}
 use Rattle.dsde_image_json.specs.Text.{IsReading}
-use Rattle.dsde_save.specs.Saved.{IsMisfit, IsMisfitOf, IsOf, IsRestored, Says, engine_of, fitting}
+use Rattle.dsde_save.specs.Saved.{at_work, IsMisfit, IsMisfitOf, IsOf, IsRestored, Says, engine_of, fitting}
 use Rattle.dsde_save.specs.declared.restoring.RestoreError.{RestoreError}
 use Rattle.dsde_save.specs.declared.restoring.RestoreError.TheVariants as restore_error
 use Rattle.dsde_io.specs.Held.{Bytes}
@@ -43,12 +44,17 @@ one_engine program image this that first other =
     first.is ∙ ap (λ tree. working program (engine_of image tree)) (ok-is (sym first.fits ∙ other.fits)) ∙ sym other.is
 
 -- what the bytes are the image of is what was restored of them
-pub restored-only : (program : Model) (bytes : List ℕ) (own : Working) → ((image : Image) → Says bytes image → IsOf program image own) → (engine : Engine) → IsRestored program bytes (working program engine) → own ≡ working program engine
-restored-only program bytes own exact engine is = one_engine program is.image own (working program engine) (exact is.image is.says) is.engine
+pub restored-only : (program : Model) (bytes : List ℕ) (own : Standing) → ((image : Image) → Says bytes image → IsOf program image (at_work own)) → (engine : Engine) → IsRestored program bytes (working program engine) → at_work own ≡ working program engine
+restored-only program bytes own exact engine is = one_engine program is.image (at_work own) (working program engine) (exact is.image is.says) is.engine
 
 -- an engine that was restored may go on
-pub ready-of : (program : Model) (bytes : List ℕ) (own : Working) → IsRestored program bytes own → IsReady program own
-ready-of program bytes own is = subst (IsReady program) (sym is.engine.is) (record { of = refl; fresh = refl; early = is.says.image_is.turn })
+pub ready-of : (program : Model) (bytes : List ℕ) (own : Standing) → IsRestored program bytes (at_work own) → own.born ≤ 131_072 → IsReady program own
+ready-of program bytes own is young = record {
+  of = ap (λ (work : Working). work.program) is.engine.is;
+  fresh = ap (λ (work : Working). is_some work.engine.tree) is.engine.is;
+  early = subst (λ (work : Working). work.engine.turn ≤ 2 ^ 62) (sym is.engine.is) is.says.image_is.turn;
+  young = young;
+}
 
 -- what is wrong with bytes of which nothing was restored
 pub none-restored : (program : Model) (bytes : List ℕ) (why : RestoreError) →
@@ -76,8 +82,8 @@ never-restored program bytes own exact is (save.DoesNotFit path) refuses = let o
 never-restored program bytes own exact is save.FewRecords refuses = refuses
 
 -- where bytes are refused, that is told
-pub refused-ok : (program : Model) (bytes : List ℕ) (own : Working) → ((image : Image) → Says bytes image → IsOf program image own) → IsRestored program bytes own → (fault : SaveFault) → RefusesSave program fault bytes → IsRefused fault (Ok own)
-refused-ok program bytes own exact is fault refuses = never-restored program bytes own exact is fault refuses
+pub refused-ok : (program : Model) (bytes : List ℕ) (own : Standing) → ((image : Image) → Says bytes image → IsOf program image (at_work own)) → IsRestored program bytes (at_work own) → (fault : SaveFault) → RefusesSave program fault bytes → IsRefused fault (Ok own)
+refused-ok program bytes own exact is fault refuses = never-restored program bytes (at_work own) exact is fault refuses
 
 pub refused-told : (program : Model) (bytes : List ℕ) (why : RestoreError) →
     (why ≡ restore_error.NotJson → (seen : Data) → ¬ (IsReading bytes seen)) →
@@ -117,12 +123,12 @@ module _ (program : Model) (file : List ℕ) (held : Option Bytes) (bytes : List
     restores = record { short = short; restored = subst (IsRestored program bytes) is.engine.is is };
   }
 
-  pub loaded-some : (result : Result Working Status) → IfOk result (IsRestored program bytes) → IfOk result (λ own. Under file held (RestoresSome program))
-  loaded-some (Ok own) is = under-told file held bytes (RestoresSome program) told (some-of own is)
+  pub loaded-some : (result : Result Standing Status) → IfOk result (λ own. IsRestored program bytes (at_work own)) → IfOk result (λ own. Under file held (RestoresSome program))
+  loaded-some (Ok own) is = under-told file held bytes (RestoresSome program) told (some-of (at_work own) is)
   loaded-some (Err status) is = tt
 
-  pub loaded-only : (result : Result Working Status) → IfOk result (λ own. (engine : Engine) → IsRestored program bytes (working program engine) → own ≡ working program engine) →
-      IfOk result (λ own. (engine : Engine) → Has file held (Restores program engine) → own ≡ working program engine)
+  pub loaded-only : (result : Result Standing Status) → IfOk result (λ own. (engine : Engine) → IsRestored program bytes (working program engine) → at_work own ≡ working program engine) →
+      IfOk result (λ own. (engine : Engine) → Has file held (Restores program engine) → at_work own ≡ working program engine)
   loaded-only (Ok own) only = λ engine has. only engine (has-told file held bytes (Restores program engine) told has).restored
   loaded-only (Err status) only = tt
 
@@ -137,16 +143,16 @@ module _ (program : Model) (file : List ℕ) (held : Option Bytes) (bytes : List
   no-save ShelfFails (Unread reading because) none = absurd none
   no-save ShelfFails (Unwritten writing) none = absurd none
 
-  pub loaded-none : (ShelfFails : Type 0) (result : Result Working Status) → IfErr result (NoneRestored program bytes) → IfErr result (NoSave program file held ShelfFails)
+  pub loaded-none : (ShelfFails : Type 0) (result : Result Standing Status) → IfErr result (NoneRestored program bytes) → IfErr result (NoSave program file held ShelfFails)
   loaded-none ShelfFails (Ok own) none = tt
   loaded-none ShelfFails (Err status) none = no-save ShelfFails status none
 
-  pub loaded-cut : (result : Result Working Status) → IfErr result (λ status. (engine : Engine) → IsRestored program bytes (working program engine) → status ≡ Memory) →
+  pub loaded-cut : (result : Result Standing Status) → IfErr result (λ status. (engine : Engine) → IsRestored program bytes (working program engine) → status ≡ Memory) →
       IfErr result (λ status. (engine : Engine) → Has file held (Restores program engine) → IsLoadCut status)
   loaded-cut (Ok own) cut = tt
   loaded-cut (Err status) cut = λ engine has. subst IsLoadCut (sym (cut engine (has-told file held bytes (Restores program engine) told has).restored)) tt
 
-  pub loaded-refused : (result : Result Working Status) → ((fault : SaveFault) → RefusesSave program fault bytes → IsRefused fault result) → (fault : SaveFault) → Has file held (IsRefusedFor program fault) → IsRefused fault result
+  pub loaded-refused : (result : Result Standing Status) → ((fault : SaveFault) → RefusesSave program fault bytes → IsRefused fault result) → (fault : SaveFault) → Has file held (IsRefusedFor program fault) → IsRefused fault result
   loaded-refused result refused fault has = refused fault (has-told file held bytes (IsRefusedFor program fault) told has).refuses
 
 -- a name that has bytes is not absent

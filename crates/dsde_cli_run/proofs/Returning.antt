@@ -6,7 +6,7 @@ use Rattle.dsde_syntax.specs.declared.decl.Model.{Model}
 use Rattle.dsde_input_records.specs.Records.{Records}
 use Rattle.dsde_sim_events.specs.declared.event.Finish.{Finish}
 use Rattle.dsde_sim_events.specs.declared.event.Finish.TheVariants as how
-use Rattle.dsde_sim.specs.Working.{Working}
+use Rattle.dsde_core.specs.Standing.{Standing}
 use Rattle.dsde_sim_turns.specs.Engine.{Engine}
 use Rattle.dsde_run_saved.specs.Saved.{image_at, image_left}
 use Rattle.dsde_run_meaning.specs.Run.{Run}
@@ -255,7 +255,7 @@ pub done_is_no_cut : (status : Status) → status ≡ Done → IsLoadCut status 
 done_is_no_cut status well cut = let none : IsLoadCut Done = subst IsLoadCut well cut in none
 
 -- the engine that is there where all went well is not spent
-pub fresh-back : (answer : Result Finish Unresumed) (own : Working) → IfOk answer (λ how. IsWhole how → is_some own.engine.tree ≡ true) → status_back answer ≡ Done → is_some own.engine.tree ≡ true
+pub fresh-back : (answer : Result Finish Unresumed) (own : Standing) → IfOk answer (λ how. IsWhole how → is_some own.engine.tree ≡ true) → status_back answer ≡ Done → is_some own.engine.tree ≡ true
 fresh-back (Ok how.Bound) own unspent well = unspent tt
 fresh-back (Ok how.Quiet) own unspent well = unspent tt
 fresh-back (Ok (how.Input kind line)) own unspent well = absurd (cc well)
@@ -285,14 +285,14 @@ well-back : (own : Running) (turns : ℕ) (engine : Engine) (left left_after : O
 well-back own turns engine left left_after status well says = subst (λ status. IfSome left (λ input. SaysBack own turns engine input left_after status)) well says
 
 -- What a run stores that was taken up again and ended well.
-pub stored-back-told : (own : Running) (pick : Pick) (turns : ℕ) (engine : Engine) (name : Option (List ℕ)) (plain : Working) (held : Option Bytes) (left left_after before after : Option (List ℕ)) (answer : Result Finish Unresumed) →
-    status_back answer ≡ Done → plain.program ≡ own.model → Told left left_after (resuming.ComesBack own pick turns engine plain.engine before after answer) →
-    (answer ≡ Ok how.Quiet → Told left left_after (λ _ rest. rest ≡ [])) → Stores name (image_at plain.program plain.engine) held →
+pub stored-back-told : (own : Running) (pick : Pick) (turns : ℕ) (engine : Engine) (name : Option (List ℕ)) (core : Standing) (held : Option Bytes) (left left_after before after : Option (List ℕ)) (answer : Result Finish Unresumed) →
+    status_back answer ≡ Done → core.program ≡ own.model → Told left left_after (resuming.ComesBack own pick turns engine core.engine before after answer) →
+    (answer ≡ Ok how.Quiet → Told left left_after (λ _ rest. rest ≡ [])) → Stores name (image_at core.program core.engine) held →
     IfSome left (λ input. Stores name (image_left own.model (resumed own input turns engine)) held)
-stored-back-told own pick turns engine name plain held left left_after before after answer well of comes quiet stores =
-    stored-left name plain.program own.model plain.engine held (λ input. resumed own input turns engine) left left_after of stores
-    (well-back own turns engine left left_after (status_back answer) well (says-told own pick turns engine plain.engine left left_after before after answer comes quiet))
-    (stands-back own pick turns engine plain.engine left left_after before after answer well comes)
+stored-back-told own pick turns engine name core held left left_after before after answer well of comes quiet stores =
+    stored-left name core.program own.model core.engine held (λ input. resumed own input turns engine) left left_after of stores
+    (well-back own turns engine left left_after (status_back answer) well (says-told own pick turns engine core.engine left left_after before after answer comes quiet))
+    (stands-back own pick turns engine core.engine left left_after before after answer well comes)
 
 -- where there are too few records nothing was stored
 few-is : (answer : Result Finish Unresumed) → status_back answer ≡ BadSave save.FewRecords → answer ≡ Err unresumed.FewRecords

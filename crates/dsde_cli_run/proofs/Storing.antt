@@ -5,7 +5,7 @@ use Rattle.std.specs.Option.{option_map}
 use Rattle.serde_json.specs.Written.{compact_text}
 use Rattle.dsde_syntax.specs.declared.decl.Model.{Model}
 use Rattle.dsde_sim_tree.specs.declared.sim.Sim.{Sim}
-use Rattle.dsde_sim.specs.Working.{Working}
+use Rattle.dsde_core.specs.Standing.{Standing}
 use Rattle.dsde_sim_turns.specs.Engine.{Engine}
 use Rattle.dsde_sim_events.specs.declared.event.Finish.{Finish}
 use Rattle.dsde_sim_events.specs.declared.event.Finish.TheVariants as how
@@ -210,21 +210,21 @@ stored-left name program own engine held tells (Some input) (Some after) of stor
     stores-same name (image_at program engine) (image_left own (tells input)) held (ap (λ program. image_at program engine) of ∙ left-of own (tells input) (Some after) engine well stands) stores
 
 -- The same of the engine that a run left.
-pub stored-engine : (name : Option (List ℕ)) (own : Model) (held : Option Bytes) (tells : List ℕ → Run) (left left_after : Option (List ℕ)) (found : Option Working) →
-    IsSomeAnd found (λ plain. (plain.program ≡ own) × (is_some plain.engine.tree ≡ true)) → IfSome found (λ plain. Stores name (image_at plain.program plain.engine) held) →
-    IfSome left (λ input. EndsWell (tells input).end left_after) → Told left left_after (λ input after. IsSomeAnd found (λ plain. plain.engine ≡ (tells input).state)) →
+pub stored-engine : (name : Option (List ℕ)) (own : Model) (held : Option Bytes) (tells : List ℕ → Run) (left left_after : Option (List ℕ)) (found : Option Standing) →
+    IsSomeAnd found (λ core. (core.program ≡ own) × (is_some core.engine.tree ≡ true)) → IfSome found (λ core. Stores name (image_at core.program core.engine) held) →
+    IfSome left (λ input. EndsWell (tells input).end left_after) → Told left left_after (λ input after. IsSomeAnd found (λ core. core.engine ≡ (tells input).state)) →
     IfSome left (λ input. Stores name (image_left own (tells input)) held)
 stored-engine name own held tells left left_after None of stores well stands = absurd of
-stored-engine name own held tells left left_after (Some plain) of stores well stands = stored-left name plain.program own plain.engine held tells left left_after of.0 stores well stands
+stored-engine name own held tells left left_after (Some core) of stores well stands = stored-left name core.program own core.engine held tells left left_after of.0 stores well stands
 
 -- an engine of the program that is not spent is not spent
-weaker : (own : Model) (found : Option Working) → IsSomeAnd found (λ plain. (plain.program ≡ own) × (is_some plain.engine.tree ≡ true)) → IsSomeAnd found (λ plain. is_some plain.engine.tree ≡ true)
+weaker : (own : Model) (found : Option Standing) → IsSomeAnd found (λ core. (core.program ≡ own) × (is_some core.engine.tree ≡ true)) → IsSomeAnd found (λ core. is_some core.engine.tree ≡ true)
 weaker own None of = of
-weaker own (Some plain) of = of.1
+weaker own (Some core) of = of.1
 
 -- the engine that is there where all went well is not spent
-pub left-fresh : (own : Model) (answer : Result Finish Cut) (found : Option Working) → IfOk answer (λ how. IsWhole how → IsSomeAnd found (λ plain. (plain.program ≡ own) × (is_some plain.engine.tree ≡ true))) →
-    status_by answer ≡ Done → IsSomeAnd found (λ plain. is_some plain.engine.tree ≡ true)
+pub left-fresh : (own : Model) (answer : Result Finish Cut) (found : Option Standing) → IfOk answer (λ how. IsWhole how → IsSomeAnd found (λ core. (core.program ≡ own) × (is_some core.engine.tree ≡ true))) →
+    status_by answer ≡ Done → IsSomeAnd found (λ core. is_some core.engine.tree ≡ true)
 left-fresh own (Ok how.Bound) found left well = weaker own found (left tt)
 left-fresh own (Ok how.Quiet) found left well = weaker own found (left tt)
 left-fresh own (Ok (how.Input kind line)) found left well = absurd (cc well)
@@ -234,10 +234,10 @@ left-fresh own (Err cut.Unwritten) found left well = absurd (cc well)
 left-fresh own (Err cut.Memory) found left well = absurd (cc well)
 
 -- What a run stores that ended well.
-pub stored-told : (name : Option (List ℕ)) (own : Model) (held : Option Bytes) (tells : List ℕ → Run) (left left_after : Option (List ℕ)) (answer : Result Finish Cut) (found : Option Working) → status_by answer ≡ Done →
-    IfOk answer (λ how. IsWhole how → IsSomeAnd found (λ plain. (plain.program ≡ own) × (is_some plain.engine.tree ≡ true))) →
-    IfOk answer (λ how. IsWhole how → Told left left_after (λ input after. IsSomeAnd found (λ plain. plain.engine ≡ (tells input).state))) →
-    IfSome found (λ plain. Stores name (image_at plain.program plain.engine) held) → IfSome left (λ input. SaysEnd (tells input).end left_after (status_by answer)) →
+pub stored-told : (name : Option (List ℕ)) (own : Model) (held : Option Bytes) (tells : List ℕ → Run) (left left_after : Option (List ℕ)) (answer : Result Finish Cut) (found : Option Standing) → status_by answer ≡ Done →
+    IfOk answer (λ how. IsWhole how → IsSomeAnd found (λ core. (core.program ≡ own) × (is_some core.engine.tree ≡ true))) →
+    IfOk answer (λ how. IsWhole how → Told left left_after (λ input after. IsSomeAnd found (λ core. core.engine ≡ (tells input).state))) →
+    IfSome found (λ core. Stores name (image_at core.program core.engine) held) → IfSome left (λ input. SaysEnd (tells input).end left_after (status_by answer)) →
     IfSome left (λ input. Stores name (image_left own (tells input)) held)
 stored-told name own held tells left left_after (Ok how.Bound) found well of stands stores ends = stored-engine name own held tells left left_after found (of tt) stores ends (stands tt)
 stored-told name own held tells left left_after (Ok how.Quiet) found well of stands stores ends = stored-engine name own held tells left left_after found (of tt) stores ends (stands tt)

@@ -5,7 +5,8 @@ use Rattle.dsde_syntax.specs.declared.decl.Model.{Model}
 use Rattle.dsde_values.specs.Path.{path_text}
 use Rattle.dsde_sim_events.specs.declared.event.Finish.{Finish}
 use Rattle.dsde_sim_turns.specs.Engine.{Engine}
-use Rattle.dsde_sim.specs.Working.{Working, working}
+use Rattle.dsde_sim_working.specs.Working.{working}
+use Rattle.dsde_core.specs.Standing.{Standing}
 use Rattle.dsde_trace.specs.declared.pick.Pick.{Pick}
 use Rattle.dsde_image.specs.Image.{IsImage}
 use Rattle.dsde_image.specs.declared.image.Image.{Image}
@@ -46,11 +47,13 @@ pub record RestoresSome (program : Model) (bytes : List ℕ) : Type 0 where
   pub engine : Engine
   pub restores : Restores program engine bytes
 
--- The engine is one of the program that may go on: it has a tree, and no more turns than an image has are done.
-pub record IsReady (program : Model) (own : Working) : Type 0 where
+-- The engine is one of the program that may go on: it has a tree, no more turns than an image has are done, and no more
+-- parts were born than may be alive.
+pub record IsReady (program : Model) (own : Standing) : Type 0 where
   pub of : own.program ≡ program
   pub fresh : is_some own.engine.tree ≡ true
   pub early : own.engine.turn ≤ 2 ^ 62
+  pub young : own.born ≤ 131_072
 
 -- What is wrong with bytes that are the image of no engine of the program: they say no JSON value; they say
 -- one, but no image; or they say an image that does not fit, and this is the first path at which it does not.
@@ -111,7 +114,7 @@ TellsSave fault Memory = ⊤
 TellsSave fault other = ⊥
 
 -- There is no engine, and the status tells what is wrong with its image, unless a load failed or memory ran out.
-abbrev pub IsRefused : SaveFault → Result Working Status → Type 0
+abbrev pub IsRefused : SaveFault → Result Standing Status → Type 0
 IsRefused fault (Ok own) = ⊥
 IsRefused fault (Err status) = TellsSave fault status
 

@@ -2,12 +2,12 @@
 
 ghost use Rattle.std.specs.Prelude.{◌≡◌, ◌≤◌, [], IfOk, IfErr, IfSome};
 ghost use Rattle.dsde_io.specs.Fault.{Rose};
-ghost use Rattle.dsde_sim.specs.Working.{working};
+ghost use Rattle.dsde_sim_working.specs.Working.{working};
 ghost use Rattle.dsde_sim_turns.specs.Engine.{Engine};
 ghost use Rattle.dsde_run.specs.Reading.{Told, TakesWanted};
 ghost use Rattle.dsde_run_resume.specs.Resumed.{records_for, resumed, resumed_on};
 ghost use Rattle.dsde_run_saved.specs.Saved.{image_left};
-ghost use Rattle.dsde_save.specs.Saved.{IsRestored};
+ghost use Rattle.dsde_save.specs.Saved.{at_work, IsRestored};
 ghost use Rattle.dsde_cli_command.specs.Commands.{run_asked};
 ghost use Rattle.dsde_cli_status.specs.declared.status.SaveFault.{SaveFault};
 ghost use Rattle.dsde_cli_run.specs.Asked.{pick_of};
@@ -19,12 +19,12 @@ use crate::run::{pick_of, status_by};
 use crate::save::store_where_asked;
 use dsde_cli_command::RunWords;
 use dsde_cli_status::{SaveFault, Status, What, Why};
+use dsde_core::Core;
 use dsde_io::{Shelf, ShelfEnd, Sink, Source};
 use dsde_program::Program;
 use dsde_run::Running;
 use dsde_run_resume::{Unresumed, resume_turns};
 use dsde_save::{RestoreError, restore};
-use dsde_sim::Plain;
 use dsde_sim_events::Finish;
 use std::alloc::Global;
 
@@ -71,7 +71,7 @@ pub fn resume_and_store<F: Shelf, R: Source, W: Sink>(
     ensures out_counted { W.faults out.old ≤ W.faults out.new }
 {
     match load_engine(alloc, own.program(), file, shelf) {
-        Ok(mut plain) => resume_loaded(alloc, own, &mut plain, run, shelf, input, out),
+        Ok(mut core) => resume_loaded(alloc, own, &mut core, run, shelf, input, out),
         Err(status) => status,
     }
 }
@@ -82,10 +82,10 @@ fn load_engine<'p, F: Shelf>(
     program: &'p Program<'p>,
     file: &str,
     shelf: &mut F,
-) -> Result<Plain<'p>, Status>
+) -> Result<Core<'p>, Status>
     ensures ready { IfOk result (IsReady program.now) }
-    ensures restored { IfOk result (λ plain. Under file.now (F.held shelf.old) (RestoresSome program.now)) }
-    ensures only { IfOk result (λ plain. (engine : Engine) → Has file.now (F.held shelf.old) (Restores program.now engine) → plain ≡ working program.now engine) }
+    ensures restored { IfOk result (λ core. Under file.now (F.held shelf.old) (RestoresSome program.now)) }
+    ensures only { IfOk result (λ core. (engine : Engine) → Has file.now (F.held shelf.old) (Restores program.now engine) → at_work core ≡ working program.now engine) }
     ensures none { IfErr result (NoSave program.now file.now (F.held shelf.old) (Rose (F.faults shelf.old) (F.faults shelf.new))) }
     ensures cut { IfErr result (λ status. (engine : Engine) → Has file.now (F.held shelf.old) (Restores program.now engine) → IsLoadCut status) }
     ensures refused { (fault : SaveFault) → Has file.now (F.held shelf.old) (IsRefusedFor program.now fault) → IsRefused fault result }
@@ -114,16 +114,16 @@ fn unread_save(end: ShelfEnd) -> Status
 }
 
 /// The engine of a program whose image these bytes are.
-fn restored<'p>(alloc: Global, program: &'p Program<'p>, bytes: &[u8]) -> Result<Plain<'p>, Status>
+fn restored<'p>(alloc: Global, program: &'p Program<'p>, bytes: &[u8]) -> Result<Core<'p>, Status>
     ensures ready { IfOk result (IsReady program.now) }
-    ensures restored { IfOk result (IsRestored program.now bytes.now) }
-    ensures only { IfOk result (λ plain. (engine : Engine) → IsRestored program.now bytes.now (working program.now engine) → plain ≡ working program.now engine) }
+    ensures restored { IfOk result (λ core. IsRestored program.now bytes.now (at_work core)) }
+    ensures only { IfOk result (λ core. (engine : Engine) → IsRestored program.now bytes.now (working program.now engine) → at_work core ≡ working program.now engine) }
     ensures none { IfErr result (NoneRestored program.now bytes.now) }
     ensures cut { IfErr result (λ status. (engine : Engine) → IsRestored program.now bytes.now (working program.now engine) → status ≡ Status.Memory) }
     ensures refused { (fault : SaveFault) → RefusesSave program.now fault bytes.now → IsRefused fault result }
 {
     match restore(alloc, program, bytes) {
-        Ok(plain) => Ok(plain),
+        Ok(core) => Ok(core),
         Err(why) => Err(unrestored(why)),
     }
 }
@@ -143,21 +143,21 @@ fn unrestored(why: RestoreError) -> Status
 fn resume_loaded<F: Shelf, R: Source, W: Sink>(
     alloc: Global,
     own: &Running<'_>,
-    plain: &mut Plain<'_>,
+    core: &mut Core<'_>,
     run: &RunWords<'_>,
     shelf: &mut F,
     input: &mut R,
     out: &mut W,
 ) -> Status
     requires turns { run.now.turns ≤ 1_000_000_000 }
-    requires ready { IsReady own.now.model plain.old }
+    requires ready { IsReady own.now.model core.old }
     ensures comes { IfSome (R.left input.old) (λ bytes. IfSome (W.written out.old) (λ written.
-        ComesBack own.now (pick_of run.now.only) run.now.turns plain.old.engine bytes (R.left input.new) written (W.written out.new) result)) }
-    ensures ends { IfSome (R.left input.old) (λ bytes. SaysBack own.now run.now.turns plain.old.engine bytes (R.left input.new) result) }
+        ComesBack own.now (pick_of run.now.only) run.now.turns core.old.engine bytes (R.left input.new) written (W.written out.new) result)) }
+    ensures ends { IfSome (R.left input.old) (λ bytes. SaysBack own.now run.now.turns core.old.engine bytes (R.left input.new) result) }
     ensures stored { result ≡ Status.Done → IfSome (R.left input.old) (λ bytes.
-        Stores (run_asked run.now).save (image_left own.now.model (resumed own.now bytes run.now.turns plain.old.engine)) (F.held shelf.new)) }
+        Stores (run_asked run.now).save (image_left own.now.model (resumed own.now bytes run.now.turns core.old.engine)) (F.held shelf.new)) }
     ensures taken { Told (R.left input.old) (R.left input.new) (λ before.
-        TakesWanted (resumed_on own.now run.now.turns plain.old.engine) (records_for own.now plain.old.engine before) [] before) }
+        TakesWanted (resumed_on own.now run.now.turns core.old.engine) (records_for own.now core.old.engine before) [] before) }
     ensures cause { IsOfBack (run_asked run.now).save (Rose (F.faults shelf.old) (F.faults shelf.new))
         (Rose (R.faults input.old) (R.faults input.new)) (Rose (W.faults out.old) (W.faults out.new)) result }
     ensures few { result ≡ Status.BadSave SaveFault.FewRecords → out.new ≡ out.old }
@@ -166,9 +166,9 @@ fn resume_loaded<F: Shelf, R: Source, W: Sink>(
     ensures input_counted { R.faults input.old ≤ R.faults input.new }
     ensures out_counted { W.faults out.old ≤ W.faults out.new }
 {
-    let answer = resume_turns(alloc, plain, input, out, own, pick_of(run.only), run.turns);
+    let answer = resume_turns(alloc, core, input, out, own, pick_of(run.only), run.turns);
     let status = status_back(answer);
-    store_where_asked(alloc, status, plain, run.save, shelf)
+    store_where_asked(alloc, status, core, run.save, shelf)
 }
 
 /// The status of a run that was taken up again and came to this.

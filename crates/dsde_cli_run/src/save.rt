@@ -6,29 +6,29 @@ ghost use Rattle.dsde_run_saved.specs.Saved.{image_at};
 ghost use Rattle.dsde_cli_run.specs.Saved.{IsOfStore, Leaves, Stores, name_of, unstored};
 
 use dsde_cli_status::{Status, What};
+use dsde_core::Core;
 use dsde_io::{Shelf, ShelfEnd};
 use dsde_save::save;
-use dsde_sim::Plain;
 use std::alloc::Global;
 
 /// What a run comes to that ended with this status, and left this engine, if any.
 pub(crate) fn store_left<F: Shelf>(
     alloc: Global,
     status: Status,
-    left: &Option<Plain<'_>>,
+    left: &Option<Core<'_>>,
     name: Option<&str>,
     shelf: &mut F,
 ) -> Status
-    requires fresh { status ≡ Status.Done → IsSomeAnd left.now (λ plain. is_some plain.engine.tree ≡ true) }
+    requires fresh { status ≡ Status.Done → IsSomeAnd left.now (λ core. is_some core.engine.tree ≡ true) }
     requires run { status ≢ Status.Unwritten What.Save }
     ensures other { status ≢ Status.Done → result ≡ status }
     ensures done { status ≡ Status.Done → IsOfStore (name_of name.entry) (Rose (F.faults shelf.old) (F.faults shelf.new)) result }
-    ensures stored { result ≡ Status.Done → IfSome left.now (λ plain. Stores (name_of name.entry) (image_at plain.program plain.engine) (F.held shelf.new)) }
+    ensures stored { result ≡ Status.Done → IfSome left.now (λ core. Stores (name_of name.entry) (image_at core.program core.engine) (F.held shelf.new)) }
     ensures kept { Leaves (name_of name.entry) (Rose (F.faults shelf.old) (F.faults shelf.new)) (F.held shelf.old) (F.held shelf.new) result }
     ensures counted { F.faults shelf.old ≤ F.faults shelf.new }
 {
     match left {
-        Some(plain) => store_where_asked(alloc, status, plain, name, shelf),
+        Some(core) => store_where_asked(alloc, status, core, name, shelf),
         None => status,
     }
 }
@@ -38,20 +38,20 @@ pub(crate) fn store_left<F: Shelf>(
 pub(crate) fn store_where_asked<F: Shelf>(
     alloc: Global,
     status: Status,
-    plain: &Plain<'_>,
+    core: &Core<'_>,
     name: Option<&str>,
     shelf: &mut F,
 ) -> Status
-    requires fresh { status ≡ Status.Done → is_some plain.now.engine.tree ≡ true }
+    requires fresh { status ≡ Status.Done → is_some core.now.engine.tree ≡ true }
     requires run { status ≢ Status.Unwritten What.Save }
     ensures other { status ≢ Status.Done → result ≡ status }
     ensures done { status ≡ Status.Done → IsOfStore (name_of name.entry) (Rose (F.faults shelf.old) (F.faults shelf.new)) result }
-    ensures stored { result ≡ Status.Done → Stores (name_of name.entry) (image_at plain.now.program plain.now.engine) (F.held shelf.new) }
+    ensures stored { result ≡ Status.Done → Stores (name_of name.entry) (image_at core.now.program core.now.engine) (F.held shelf.new) }
     ensures kept { Leaves (name_of name.entry) (Rose (F.faults shelf.old) (F.faults shelf.new)) (F.held shelf.old) (F.held shelf.new) result }
     ensures counted { F.faults shelf.old ≤ F.faults shelf.new }
 {
     match name {
-        Some(name) => store_where_done(alloc, status, plain, name, shelf),
+        Some(name) => store_where_done(alloc, status, core, name, shelf),
         None => status,
     }
 }
@@ -60,33 +60,33 @@ pub(crate) fn store_where_asked<F: Shelf>(
 fn store_where_done<F: Shelf>(
     alloc: Global,
     status: Status,
-    plain: &Plain<'_>,
+    core: &Core<'_>,
     name: &str,
     shelf: &mut F,
 ) -> Status
-    requires fresh { status ≡ Status.Done → is_some plain.now.engine.tree ≡ true }
+    requires fresh { status ≡ Status.Done → is_some core.now.engine.tree ≡ true }
     requires run { status ≢ Status.Unwritten What.Save }
     ensures other { status ≢ Status.Done → result ≡ status }
     ensures done { status ≡ Status.Done → IsOfStore (Some name.now) (Rose (F.faults shelf.old) (F.faults shelf.new)) result }
-    ensures stored { result ≡ Status.Done → Stores (Some name.now) (image_at plain.now.program plain.now.engine) (F.held shelf.new) }
+    ensures stored { result ≡ Status.Done → Stores (Some name.now) (image_at core.now.program core.now.engine) (F.held shelf.new) }
     ensures kept { Leaves (Some name.now) (Rose (F.faults shelf.old) (F.faults shelf.new)) (F.held shelf.old) (F.held shelf.new) result }
     ensures counted { F.faults shelf.old ≤ F.faults shelf.new }
 {
     match status {
-        Status::Done => store_image(alloc, plain, name, shelf),
+        Status::Done => store_image(alloc, core, name, shelf),
         other => other,
     }
 }
 
 /// Stores the image of an engine.
-fn store_image<F: Shelf>(alloc: Global, plain: &Plain<'_>, name: &str, shelf: &mut F) -> Status
-    requires { is_some plain.now.engine.tree ≡ true }
+fn store_image<F: Shelf>(alloc: Global, core: &Core<'_>, name: &str, shelf: &mut F) -> Status
+    requires { is_some core.now.engine.tree ≡ true }
     ensures done { IsOfStore (Some name.now) (Rose (F.faults shelf.old) (F.faults shelf.new)) result }
-    ensures stored { result ≡ Status.Done → Stores (Some name.now) (image_at plain.now.program plain.now.engine) (F.held shelf.new) }
+    ensures stored { result ≡ Status.Done → Stores (Some name.now) (image_at core.now.program core.now.engine) (F.held shelf.new) }
     ensures kept { Leaves (Some name.now) (Rose (F.faults shelf.old) (F.faults shelf.new)) (F.held shelf.old) (F.held shelf.new) result }
     ensures counted { F.faults shelf.old ≤ F.faults shelf.new }
 {
-    match save(alloc, plain) {
+    match save(alloc, core) {
         Ok(text) => store_text(alloc, text.as_slice(), name, shelf),
         Err(_) => Status::Memory,
     }

@@ -9,8 +9,7 @@ use dsde_values::Path;
 pub enum Status {
     /// The run came to its bound or fell quiet, or the model is accepted, and all was written.
     Done,
-    /// The model is refused, at a line and a column of its text, both counted from 1, or at 0 and 0
-    /// where it is accepted and none of those that are run today.
+    /// The model is refused, at a line and a column of its text, both counted from 1.
     Refused {
         kind: Refusal,
         line: u32,

@@ -30,6 +30,7 @@ pub fn due_time<L: Ledger>(
     ensures time { (top : Handle) (wiring : Option Wiring) (tree : Sim) → StandsFor grove.now top wiring tree → next_time tree ≡ when_of result }
     ensures ordered { IsOrdered queue.new.pairs }
     ensures least { option_map time_of (first_of queue.new.pairs) ≡ result }
+    ensures shorter { length queue.new.pairs ≤ length queue.old.pairs }
     ensures ticks { looks.new + 4 * length queue.new.pairs ≤ looks.old + 4 * length queue.old.pairs + 2 }
 {
     while let Some((time, handle)) = queue.least() {

@@ -27,7 +27,7 @@ use dsde_lists::{Boxed, Memory};
 use dsde_queue::Queue;
 use dsde_routes_wiring::{Links, WiredKid, Wiring};
 use dsde_sim_tree::{Kid, Net, Sim};
-use dsde_values::{Name, Seq, Text, When};
+use dsde_values::{Name, Seq, Stem, When};
 use std::alloc::Global;
 use std::sync::ledger::Ledger;
 
@@ -36,7 +36,7 @@ pub(crate) fn exec(alloc: Global) -> Result<Name, Memory>
     ensures { IfOk result (λ name. name ≡ EXEC) }
 {
     Ok(Name {
-        stem: Text::from_slice(alloc, b"exec")?,
+        stem: Stem::from_slice(alloc, b"exec")?,
         index: None,
     })
 }

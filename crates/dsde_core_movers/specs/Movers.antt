@@ -1,5 +1,5 @@
 -- Those who move in a turn of a tree that lies in a grove.
-use Rattle.std.specs.Prelude.{◌≡◌, ◌<◌, ◌^◌, ℕ, false, List, length, map}
+use Rattle.std.specs.Prelude.{◌≡◌, ◌<◌, ◌^◌, ℕ, false, List, length, map, Contains, Result, Ok, Err}
 use Rattle.std.specs.List.{AllByRecursion}
 use Rattle.dsde_bank.specs.declared.handle.Handle.{Handle}
 use Rattle.dsde_syntax.specs.declared.decl.Model.{Model}
@@ -9,9 +9,15 @@ use Rattle.dsde_system.specs.Program.{system}
 use Rattle.dsde_system.specs.Fitting.{FitsInputs}
 use Rattle.dsde_sim_movers.specs.Turns.{turn_movers}
 use Rattle.dsde_sim_orders.specs.Orders.{is_above}
+use Rattle.dsde_formalism.specs.System.{Ports}
+use Rattle.dsde_sim_events.specs.declared.fault.TurnEnd.{TurnEnd}
+use Rattle.dsde_queue.specs.Queue.{Queue}
+use Rattle.dsde_core_due.specs.declared.due.Due.{Due}
+use Rattle.dsde_core_due.specs.Due as due
 use Rattle.dsde_core_steps.specs.declared.flat.Flat.{Flat}
 use Rattle.dsde_core_steps.specs.declared.flat.Mover.{Mover}
 use Rattle.dsde_core_steps.specs.Flat.{delivery_of, leaf_of, tree_of, IsThere}
+use Rattle.dsde_core_movers.specs.declared.phase.Phase.{Phase}
 
 -- whose handle
 abbrev pub handle_of : Mover → Handle
@@ -31,3 +37,16 @@ pub record AreMovers (model : Model) (flat : Flat) (time : ℕ) (items : List It
   pub all : map delivery_of list ≡ turn_movers (system model) (tree_of flat) time items
   pub there : AllByRecursion (IsThere flat) list
   pub fit : AllByRecursion (FitsMover model flat) list
+
+-- a flat state with another schedule
+abbrev pub with_queue : Flat → Queue → Flat
+with_queue flat queue = record flat { queue = queue }
+
+-- what the root sends
+abbrev pub sent_of : Result Phase TurnEnd → Result Ports TurnEnd
+sent_of (Ok phase) = Ok phase.sent
+sent_of (Err end) = Err end
+
+-- Those who are due are among those who move.
+abbrev pub Wait : List Due → List Mover → Type 0
+Wait dues movers = (handle : Handle) → Contains (map due.handle_of dues) handle → Contains (map handle_of movers) handle

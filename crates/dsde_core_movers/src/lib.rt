@@ -1,2 +1,6 @@
-//! Who moves in a turn of a tree that lies in a grove. Definitions; no code.
+//! Who moves in a turn of a tree that lies in a grove: what its output phase comes to.
 #![tactic(auto)]
+
+mod phase;
+
+pub use phase::Phase;

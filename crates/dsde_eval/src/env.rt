@@ -3,7 +3,7 @@
 ghost use Rattle.std.specs.Prelude.{◌≡◌, Err};
 ghost use Rattle.dsde_eval_meaning.specs.Tables.{state_of};
 ghost use Rattle.dsde_sound_functions.specs.Coded.{coded_of};
-ghost use Rattle.dsde_eval_tables.specs.declared.eval.Evaluator.{Evaluator};
+ghost use Rattle.dsde_eval_tables.specs.declared.evaluator.Evaluator.{Evaluator};
 ghost use Rattle.dsde_eval_tables.specs.Evaluating as evaluating;
 ghost use Rattle.dsde_eval_tables.specs.Passing.{PassesIn};
 ghost use Rattle.dsde_sound_places.specs.Conditions.{CanEval, Came, CanRun, Ran};

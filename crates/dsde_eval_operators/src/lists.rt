@@ -89,7 +89,7 @@ pub fn indexed(alloc: Global, at: u32, list: &Value, index: &Value) -> Result<Va
 }
 
 /// The first items of a list, as many as the number says, or all.
-pub(crate) fn first_items(items: Seq<Value>, number: i64) -> Seq<Value>
+pub fn first_items(items: Seq<Value>, number: i64) -> Seq<Value>
     ensures { result ≡ take (count_of number) items }
 {
     let mut items = items;
@@ -109,7 +109,7 @@ fn count_of(number: i64) -> usize
 
 /// The items of a list behind its first ones, as many as the number says; none, if there are not
 /// more.
-pub(crate) fn later_items(items: Seq<Value>, number: i64) -> Seq<Value>
+pub fn later_items(items: Seq<Value>, number: i64) -> Seq<Value>
     ensures { result ≡ drop (count_of number) items }
 {
     let mut rest = items.into_vec();

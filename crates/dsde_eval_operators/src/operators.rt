@@ -1,6 +1,7 @@
 //! Operators of one and of two values.
 
 ghost use Rattle.std.specs.Prelude.{◌≡◌, ◌≢◌, Ok, Err};
+ghost use Rattle.dsde_declared.specs.declared.operator.Binary.TheVariants as binary;
 ghost use Rattle.dsde_eval_meaning.specs.Outcome.{Stuck, Gives};
 ghost use Rattle.dsde_eval_meaning.specs.Operators.{same_value, operated, denied, negated, unwrapped};
 
@@ -28,22 +29,33 @@ pub fn operated(which: Binary, at: u32, left: Value, right: Value) -> Result<Val
     ensures { Gives (operated which at left right) result }
 {
     match which {
-        Binary::Or | Binary::And => unreachable!(),
-        Binary::Equal => Ok(Value::Bool(is_same(&left, &right))),
-        Binary::NotEqual => Ok(Value::Bool(!is_same(&left, &right))),
-        Binary::Less => Ok(Value::Bool(int_of(&left) < int_of(&right))),
-        Binary::LessEqual => Ok(Value::Bool(int_of(&left) <= int_of(&right))),
-        Binary::Greater => Ok(Value::Bool(int_of(&left) > int_of(&right))),
-        Binary::GreaterEqual => Ok(Value::Bool(int_of(&left) >= int_of(&right))),
-        Binary::Add => sum(at, int_of(&left), int_of(&right)),
-        Binary::Sub => difference(at, int_of(&left), int_of(&right)),
-        Binary::Mul => product(at, int_of(&left), int_of(&right)),
-        Binary::Div => quotient(at, int_of(&left), int_of(&right)),
-        Binary::Rem => remainder(at, int_of(&left), int_of(&right)),
-        Binary::CapAdd => Ok(Value::Int(capped_sum(int_of(&left), int_of(&right)))),
-        Binary::CapSub => Ok(Value::Int(capped_difference(int_of(&left), int_of(&right)))),
-        Binary::CapMul => Ok(Value::Int(capped_product(int_of(&left), int_of(&right)))),
         Binary::Join => joined(at, left, right),
+        _ => operated_on(which, at, &left, &right),
+    }
+}
+
+/// The same of values that are looked at, for all operators but that which joins lists.
+pub fn operated_on(which: Binary, at: u32, left: &Value, right: &Value) -> Result<Value, EvalEnd>
+    requires join { which ≢ binary.Join }
+    requires stuck { operated which at left.now right.now ≢ Err Stuck }
+    ensures { Gives (operated which at left.now right.now) result }
+{
+    match which {
+        Binary::Or | Binary::And | Binary::Join => unreachable!(),
+        Binary::Equal => Ok(Value::Bool(is_same(left, right))),
+        Binary::NotEqual => Ok(Value::Bool(!is_same(left, right))),
+        Binary::Less => Ok(Value::Bool(int_of(left) < int_of(right))),
+        Binary::LessEqual => Ok(Value::Bool(int_of(left) <= int_of(right))),
+        Binary::Greater => Ok(Value::Bool(int_of(left) > int_of(right))),
+        Binary::GreaterEqual => Ok(Value::Bool(int_of(left) >= int_of(right))),
+        Binary::Add => sum(at, int_of(left), int_of(right)),
+        Binary::Sub => difference(at, int_of(left), int_of(right)),
+        Binary::Mul => product(at, int_of(left), int_of(right)),
+        Binary::Div => quotient(at, int_of(left), int_of(right)),
+        Binary::Rem => remainder(at, int_of(left), int_of(right)),
+        Binary::CapAdd => Ok(Value::Int(capped_sum(int_of(left), int_of(right)))),
+        Binary::CapSub => Ok(Value::Int(capped_difference(int_of(left), int_of(right)))),
+        Binary::CapMul => Ok(Value::Int(capped_product(int_of(left), int_of(right)))),
     }
 }
 

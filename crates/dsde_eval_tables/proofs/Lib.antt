@@ -1,2 +1,4 @@
+pub mod Assigning
 pub mod Depths
+pub mod Standing
 pub mod Steps

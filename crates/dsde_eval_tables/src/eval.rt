@@ -1,15 +1,19 @@
-//! The evaluator of tables.
+//! Expressions are evaluated, and blocks are run.
 
 ghost use Rattle.std.specs.Prelude.{◌≡◌, ◌≢◌, ◌⊎◌, ◌++◌, ◌∷◌, [], Some, Err};
 ghost use Rattle.dsde_eval_meaning.specs.Outcome.{Stuck, Gives};
 ghost use Rattle.dsde_eval_meaning.specs.Operators.{combined};
 ghost use Rattle.dsde_eval_meaning.specs.Flow.{why};
-ghost use Rattle.dsde_eval_meaning.specs.Tables.{means_in, node_mean, values_from, holds_at, each_from, arms_from, run_code, builtin_at, set_slot, braced_at, once, for_each, test_at, arms_flow, act_flow, acts_flow, state_of, with_slot, Flows, Tests};
+ghost use Rattle.dsde_eval_meaning.specs.Tables.{means_in, node_mean, values_from, holds_at, each_from, arms_from, run_code, builtin_at, braced_at, once, for_each, test_at, arms_flow, act_flow, acts_flow, state_of, with_slot, Flows, Tests};
+ghost use Rattle.dsde_program_nodes.specs.declared.act.Act.TheVariants as act_of;
 ghost use Rattle.dsde_program_nodes.specs.declared.node.Node.TheVariants as node_of;
+ghost use Rattle.dsde_eval_short.specs.Changes.{changed_in};
 ghost use Rattle.dsde_eval_tables.specs.Spots.{Reaches};
 ghost use Rattle.dsde_eval_tables.specs.Evaluating.{coded_of, one_kept, index_at, Adds};
 ghost use Rattle.dsde_eval_tables.specs.Passing.{PassesIn, ActsPass, ActPasses, ArmsPass, BracedPasses, EachPasses};
 
+use crate::evaluator::Evaluator;
+use crate::slots::set_slot;
 use crate::spot::{
     Got, Spot, field_in, held_of, inner_of, is_there, item_of, one_of, slot_copy, taken,
 };
@@ -17,19 +21,10 @@ use dsde_declared::{Binary, Builtin};
 use dsde_eval_operators::{
     denied, items_of, listed, negated, of_three, of_two, operated, truth_of,
 };
+use dsde_eval_short::{Change, change_slot, changes_are_assignments, own_change, put_slot};
 use dsde_faults::EvalEnd;
-use dsde_program_nodes::{Act, ActArm, BlockId, ExprId, FnCode, Node, NodeArm, Tables};
-use dsde_values::{Boxed, Item, Seq, Value, copy_value};
-use std::alloc::Global;
-
-/// Evaluates the expressions and runs the blocks of a model's tables, over slots and to a depth. What
-/// it is asked for must not be stuck: it looks at no types.
-#[derive(Drop)]
-pub struct Evaluator<'p> {
-    pub alloc: Global,
-    pub tables: &'p Tables,
-    pub functions: &'p Seq<FnCode>,
-}
+use dsde_program_nodes::{Act, ActArm, BlockId, ExprId, FnCode, Node, NodeArm};
+use dsde_values::{Boxed, Item, Seq, Value};
 
 impl Evaluator<'_> {
     /// What the expression with a number comes to over slots, to a depth, where that is a value or a
@@ -52,7 +47,7 @@ impl Evaluator<'_> {
     }
 
     /// The value of one node, over what its parts come to. Those that are met most go a short way, on
-    /// which nothing is looked for in the slots but what is copied.
+    /// which what stands in the slots is looked at there.
     #[cycle(evaluating)]
     fn value(&self, depth: u32, node: &Node, slots: &mut Seq<Value>) -> Result<Value, EvalEnd>
         requires { node_mean (means_in (coded_of self.now) depth) self.now.functions.now node.now slots.old ≢ Err Stuck }
@@ -63,10 +58,14 @@ impl Evaluator<'_> {
             Node::Slot(number) => slot_copy(self.alloc, *number, slots),
             Node::Int(number) => Ok(Value::Int(*number)),
             Node::Some(part) => self.some(depth, *part, slots),
-            Node::Binary(which, at, left, right) => {
-                self.binary(depth, *which, *at, *left, *right, slots)
-            }
-            _ => self.any(depth, node, slots),
+            Node::Binary(which, at, left, right) => match self.looked(depth, node, slots) {
+                Some(own) => own,
+                None => self.binary(depth, *which, *at, *left, *right, slots),
+            },
+            _ => match self.looked(depth, node, slots) {
+                Some(own) => own,
+                None => self.any(depth, node, slots),
+            },
         }
     }
 
@@ -132,8 +131,7 @@ impl Evaluator<'_> {
             Node::If(arms, other) => self.arms(depth, arms.as_slice(), *other, slots),
             Node::OrElse(left, right) => self.or_else(depth, *left, *right, slots),
             Node::Binary(which, at, left, right) => {
-                let own = self.binary(depth, *which, *at, *left, *right, slots)?;
-                Ok(Got::Own(own))
+                Ok(Got::Own(self.binary(depth, *which, *at, *left, *right, slots)?))
             }
             Node::Not(part) => self.not(depth, *part, slots),
             Node::Neg(at, part) => self.neg(depth, *at, *part, slots),
@@ -454,8 +452,7 @@ impl Evaluator<'_> {
         ensures keeps { slots.new ≡ slots.old }
     {
         let own = self.eval(depth, list, slots)?;
-        let items = items_of(own);
-        let values = self.each(depth, cond, number, items.as_slice(), slots)?;
+        let values = self.each(depth, cond, number, items_of(own), slots)?;
         Ok(Got::Own(Value::List(values)))
     }
 
@@ -466,15 +463,15 @@ impl Evaluator<'_> {
         depth: u32,
         cond: Option<ExprId>,
         number: ExprId,
-        items: &[Value],
+        items: Seq<Value>,
         slots: &mut Seq<Value>,
     ) -> Result<Seq<Value>, EvalEnd>
-        requires { each_from (means_in (coded_of self.now) depth).part cond number [] items.now slots.old ≢ Err Stuck }
-        ensures gives { Gives (each_from (means_in (coded_of self.now) depth).part cond number [] items.now slots.old) result }
+        requires { each_from (means_in (coded_of self.now) depth).part cond number [] items slots.old ≢ Err Stuck }
+        ensures gives { Gives (each_from (means_in (coded_of self.now) depth).part cond number [] items slots.old) result }
         ensures keeps { slots.new ≡ slots.old }
     {
         let mut done = Seq::new(self.alloc);
-        for item in items {
+        for item in items.into_vec() {
             self.each_one(depth, cond, number, item, &mut done, slots)?;
         }
         Ok(done)
@@ -487,16 +484,16 @@ impl Evaluator<'_> {
         depth: u32,
         cond: Option<ExprId>,
         number: ExprId,
-        item: &Value,
+        item: Value,
         done: &mut Seq<Value>,
         slots: &mut Seq<Value>,
     ) -> Result<(), EvalEnd>
-        requires { one_kept (means_in (coded_of self.now) depth).part cond number done.old (slots.old ++ item.now ∷ []) ≢ Err Stuck }
-        ensures adds { Adds (one_kept (means_in (coded_of self.now) depth).part cond number done.old (slots.old ++ item.now ∷ [])) result done.new }
+        requires { one_kept (means_in (coded_of self.now) depth).part cond number done.old (slots.old ++ item ∷ []) ≢ Err Stuck }
+        ensures adds { Adds (one_kept (means_in (coded_of self.now) depth).part cond number done.old (slots.old ++ item ∷ [])) result done.new }
         ensures keeps { slots.new ≡ slots.old }
     {
         let size = slots.len();
-        slots.push(copy_value(self.alloc, item)?)?;
+        slots.push(item)?;
         let end = self.kept(depth, cond, number, done, slots);
         slots.truncate(size);
         end
@@ -519,10 +516,8 @@ impl Evaluator<'_> {
         if self.holds(depth, cond, slots)? {
             let value = self.eval(depth, number, slots)?;
             done.push(value)?;
-            Ok(())
-        } else {
-            Ok(())
         }
+        Ok(())
     }
 
     /// Whether a condition holds; one that is left out does.
@@ -633,10 +628,7 @@ impl Evaluator<'_> {
                 slots.push(value)?;
                 Ok(())
             }
-            Act::Set(slot, number) => {
-                let value = self.eval(depth, *number, slots)?;
-                set_slot(*slot, value, slots, sends)
-            }
+            Act::Set(slot, number) => self.set(depth, *slot, *number, slots, sends),
             Act::Send(port, number) => {
                 let value = self.eval(depth, *number, slots)?;
                 sends.push(Item { port: *port, value })?;
@@ -645,8 +637,57 @@ impl Evaluator<'_> {
             Act::If(arms, last) => self.act_arms(depth, arms.as_slice(), *last, slots, sends),
             Act::For(list, block) => {
                 let own = self.eval(depth, *list, slots)?;
-                let items = items_of(own);
-                self.for_each(depth, *block, items.as_slice(), slots, sends)
+                self.for_each(depth, *block, items_of(own), slots, sends)
+            }
+        }
+    }
+
+    /// Assigns what an expression comes to. A list that is made anew from the list in the same slot is
+    /// changed where it is.
+    #[cycle(evaluating)]
+    fn set(
+        &self,
+        depth: u32,
+        slot: u32,
+        number: ExprId,
+        slots: &mut Seq<Value>,
+        sends: &Seq<Item>,
+    ) -> Result<(), EvalEnd>
+        requires { why (act_flow (means_in (coded_of self.now) depth) (act_of.Set slot number) (state_of slots.old sends.now)) ≢ Some Stuck }
+        ensures flows { Flows (act_flow (means_in (coded_of self.now) depth) (act_of.Set slot number) (state_of slots.old sends.now)) result slots.new sends.now }
+        ensures passes { result ≡ Err EvalEnd.Memory → state_of slots.new sends.now ≡ state_of slots.old sends.now }
+    {
+        if let Some(change) = own_change(&self.tables.nodes, slot, number) {
+            changes_are_assignments();
+            return self.change(depth.saturating_sub(1), slot, change, slots, sends);
+        }
+        let value = self.eval(depth, number, slots)?;
+        set_slot(slot, value, slots, sends)
+    }
+
+    /// Changes the list in a slot.
+    #[cycle(evaluating)]
+    fn change(
+        &self,
+        depth: u32,
+        slot: u32,
+        change: Change,
+        slots: &mut Seq<Value>,
+        sends: &Seq<Item>,
+    ) -> Result<(), EvalEnd>
+        requires { why (changed_in (means_in (coded_of self.now) depth).part slot change (state_of slots.old sends.now)) ≢ Some Stuck }
+        ensures flows { Flows (changed_in (means_in (coded_of self.now) depth).part slot change (state_of slots.old sends.now)) result slots.new sends.now }
+        ensures keeps { result ≡ Err EvalEnd.Memory → slots.new ≡ slots.old }
+    {
+        match change {
+            Change::By(which, at, number) => {
+                let own = self.eval(depth, number, slots)?;
+                change_slot(which, at, slot, own, slots, sends)
+            }
+            Change::Put(at, index, number) => {
+                let place = self.eval(depth, index, slots)?;
+                let own = self.eval(depth, number, slots)?;
+                put_slot(at, slot, &place, own, slots, sends)
             }
         }
     }
@@ -718,16 +759,16 @@ impl Evaluator<'_> {
         &self,
         depth: u32,
         block: BlockId,
-        item: &Value,
+        item: Value,
         slots: &mut Seq<Value>,
         sends: &mut Seq<Item>,
     ) -> Result<(), EvalEnd>
-        requires { why (once (means_in (coded_of self.now) depth).run block item.now (state_of slots.old sends.old)) ≢ Some Stuck }
-        ensures flows { Flows (once (means_in (coded_of self.now) depth).run block item.now (state_of slots.old sends.old)) result slots.new sends.new }
-        ensures passes { result ≡ Err EvalEnd.Memory → (state_of slots.new sends.new ≡ state_of slots.old sends.old) ⊎ BracedPasses (PassesIn (coded_of self.now) depth) block (with_slot item.now (state_of slots.old sends.old)) (state_of slots.old sends.old) (state_of slots.new sends.new) }
+        requires { why (once (means_in (coded_of self.now) depth).run block item (state_of slots.old sends.old)) ≢ Some Stuck }
+        ensures flows { Flows (once (means_in (coded_of self.now) depth).run block item (state_of slots.old sends.old)) result slots.new sends.new }
+        ensures passes { result ≡ Err EvalEnd.Memory → (state_of slots.new sends.new ≡ state_of slots.old sends.old) ⊎ BracedPasses (PassesIn (coded_of self.now) depth) block (with_slot item (state_of slots.old sends.old)) (state_of slots.old sends.old) (state_of slots.new sends.new) }
     {
         let size = slots.len();
-        slots.push(copy_value(self.alloc, item)?)?;
+        slots.push(item)?;
         let end = self.block(depth, block, slots, sends);
         slots.truncate(size);
         end
@@ -739,37 +780,17 @@ impl Evaluator<'_> {
         &self,
         depth: u32,
         block: BlockId,
-        items: &[Value],
+        items: Seq<Value>,
         slots: &mut Seq<Value>,
         sends: &mut Seq<Item>,
     ) -> Result<(), EvalEnd>
-        requires { why (for_each (means_in (coded_of self.now) depth).run block items.now (state_of slots.old sends.old)) ≢ Some Stuck }
-        ensures flows { Flows (for_each (means_in (coded_of self.now) depth).run block items.now (state_of slots.old sends.old)) result slots.new sends.new }
-        ensures passes { result ≡ Err EvalEnd.Memory → EachPasses (means_in (coded_of self.now) depth) (PassesIn (coded_of self.now) depth) block items.now (state_of slots.old sends.old) (state_of slots.new sends.new) }
+        requires { why (for_each (means_in (coded_of self.now) depth).run block items (state_of slots.old sends.old)) ≢ Some Stuck }
+        ensures flows { Flows (for_each (means_in (coded_of self.now) depth).run block items (state_of slots.old sends.old)) result slots.new sends.new }
+        ensures passes { result ≡ Err EvalEnd.Memory → EachPasses (means_in (coded_of self.now) depth) (PassesIn (coded_of self.now) depth) block items (state_of slots.old sends.old) (state_of slots.new sends.new) }
     {
-        for item in items {
+        for item in items.into_vec() {
             self.once(depth, block, item, slots, sends)?;
         }
         Ok(())
-    }
-}
-
-/// Assigns a value to a slot.
-fn set_slot(
-    number: u32,
-    value: Value,
-    slots: &mut Seq<Value>,
-    sends: &Seq<Item>,
-) -> Result<(), EvalEnd>
-    requires { why (set_slot number value (state_of slots.old sends.now)) ≢ Some Stuck }
-    ensures flows { Flows (set_slot number value (state_of slots.old sends.now)) result slots.new sends.now }
-    ensures sure { result ≢ Err EvalEnd.Memory }
-{
-    match slots.get_mut(number as usize) {
-        Some(slot) => {
-            *slot = value;
-            Ok(())
-        }
-        None => unreachable!(),
     }
 }

@@ -2,10 +2,12 @@
 #![tactic(auto)]
 
 mod eval;
+mod evaluator;
+mod looks;
 mod slots;
 mod spot;
 
-pub use eval::Evaluator;
+pub use evaluator::Evaluator;
 pub use slots::slots_of;
 
 /// The height that no expression and no block exceeds in which nothing is wrong, and so the depth

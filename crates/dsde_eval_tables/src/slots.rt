@@ -1,8 +1,12 @@
 //! What a body or a structure sees: values, each in its slot.
 
-ghost use Rattle.std.specs.Prelude.{◌≡◌, ◌++◌, IfOk};
+ghost use Rattle.std.specs.Prelude.{◌≡◌, ◌≢◌, ◌++◌, Some, Err, IfOk};
+ghost use Rattle.dsde_eval_meaning.specs.Outcome.{Stuck};
+ghost use Rattle.dsde_eval_meaning.specs.Flow.{why};
+ghost use Rattle.dsde_eval_meaning.specs.Tables.{Flows, set_slot, state_of};
 
-use dsde_values::{Memory, Seq, Values, copy_values};
+use dsde_faults::EvalEnd;
+use dsde_values::{Item, Memory, Seq, Value, Values, copy_values};
 use std::alloc::Global;
 
 /// Values with others behind them.
@@ -24,4 +28,24 @@ pub fn slots_of(alloc: Global, args: &Values, state: Values) -> Result<Values, M
     }
     let args = copy_values(alloc, args.as_slice())?;
     joined(args, state)
+}
+
+/// Assigns a value to a slot.
+pub(crate) fn set_slot(
+    number: u32,
+    value: Value,
+    slots: &mut Seq<Value>,
+    sends: &Seq<Item>,
+) -> Result<(), EvalEnd>
+    requires { why (set_slot number value (state_of slots.old sends.now)) ≢ Some Stuck }
+    ensures flows { Flows (set_slot number value (state_of slots.old sends.now)) result slots.new sends.now }
+    ensures sure { result ≢ Err EvalEnd.Memory }
+{
+    match slots.get_mut(number as usize) {
+        Some(slot) => {
+            *slot = value;
+            Ok(())
+        }
+        None => unreachable!(),
+    }
 }

@@ -15,7 +15,7 @@ use dsde_faults::{EvalEnd, FaultKind};
 use dsde_lists::Memory;
 use dsde_program_nodes::{ExprId, Make, MakeArm, MakeEnd, MakeIndex, MakePart, MakeVia};
 use dsde_structure::{End, Entry, Link, Part, Plan, Via};
-use dsde_values::{Name, Seq, Text, Value, copy_value};
+use dsde_values::{Name, Seq, Stem, Text, Value, copy_value};
 use std::alloc::Global;
 
 /// Does what the items of a structure do in the tables of a model, over slots, where expressions are
@@ -31,7 +31,7 @@ fn named(alloc: Global, stem: &Text, index: Option<u64>) -> Result<Name, Memory>
     ensures { IfOk result (λ name. name ≡ record { stem = stem.now; index = index }) }
 {
     Ok(Name {
-        stem: Text::from_slice(alloc, stem.as_slice())?,
+        stem: Stem::from_slice(alloc, stem.as_slice())?,
         index,
     })
 }

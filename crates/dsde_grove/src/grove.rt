@@ -15,7 +15,7 @@ use crate::subtree::take_all;
 use dsde_bank::{Bank, Batch, Handle};
 use dsde_base::Steps;
 use dsde_lists::Memory;
-use dsde_values::{Name, Path, Seq, Text};
+use dsde_values::{Name, Path, Seq, Stem};
 use std::alloc::Global;
 use std::marker::{Brand, Model};
 use std::sync::ledger::{Blank, Ledger};
@@ -83,7 +83,7 @@ impl<T: Drop> Grove<T> {
         let part = Part {
             parent: None,
             name: Name {
-                stem: Text::from_slice(alloc, b"root")?,
+                stem: Stem::from_slice(alloc, b"root")?,
                 index: None,
             },
             kids: Kids::new(alloc),

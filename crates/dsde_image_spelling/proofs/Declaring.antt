@@ -1,5 +1,5 @@
 -- What the declarations of a program say of the texts of its models.
-use Rattle.std.proofs.Common.{◌≡◌, ◌↔◌, ℕ, true, false, List, [], ◌∷◌, ◌++◌, length, Option, Some, None, slice_get, ◌<◌, refl, sym, ap, subst, ◌∙◌}
+use Rattle.std.proofs.Common.{◌≡◌, ℕ, List, [], ◌∷◌, length, Option, Some, None, slice_get, ◌<◌, refl, sym, ap, subst, ◌∙◌}
 use Rattle.std.specs.Prelude.{Result, Ok, Err, IfOk, IfSome}
 use Rattle.dsde_lists.specs.declared.memory.Memory.{Memory}
 use Rattle.dsde_syntax.specs.declared.decl.Model.{Model}
@@ -10,7 +10,7 @@ use Rattle.dsde_values.specs.declared.value.Value.{Value}
 use Rattle.dsde_values.specs.Value.{HasType}
 use Rattle.dsde_values.proofs.Typed.{HasType-is}
 use Rattle.dsde_declared.specs.declared.ids.ModelId.{ModelId}
-use Rattle.dsde_declared.specs.Models.{Own, owns_of, param_slots, state_slots, types_of}
+use Rattle.dsde_declared.specs.Models.{Own, owns_of, types_of}
 use Rattle.dsde_program_nodes.specs.declared.info.Info.{Info}
 use Rattle.dsde_program_nodes.specs.Models.{infos_of}
 use Rattle.dsde_program_declared.specs.Declared.{IsDeclared, Declares, InfosAreDeclared}

@@ -6,8 +6,10 @@ mod boxed;
 mod decimal;
 mod memory;
 mod seq;
+mod stem;
 
 pub use boxed::Boxed;
 pub use decimal::{append_decimal, append_signed_decimal};
 pub use memory::Memory;
 pub use seq::{Seq, Text};
+pub use stem::Stem;

@@ -113,6 +113,15 @@ impl<T> Seq<T> {
 }
 
 impl<T: Drop> Seq<T> {
+    /// The empty list, with room for so many items: while as many are pushed, none is moved.
+    pub fn with_room(alloc: Global, room: usize) -> Result<Seq<T>, Memory>
+        ensures { IfOk result (λ seq. seq ≡ []) }
+    {
+        let mut items = Vec::new(alloc);
+        items.reserve(room)?;
+        Ok(Seq { items })
+    }
+
     /// Adds an item at the end. Without memory the list stays as it was, and the item is dropped.
     pub fn push(&mut self, item: T) -> Result<(), Memory>
         ensures ok { OnOk result (self.new ≡ self.old ++ item ∷ []) }

@@ -23,7 +23,7 @@ use Rattle.dsde_sim_moving.specs.Fitting.{FitsTree}
 use Rattle.dsde_sim_movers.specs.Names.{IsNamed}
 use Rattle.dsde_sim_movers.specs.lemmas.Seats.{drop-front}
 use Rattle.dsde_sim_movers.specs.lemmas.Steps.{then-assoc}
-use Rattle.dsde_sim.specs.Working.{Stands, StandsIf}
+use Rattle.dsde_sim_working.specs.Working.{Stands, StandsIf}
 use Rattle.dsde_drawing.specs.Words.{behind, seeded}
 use Rattle.dsde_order.specs.Free.{Drawing, advance, advance_tree, after_turn, drawn_turn, moves_of, start}
 use Rattle.dsde_order_free.specs.Drawn.{AgreesWithPathOrder}

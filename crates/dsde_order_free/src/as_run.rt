@@ -2,8 +2,8 @@
 
 use crate::free::Free;
 use dsde_run_engine::Advance;
-use dsde_sim::{Step, TurnEnd};
-use dsde_sim_events::Event;
+use dsde_sim_events::{Event, TurnEnd};
+use dsde_sim_turns::Step;
 use dsde_values::{Arrival, Seq};
 
 impl<'p> Advance for Free<'p> {
@@ -19,6 +19,8 @@ impl<'p> Advance for Free<'p> {
     ghost state = { λ free. free.drawing };
 
     ghost engine = { engine_of };
+
+    ghost born = { λ free. 0 };
 
     ghost advance = { λ program own head. drawing.advance (system program) own head };
 

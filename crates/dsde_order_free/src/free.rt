@@ -8,17 +8,18 @@ ghost use Rattle.dsde_sim_events.specs.Told.{Tells};
 ghost use Rattle.dsde_system.specs.Program.{system};
 ghost use Rattle.dsde_sim_turns.specs.Engine.{next_of};
 ghost use Rattle.dsde_sim_turns.specs.Turn.{turn_time};
-ghost use Rattle.dsde_sim.specs.Working.{HeadComes, IsRoot, StandsIf, working};
+ghost use Rattle.dsde_sim_working.specs.Working.{HeadComes, IsRoot, StandsIf, working};
 ghost use Rattle.dsde_order.specs.Free.{advance, start};
 ghost use Rattle.dsde_order_free.specs.Drawn.{AgreesWithPathOrder};
 
-use crate::phases::{chosen, is_taken, items_at, started, turn_time};
 use crate::turn::drawn_turn;
 use dsde_order::drawn_advances_agree;
 use dsde_program::Program;
-use dsde_sim::{Sim, Step, TurnEnd, fitting_trees_are_named};
-use dsde_sim_events::Event;
+use dsde_sim_events::{Event, TurnEnd};
 use dsde_sim_moving::next_time;
+use dsde_sim_tree::Sim;
+use dsde_sim_turns::Step;
+use dsde_sim_working::{chosen, fitting_trees_are_named, is_taken, items_at, started, turn_time};
 use dsde_values::{Arrival, Seq};
 use rand_core::SeedableRng;
 use rand_pcg::Lcg64Xsh32;
@@ -40,7 +41,7 @@ pub struct Free<'p> {
 
 impl<'p> Model for Free<'p> {
     ghost use Rattle.std.specs.Prelude.{◌≤◌};
-    ghost use Rattle.dsde_sim.specs.Working.{StandsIf};
+    ghost use Rattle.dsde_sim_working.specs.Working.{StandsIf};
     ghost use Rattle.dsde_order_free.specs.Drawn.{Drawn, drawn};
     ghost use Rattle.dsde_syntax.specs.contracts.decl.Model as model;
     ghost use Rattle.dsde_sim_tree.specs.contracts.sim.Sim as sim;

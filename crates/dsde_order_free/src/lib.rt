@@ -4,7 +4,6 @@
 mod as_run;
 mod free;
 mod moves;
-mod phases;
 mod turn;
 
 pub use free::Free;

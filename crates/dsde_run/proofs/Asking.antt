@@ -1,5 +1,5 @@
 -- What asking for the head of an input does, from what the reader says of it.
-use Rattle.std.proofs.Common.{◌≡◌, ◌≢◌, ℕ, ◌+◌, Bool, true, false, List, [], ◌∷◌, ◌++◌, length, take, drop, refl, sym, ◌∙◌, ap, subst, arith, append_assoc}
+use Rattle.std.proofs.Common.{◌≡◌, ℕ, ◌+◌, Bool, true, false, List, [], ◌∷◌, ◌++◌, length, drop, refl, sym, ◌∙◌, ap, subst, arith, append_assoc}
 use Rattle.std.specs.Prelude.{Option, Some, None, Result, Ok, Err, IfSome, IsSomeAnd}
 use Rattle.std.proofs.lemmas.List.{append_cancel_right, take-append-drop}
 use Rattle.dsde_values.specs.declared.arrival.Arrival.{Arrival}
@@ -7,11 +7,10 @@ use Rattle.dsde_values.specs.declared.types.Field.{Field}
 use Rattle.dsde_values.specs.declared.types.Types.{Types}
 use Rattle.dsde_input_records.specs.declared.end.InputEnd.{InputEnd}
 use Rattle.dsde_input_records.specs.declared.end.InputEnd.TheVariants as input_end
-use Rattle.dsde_input_records.specs.Records.{Records, end, bad, one}
+use Rattle.dsde_input_records.specs.Records.{Records, bad}
 use Rattle.dsde_input.specs.Reader.{Reader, to_come, records, has_line, IsOffence, Moves, TakesOfLine, TakesLine, SeesEnd}
 use Rattle.dsde_input.specs.Reader as input
-use Rattle.dsde_run.specs.declared.run.Head.{Head}
-use Rattle.dsde_run.specs.declared.run.Head.TheVariants.{Wanted, Over, Is}
+use Rattle.dsde_run.specs.declared.run.Head.TheVariants.{Over, Is}
 use Rattle.dsde_declared.specs.Models.{top_ins, types_of}
 use Rattle.dsde_run.specs.Run.{Running}
 use Rattle.dsde_run.specs.Steps.{Asked, Refused, to_give}

@@ -13,7 +13,7 @@ use Rattle.dsde_eval_meaning.specs.Typed.{AllSent}
 use Rattle.dsde_declared.specs.declared.ids.ModelId.{ModelId}
 use Rattle.dsde_declared.specs.Models.{top_ins, Own, own_ins, owns_of, top_number, types_of}
 use Rattle.dsde_check_rules.specs.Right.{IsRight}
-use Rattle.dsde_sim.specs.Working as sim
+use Rattle.dsde_sim_working.specs.Working as sim
 use Rattle.dsde_sound_places.specs.Laws.{BodiesStand}
 use Rattle.dsde_system.specs.Plans.{ways}
 use Rattle.dsde_sim_tree.specs.declared.sim.Sim.{Sim}

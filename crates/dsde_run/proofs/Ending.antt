@@ -1,6 +1,6 @@
 -- What a run comes to, exit by exit.
-use Rattle.std.proofs.Common.{◌≡◌, ◌≢◌, ℕ, suc, List, [], ◌++◌, refl, sym, subst, ◌∙◌, ap, append_assoc}
-use Rattle.std.specs.Prelude.{Option, Some, None, Result, Ok, Err, IfOk, IfErr, OnErr}
+use Rattle.std.proofs.Common.{◌≡◌, ◌≢◌, ℕ, suc, List, [], ◌++◌, refl, sym, subst, ◌∙◌, ap}
+use Rattle.std.specs.Prelude.{Option, None, Result, Ok, Err, IfOk, IfErr, OnErr}
 use Rattle.std.proofs.lemmas.List.{append-nil}
 use Rattle.dsde_io.specs.Bytes.{Gains, GainsFront}
 use Rattle.dsde_input_records.specs.declared.end.InputEnd.{InputEnd}
@@ -14,23 +14,23 @@ use Rattle.dsde_sim_events.specs.Told.{Told}
 use Rattle.dsde_sim_turns.specs.declared.step.Step.{Step}
 use Rattle.dsde_sim_turns.specs.Engine.{Engine}
 use Rattle.dsde_values.specs.declared.arrival.Arrival.{Arrival}
-use Rattle.dsde_input.specs.Reader.{Reader, IsOffence}
+use Rattle.dsde_input.specs.Reader.{Reader}
 use Rattle.dsde_trace.specs.declared.pick.Pick.{Pick}
 use Rattle.dsde_run.specs.declared.run.Cut.{Cut}
 use Rattle.dsde_run.specs.declared.run.Cut.TheVariants as cut
 use Rattle.dsde_run.specs.declared.run.Head.{Head}
-use Rattle.dsde_run.specs.declared.run.Head.TheVariants.{Wanted, Over, Is}
-use Rattle.dsde_run.specs.declared.run.After.TheVariants.{Turned, Ended}
+use Rattle.dsde_run.specs.declared.run.Head.TheVariants.{Wanted}
+use Rattle.dsde_run.specs.declared.run.After.TheVariants.{Ended}
 use Rattle.dsde_run.specs.declared.run.Unready.{Unready}
 use Rattle.dsde_run.specs.declared.run.Unready.TheVariants as unready
-use Rattle.dsde_run.specs.Run.{Running, event_text, go_by, kept_text}
+use Rattle.dsde_run.specs.Run.{Running, event_text, go_by}
 use Rattle.dsde_run_meaning.specs.Run.{Run, ended, offended}
 use Rattle.dsde_run_meaning.specs.Run as run
-use Rattle.dsde_run.specs.Reading.{TakesWanted, Tells, IsCutShort, IsFront, Comes}
-use Rattle.dsde_run.specs.Steps.{HandsOn, Turns, Stops, line_of, record_of, Refused, IsUnready, Halts, Stands}
+use Rattle.dsde_run.specs.Reading.{TakesWanted, Tells, IsFront, Comes}
+use Rattle.dsde_run.specs.Steps.{Turns, Stops, line_of, record_of, Refused, IsUnready, Halts, Stands}
 use Rattle.dsde_trace.specs.declared.pick.Pick.TheVariants.{Outputs}
 use Rattle.dsde_run.proofs.Turning.{kept-ended}
-use Rattle.dsde_run.proofs.Standing.{stands-handed, taken-refused, tells-refused, cut-refused, front-stands, front-unwritten, front-refused, tells-bound, front-bound, tells-ended, front-ended}
+use Rattle.dsde_run.proofs.Standing.{stands-handed, taken-refused, tells-refused, cut-refused, front-unwritten, front-refused, tells-bound, front-bound, tells-ended, front-ended}
 
 module _ (own : Running) (pick : Pick) (tells : Records → Run) (all : Records) (from reader : Reader) (old sink new : Option (List ℕ)) (before : List ℕ) where
   module _ (rest : Records → Run) (engine : Engine) (why : InputEnd) (is : rest (bad why) ≡ offended why engine) (cuts : rest (bad ReadFault) ≡ run.cut engine) (mid after : List ℕ)

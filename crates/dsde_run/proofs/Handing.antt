@@ -1,10 +1,9 @@
 -- What a sink gained, and what is kept in a text, of what a run tells.
-use Rattle.std.proofs.Common.{◌≡◌, ℕ, ◌+◌, ◌<◌, List, [], ◌++◌, length, take, drop, refl, sym, ap, subst, ◌∙◌, append_assoc}
+use Rattle.std.proofs.Common.{◌≡◌, ℕ, ◌+◌, List, [], ◌++◌, length, take, drop, refl, sym, ap, subst, ◌∙◌, append_assoc}
 use Rattle.std.specs.Prelude.{Option, Some, None}
 use Rattle.std.proofs.lemmas.List.{append-nil, take-append-drop}
 use Rattle.std.proofs.Math.Seq.{take-append-add, take-append_seam}
 use Rattle.dsde_io.specs.Bytes.{Gains, GainsFront}
-use Rattle.dsde_sim_events.specs.declared.event.Event.{Event}
 use Rattle.dsde_sim_events.specs.declared.event.Finish.{Finish}
 use Rattle.dsde_sim_turns.specs.Engine.{Engine}
 use Rattle.dsde_trace.specs.declared.pick.Pick.{Pick}

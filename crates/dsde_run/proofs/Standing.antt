@@ -1,6 +1,6 @@
 -- A run before a turn, and what each step does to it.
-use Rattle.std.proofs.Common.{◌≡◌, ◌≢◌, ℕ, ◌+◌, ◌≤◌, suc, Bool, true, false, cond, List, [], ◌∷◌, ◌++◌, length, refl, sym, subst, ◌∙◌, ap, arith, append_assoc, length-append}
-use Rattle.std.specs.Prelude.{Option, Some, None, Result, Ok, Err}
+use Rattle.std.proofs.Common.{◌≡◌, ◌≢◌, ℕ, ◌≤◌, suc, Bool, true, false, cond, List, [], ◌∷◌, ◌++◌, length, refl, sym, subst, ◌∙◌, ap, arith, append_assoc, length-append}
+use Rattle.std.specs.Prelude.{Option, None}
 use Rattle.std.proofs.lemmas.List.{append-nil}
 use Rattle.dsde_io.specs.Bytes.{Gains, GainsFront}
 use Rattle.dsde_values.specs.declared.arrival.Arrival.{Arrival}
@@ -16,14 +16,13 @@ use Rattle.dsde_sim_turns.specs.declared.step.Step.{Step}
 use Rattle.dsde_sim_turns.specs.Engine.{Engine}
 use Rattle.dsde_input.specs.Reader.{Reader, IsOffence, has_line, with_more, TakesOfLine}
 use Rattle.dsde_trace.specs.declared.pick.Pick.{Pick}
-use Rattle.dsde_trace.specs.declared.pick.Pick.TheVariants.{Outputs}
 use Rattle.dsde_run.specs.declared.run.Head.{Head}
 use Rattle.dsde_run.specs.declared.run.Head.TheVariants.{Wanted, Over, Is}
 use Rattle.dsde_run.specs.declared.run.After.TheVariants.{Turned, Ended}
 use Rattle.dsde_run.specs.Run.{Running, event_text, go_by, turn_by, kept_text}
 use Rattle.dsde_run_meaning.specs.Run.{Run, ended, cut, offended}
-use Rattle.dsde_run.specs.Reading.{feeds, cut_after, IsWhole, TakesWanted, Tells, IsCutShort, IsFront}
-use Rattle.dsde_run.specs.Steps.{HandsOn, GoesOn, EndsIn, Turns, Stops, line_of, record_of, with_head, passed, to_give, ahead, Asked, Refused, IsReady, Stands}
+use Rattle.dsde_run.specs.Reading.{feeds, cut_after, TakesWanted, Tells, IsCutShort, IsFront}
+use Rattle.dsde_run.specs.Steps.{HandsOn, GoesOn, Turns, Stops, line_of, record_of, with_head, passed, to_give, ahead, Asked, Refused, IsReady, Stands}
 use Rattle.dsde_run.proofs.Feeds.{feeds-append, feeds-none, line_parts}
 use Rattle.dsde_run.proofs.Handing.{GoesOn-none, GoesOn-turned, GoesOn-handed, Tells-all, Tells-ended, front-gone, front-failed, IsFront-failed}
 use Rattle.dsde_run.proofs.Turning.{kept-ended}

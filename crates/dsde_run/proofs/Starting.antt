@@ -1,6 +1,6 @@
 -- A whole run: its start, and then its turns.
-use Rattle.std.proofs.Common.{◌≡◌, ◌≢◌, ℕ, List, [], ◌++◌, length, take, drop, refl, sym, subst, ◌∙◌, ap, arith, append_assoc}
-use Rattle.std.specs.Prelude.{Option, Some, None, Result, Ok, Err, IfOk, IfErr, OnErr}
+use Rattle.std.proofs.Common.{◌≡◌, ◌≢◌, ℕ, List, [], ◌++◌, length, take, drop, refl, sym, subst, ◌∙◌, ap, append_assoc}
+use Rattle.std.specs.Prelude.{Option, Result, Ok, Err, IfOk, IfErr, OnErr}
 use Rattle.std.proofs.lemmas.Grind.{flat_map-append}
 use Rattle.std.proofs.lemmas.List.{append-nil, take-append-drop}
 use Rattle.std.proofs.Math.Seq.{take-append_seam}
@@ -25,11 +25,11 @@ use Rattle.dsde_run.specs.declared.run.Cut.{Cut}
 use Rattle.dsde_run.specs.declared.run.Cut.TheVariants as cut
 use Rattle.dsde_run.specs.Run.{Running, event_text, go_by, run_by, faulted, kept_line, kept_text}
 use Rattle.dsde_run_meaning.specs.Run.{Run, preceded, ended, unstarted}
-use Rattle.dsde_run.specs.Reading.{cut_after, feeds, IsWhole, TakesWanted, Tells, IsCutShort, IsFront, Comes, ComesWhole, StartsFaulted}
+use Rattle.dsde_run.specs.Reading.{cut_after, feeds, IsWhole, TakesWanted, Tells, IsFront, Comes, ComesWhole, StartsFaulted}
 use Rattle.dsde_run.specs.Reading as source
 use Rattle.dsde_run.specs.Steps.{HandsOn, GoesOn}
 use Rattle.dsde_run.proofs.Tolds.{Told-weaker}
-use Rattle.dsde_run.proofs.Handing.{Gains-then, Gains-same, IsFront-more, IsFront-within, IsFront-failed, IsFront-none}
+use Rattle.dsde_run.proofs.Handing.{Gains-then, Gains-same, IsFront-more, IsFront-within, IsFront-failed}
 
 run-started : {State : Type 0} (engine_of : State → Engine) (advance : State → Option Arrival → turn.Told (Step × State)) (begins : turn.Told State) (own : Running) (records : Records) (turns : ℕ) (state : State) → begins.end ≡ Ok state →
     run_by engine_of advance begins own records turns ≡ preceded begins.events (go_by engine_of advance own turns records state)
@@ -101,10 +101,6 @@ module _ (own : Running) (pick : Pick) (tells rest : Records → Run) (all : Rec
     is = Gains-same old mid (goes all).piece (take (length (goes all).piece) (kept_text own pick (tells all).events))
         (sym (ap (take (length (goes all).piece)) (behind all) ∙ take-append_seam (goes all).piece (kept_text own pick (rest all).events))) (goes all).gained;
   }
-
--- Nothing is taken.
-pub wanted-none : (tells : Records → Run) (records : Records) (held bytes : List ℕ) → TakesWanted tells records held bytes bytes
-wanted-none tells records held bytes = record { needed = []; past = []; split = refl; size = omega arith; wanted = λ some. absurd (some refl) }
 
 -- The start's lines could not be handed on.
 pub front-start : {State : Type 0} (engine_of : State → Engine) (advance : State → Option Arrival → turn.Told (Step × State)) (begins : turn.Told State) (own : Running) (pick : Pick) (turns : ℕ) (state : State) (told : List Event) (empty text : List ℕ) (old new : Option (List ℕ)) →

@@ -1,12 +1,12 @@
 -- What the functions that run a model append, hand on and answer.
-use Rattle.std.specs.Prelude.{ℕ, ◌+◌, ◌≡◌, ◌≢◌, ◌≤◌, true, false, Bool, List, [], ◌∷◌, ◌++◌, length, Option, Some, None, is_some, Result, Ok, Err, IfOk, IfErr, IfSome}
+use Rattle.std.specs.Prelude.{ℕ, ◌+◌, ◌≡◌, ◌≢◌, ◌≤◌, ◌^◌, true, false, Bool, List, [], ◌∷◌, ◌++◌, length, Option, Some, None, is_some, Result, Ok, Err, IfOk, IfErr, IfSome}
 use Rattle.dsde_io.specs.Bytes.{Gains, GainsFront}
 use Rattle.dsde_values.specs.When.{IsMoment}
 use Rattle.dsde_input_records.specs.Record.{AreItems}
 use Rattle.dsde_declared.specs.declared.ids.ModelId.{ModelId}
 use Rattle.dsde_declared.specs.Models.{top_ins, top_number, types_of}
-use Rattle.dsde_sim.specs.Working as sim
-use Rattle.dsde_sim.specs.Working.{HeadComes, working}
+use Rattle.dsde_sim_working.specs.Working as sim
+use Rattle.dsde_sim_working.specs.Working.{HeadComes, working}
 use Rattle.dsde_values.specs.declared.arrival.Arrival.{Arrival}
 use Rattle.dsde_input_records.specs.declared.end.InputEnd.{InputEnd}
 use Rattle.dsde_input_records.specs.declared.end.InputEnd.TheVariants.{ReadFault}
@@ -31,7 +31,7 @@ use Rattle.dsde_run.specs.declared.run.After.TheVariants.{Turned, Ended}
 use Rattle.dsde_run.specs.Run.{Running, event_text, turn_by, kept_text}
 use Rattle.dsde_run_engine.specs.Advancing.{IsTurned}
 use Rattle.dsde_run_meaning.specs.Run.{Run, offended, ended}
-use Rattle.dsde_run.specs.Reading.{feeds, cut_after, IsWhole, TakesWanted, IsFront}
+use Rattle.dsde_run.specs.Reading.{feeds, IsWhole, TakesWanted, IsFront}
 use Rattle.dsde_run.specs.declared.run.Cut.{Cut}
 use Rattle.dsde_run.specs.declared.run.Cut.TheVariants as cut
 
@@ -189,6 +189,11 @@ pub record IsNext (before after : Engine) (head : Option Arrival) (took_input : 
 abbrev pub Readies : Engine → Engine → Option Arrival → After → Type 0
 Readies before after head (Turned took_input) = IsNext before after head took_input
 Readies before after head (Ended how) = Unit {0}
+
+-- At most 2^33 parts were born in a turn behind which the run goes on: so many there were before, and so many are there after.
+abbrev pub Bears : ℕ → ℕ → After → Type 0
+Bears before after (Turned took_input) = after ≤ before + 2 ^ 33
+Bears before after (Ended how) = Unit {0}
 
 -- The engine is not spent where the run ends otherwise than by a fault.
 abbrev pub IsUnspent : Engine → After → Type 0

@@ -29,7 +29,8 @@ pub enum RunEnd {
     Memory,
 }
 
-/// At most this many turns. The lines of a turn are handed on before the next record is asked for.
+/// At most this many turns, which are no more than 1,000,000,000, of an engine in which no more than 2^62 parts were
+/// born. The lines of a turn are handed on before the next record is asked for.
 pub fn run_turns<E: Advance, R: Source, W: Sink>(
     alloc: Global,
     engine: &mut E,
@@ -45,6 +46,8 @@ pub fn run_turns<E: Advance, R: Source, W: Sink>(
     requires fresh { is_some (E.engine (E.state engine.old)).tree ≡ true }
     requires in_time { (E.engine (E.state engine.old)).time ≤ least_time reader.old }
     requires bounded { (E.engine (E.state engine.old)).turn + turns < 2 ^ 63 }
+    requires few { turns ≤ 1_000_000_000 }
+    requires births { E.born engine.old ≤ 2 ^ 62 }
 
     ensures comes { Told (R.left source.old) (R.left source.new) (λ before.
         Comes own.now pick (λ records. go_by E.engine (E.advance own.now.model) own.now turns records (E.state engine.old)) (to_give own.now reader.old before)

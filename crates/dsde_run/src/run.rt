@@ -1,16 +1,16 @@
 //! The turns of an engine on the records of an input.
 
-ghost use Rattle.std.specs.Prelude.{ℕ, ◌≡◌, ◌≢◌, ◌⊎◌, ◌+◌, ◌<◌, ◌≤◌, ◌^◌, [], ◌++◌, Bool, true, false, is_some, OnOk, IfOk, OnErr, IfErr, IfSome, IsErrOf};
+ghost use Rattle.std.specs.Prelude.{ℕ, ◌≡◌, ◌≢◌, ◌⊎◌, ◌+◌, ◌<◌, ◌≤◌, ◌^◌, [], ◌++◌, true, false, is_some, OnOk, IfOk, OnErr, IfErr, IfSome, IsErrOf};
 ghost use Rattle.std.specs.Option.{option_copied};
 ghost use Rattle.dsde_io.specs.Fault.{Rose};
 ghost use Rattle.dsde_io.specs.Bytes.{Gains, GainsFront};
 ghost use Rattle.dsde_sim_events.specs.declared.event.Event.TheVariants as event;
 ghost use Rattle.dsde_sim_turns.specs.Engine.{Engine};
 ghost use Rattle.dsde_input.specs.Reader.{IsOffence, least_time};
-ghost use Rattle.dsde_run_meaning.specs.Run.{Run, ended, offended};
+ghost use Rattle.dsde_run_meaning.specs.Run.{ended, offended};
 ghost use Rattle.dsde_run.specs.Run.{go_by, faulted, kept_text, event_text};
 ghost use Rattle.dsde_run.specs.Reading.{Told, IsWhole, TakesWanted, Comes, IsFront};
-ghost use Rattle.dsde_run.specs.Steps.{HandsOn, Turns, Readies, IsRoot, IsUnspent, Stops, line_of, IsReady, IsUnready, Halts, Asked, Refused, ComesBy, Waits, passed, record_of, to_give};
+ghost use Rattle.dsde_run.specs.Steps.{HandsOn, Turns, Readies, Bears, IsRoot, IsUnspent, Stops, line_of, IsReady, IsUnready, Halts, Asked, Refused, ComesBy, Waits, passed, record_of, to_give};
 
 use crate::Running;
 use dsde_input::{InputEnd, InputReader};
@@ -111,6 +111,8 @@ pub(crate) fn go<E: Advance, R: Source, W: Sink>(
     requires fresh { is_some (E.engine (E.state engine.old)).tree ≡ true }
     requires in_time { (E.engine (E.state engine.old)).time ≤ least_time reader.old }
     requires bounded { (E.engine (E.state engine.old)).turn + turns < 2 ^ 63 }
+    requires few { turns ≤ 1_000_000_000 }
+    requires births { E.born engine.old ≤ 2 ^ 62 }
 
     ensures comes { Told (R.left source.old) (R.left source.new) (λ before.
         Comes own.now pick (λ records. go_by E.engine (E.advance own.now.model) own.now turns records (E.state engine.old)) (to_give own.now reader.old before)
@@ -264,6 +266,7 @@ fn turn<E: Advance>(
     requires root { IsRoot own.now (E.engine (E.state engine.old)) }
     requires comes { IfSome (record_of head.now) (ComesBy own.now) }
     requires late { IfSome (record_of head.now) (λ arrival. (E.engine (E.state engine.old)).time ≤ arrival.time) }
+    requires births { E.born engine.old < 2 ^ 63 + 2 ^ 62 }
     requires empty { events.old ≡ [] }
     ensures turns { IfOk result (Turns E.engine (E.advance own.now.model) own.now pick (E.state engine.old) (record_of head.now) (E.state engine.new) text.old text.new) }
     ensures program { E.program engine.new ≡ E.program engine.old }
@@ -271,6 +274,7 @@ fn turn<E: Advance>(
     ensures unspent { IfOk result (IsUnspent (E.engine (E.state engine.new))) }
     ensures quiet { IfOk result (λ after. after ≡ After.Ended Finish.Quiet → record_of head.now ≡ None) }
     ensures emptied { OnOk result (events.new ≡ []) }
+    ensures births { IfOk result (Bears (E.born engine.old) (E.born engine.new)) }
 {
     own.comes();
     let head = head.record();

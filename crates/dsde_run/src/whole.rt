@@ -1,26 +1,26 @@
 //! A whole run: the start of an engine, and its turns.
 
-ghost use Rattle.std.specs.Prelude.{◌≡◌, ◌<◌, ◌≤◌, ◌^◌, Ok, [], true, is_some, IfOk, IfErr, OnOk, OnErr, IsErrOf, IsSomeAnd};
+ghost use Rattle.std.specs.Prelude.{◌≡◌, ◌≤◌, ◌^◌, Ok, [], true, is_some, IfOk, IsErrOf, IsSomeAnd};
 ghost use Rattle.dsde_io.specs.Fault.{Rose};
 ghost use Rattle.dsde_sim_events.specs.Told as told;
 ghost use Rattle.dsde_sim_events.specs.declared.fault.TurnEnd.{TurnEnd};
-ghost use Rattle.dsde_run.specs.Run.{run, run_by, records_in, kept_text};
-ghost use Rattle.dsde_run.specs.Reading.{Told, IsWhole, TakesWanted, ComesWhole, IsFront, StartsFaulted};
+ghost use Rattle.dsde_run.specs.Run.{run, run_by, records_in};
+ghost use Rattle.dsde_run.specs.Reading.{Told, IsWhole, TakesWanted, ComesWhole, StartsFaulted};
 ghost use Rattle.dsde_run.specs.Steps.{Begins, Starts};
 
 use crate::Running;
 use crate::run::{Cut, finish, finish_of, go, hand_on, write_events};
+use dsde_core::Core;
 use dsde_input::InputReader;
 use dsde_io::{Sink, Source};
 use dsde_run_engine::Advance;
-use dsde_sim::Plain;
 use dsde_sim_events::{Event, Finish, TurnEnd};
 use dsde_trace::Pick;
 use dsde_values::{Memory, Seq, Text};
 use std::alloc::Global;
 
-/// Runs a program from its start, for at most this many turns. The start's lines are handed on before
-/// the first record is wanted.
+/// Runs a program from its start, for at most this many turns, which are no more than 1,000,000,000. The
+/// start's lines are handed on before the first record is wanted.
 pub fn run_model<R: Source, W: Sink>(
     alloc: Global,
     own: &Running<'_>,
@@ -29,7 +29,7 @@ pub fn run_model<R: Source, W: Sink>(
     source: &mut R,
     sink: &mut W,
 ) -> Result<Finish, Cut>
-    requires turns { turns < 2 ^ 63 }
+    requires turns { turns ≤ 1_000_000_000 }
 
     ensures comes { Told (R.left source.old) (R.left source.new) (λ before.
         ComesWhole own.now pick (λ records. run own.now records turns) (records_in own.now before) (W.written sink.old) (W.written sink.new) result before) }
@@ -56,9 +56,9 @@ pub fn run_leaving<'p, R: Source, W: Sink>(
     turns: u64,
     source: &mut R,
     sink: &mut W,
-    left: &mut Option<Plain<'p>>,
+    left: &mut Option<Core<'p>>,
 ) -> Result<Finish, Cut>
-    requires turns { turns < 2 ^ 63 }
+    requires turns { turns ≤ 1_000_000_000 }
 
     ensures comes { Told (R.left source.old) (R.left source.new) (λ before.
         ComesWhole own.now pick (λ records. run own.now records turns) (records_in own.now before) (W.written sink.old) (W.written sink.new) result before) }
@@ -66,9 +66,9 @@ pub fn run_leaving<'p, R: Source, W: Sink>(
         TakesWanted (λ records. run own.now records turns) (records_in own.now before) [] before) }
     ensures quiet { result ≡ Ok Finish.Quiet → Told (R.left source.old) (R.left source.new) (λ _ after. after ≡ []) }
 
-    ensures left { IfOk result (λ how. IsWhole how → IsSomeAnd left.new (λ plain. (plain.program ≡ own.now.model) × (is_some plain.engine.tree ≡ true))) }
+    ensures left { IfOk result (λ how. IsWhole how → IsSomeAnd left.new (λ core. (core.program ≡ own.now.model) × (is_some core.engine.tree ≡ true))) }
     ensures stands { IfOk result (λ how. IsWhole how → Told (R.left source.old) (R.left source.new) (λ before after.
-        IsSomeAnd left.new (λ plain. plain.engine ≡ (run own.now (records_in own.now before) turns).state))) }
+        IsSomeAnd left.new (λ core. core.engine ≡ (run own.now (records_in own.now before) turns).state))) }
 
     ensures unread { IsErrOf result Cut.ReadFault → Rose (R.faults source.old) (R.faults source.new) }
     ensures unwritten { IsErrOf result Cut.Unwritten → Rose (W.faults sink.old) (W.faults sink.new) }
@@ -77,7 +77,7 @@ pub fn run_leaving<'p, R: Source, W: Sink>(
     ensures idle { turns ≡ 0 → source.new ≡ source.old }
 {
     let mut events = Seq::new(alloc);
-    let started = Plain::start(alloc, own.program(), &mut events);
+    let started = Core::start(alloc, own.program(), &mut events);
     run_started(
         alloc,
         started,
@@ -92,8 +92,9 @@ pub fn run_leaving<'p, R: Source, W: Sink>(
 }
 
 /// Runs a program behind the start of an engine of it, in whatever order its parts move, for at most
-/// this many turns: `started` is what the start came to, and `events` are the events that it told, whose
-/// lines are handed on before the first record is wanted. Leaves the engine in `left`.
+/// this many turns, which are no more than 1,000,000,000: `started` is what the start came to, an engine in
+/// which no more than 2^62 parts were born, and `events` are the events that it told, whose lines are handed
+/// on before the first record is wanted. Leaves the engine in `left`.
 pub fn run_started<E: Advance + Drop, R: Source, W: Sink>(
     alloc: Global,
     started: Result<E, TurnEnd>,
@@ -106,7 +107,8 @@ pub fn run_started<E: Advance + Drop, R: Source, W: Sink>(
     left: &mut Option<E>,
 ) -> Result<Finish, Cut>
     requires starts { IfOk started (λ engine. Starts own.now (E.program engine) (E.engine (E.state engine))) }
-    requires turns { turns < 2 ^ 63 }
+    requires births { IfOk started (λ engine. E.born engine ≤ 2 ^ 62) }
+    requires turns { turns ≤ 1_000_000_000 }
 
     ensures comes { (begins : told.Told E.State) → Begins E.state begins events.now started → Told (R.left source.old) (R.left source.new) (λ before.
         ComesWhole own.now pick (λ records. run_by E.engine (E.advance own.now.model) begins own.now records turns) (records_in own.now before) (W.written sink.old) (W.written sink.new) result before) }

@@ -16,7 +16,7 @@ use Rattle.dsde_sim_events.specs.declared.fault.TurnEnd.{TurnEnd}
 use Rattle.dsde_sim_events.specs.declared.fault.TurnEnd.TheVariants as turn_end
 use Rattle.dsde_sim_events.specs.Told as turn
 use Rattle.dsde_sim_events.specs.Told.{at, told, quietly, ◌then◌}
-use Rattle.dsde_sim.specs.Working as sim
+use Rattle.dsde_sim_working.specs.Working as sim
 use Rattle.dsde_sim_tree.specs.declared.sim.Sim.{Sim}
 use Rattle.dsde_sim_tree.specs.Tree.{model_of}
 use Rattle.dsde_sim_turns.specs.declared.step.Step.TheVariants.{Turned, Quiet}

@@ -1,7 +1,7 @@
 -- A run whose events are counted, and none is kept.
-use Rattle.std.specs.Prelude.{ℕ, ◌≡◌, ◌+◌, ◌-◌, ⊤, Bool, true, List, [], ◌∷◌, ◌++◌, length, Option, Some, None, is_some, Ok, codes, decimal, slice_get}
+use Rattle.std.specs.Prelude.{ℕ, ◌≡◌, ◌≤◌, ◌+◌, ◌-◌, ◌^◌, ⊤, Bool, true, List, [], ◌∷◌, ◌++◌, length, Option, Some, None, is_some, Ok, codes, decimal, slice_get}
 use Rattle.std.specs.Option.{option_map_or}
-use Rattle.dsde_sim.specs.Working.{Working}
+use Rattle.dsde_core.specs.Standing.{Standing}
 use Rattle.dsde_sim_events.specs.declared.event.Event.{Event}
 use Rattle.dsde_sim_events.specs.declared.event.Event.TheVariants as event
 use Rattle.dsde_sim_events.specs.declared.event.Finish.{Finish}
@@ -68,7 +68,8 @@ CountsTurn own before after old new None = TurnsCounted own before after old new
 CountsTurn own before after old new (Some ending) = (later : Bool → Engine → Run) → EndsCounted old (turn_on own before None later) new ending
 
 -- The engine is ready for the turn behind that of this engine.
-pub record IsNextTurn (before after : Working) : Type 0 where
+pub record IsNextTurn (before after : Standing) : Type 0 where
   pub fresh : is_some after.engine.tree ≡ true
   pub counted : after.engine.turn ≡ before.engine.turn + 1
   pub same : after.program ≡ before.program
+  pub births : after.born ≤ before.born + 2 ^ 33

@@ -6,8 +6,9 @@ ghost use Rattle.dsde_trace.specs.Count.{counts_from, none_counted};
 ghost use Rattle.dsde_run.specs.Run.{go, run};
 ghost use Rattle.dsde_run_count.specs.Counting.{Counts, CountsTurn, EndsCounted, IsNextTurn, IsOwnEnd, total};
 
+use dsde_core::Core;
 use dsde_run::{Running, finish_of};
-use dsde_sim::Plain;
+use dsde_run_engine::Advance;
 use dsde_sim_events::{Event, Finish};
 use dsde_sim_turns::Step;
 use dsde_trace::{Summary, count_event};
@@ -40,11 +41,11 @@ pub fn count_run(alloc: Global, own: &Running<'_>, turns: u64) -> Result<Counted
 {
     let mut events = Seq::new(alloc);
     let mut summary = none_counted();
-    let started = Plain::start(alloc, own.program(), &mut events);
+    let started = Core::start(alloc, own.program(), &mut events);
     count_events(events.as_slice(), &mut summary);
     events.truncate(0);
     match started {
-        Ok(mut plain) => match count_turns(&mut plain, own, &mut events, &mut summary, turns) {
+        Ok(mut core) => match count_turns(&mut core, own, &mut events, &mut summary, turns) {
             Ok(ending) => Ok(Counted {
                 summary,
                 how: ending.how,
@@ -82,55 +83,57 @@ fn none_counted() -> Summary
 /// Takes at most this many turns, and counts their events behind those that were counted. The list
 /// of events is empty, and serves each turn.
 fn count_turns(
-    plain: &mut Plain<'_>,
+    core: &mut Core<'_>,
     own: &Running<'_>,
     events: &mut Seq<Event>,
     summary: &mut Summary,
     turns: u64,
 ) -> Result<Ending, Memory>
-    requires program { plain.old.program ≡ own.now.model }
-    requires fresh { is_some plain.old.engine.tree ≡ true }
-    requires bounded { plain.old.engine.turn + turns < 2 ^ 63 }
+    requires program { core.old.program ≡ own.now.model }
+    requires fresh { is_some core.old.engine.tree ≡ true }
+    requires bounded { core.old.engine.turn + turns < 2 ^ 63 }
     requires few { turns ≤ 1_000_000_000 }
+    requires births { core.old.born ≤ 2 ^ 62 }
     requires room { total summary.old ≤ 2 ^ 64 }
     requires empty { events.old ≡ [] }
-    ensures counts { IfOk result (EndsCounted summary.old (go own.now turns end plain.old.engine) summary.new) }
+    ensures counts { IfOk result (EndsCounted summary.old (go own.now turns end core.old.engine) summary.new) }
     ensures own_end { IfOk result (λ ending. IsOwnEnd ending.how) }
 {
     for _turn in 0..turns {
-        if let Some(ending) = count_turn(plain, own, events, summary)? {
+        if let Some(ending) = count_turn(core, own, events, summary)? {
             return Ok(ending);
         }
     }
     Ok(Ending {
         how: Finish::Bound,
-        turns: plain.turn(),
-        time: plain.time(),
+        turns: core.turn(),
+        time: core.time(),
     })
 }
 
 /// Takes one turn without a head of the input, and counts its events; or the run has ended.
 fn count_turn(
-    plain: &mut Plain<'_>,
+    core: &mut Core<'_>,
     own: &Running<'_>,
     events: &mut Seq<Event>,
     summary: &mut Summary,
 ) -> Result<Option<Ending>, Memory>
-    requires program { plain.old.program ≡ own.now.model }
-    requires fresh { is_some plain.old.engine.tree ≡ true }
-    requires turns { plain.old.engine.turn < 2 ^ 63 }
+    requires program { core.old.program ≡ own.now.model }
+    requires fresh { is_some core.old.engine.tree ≡ true }
+    requires turns { core.old.engine.turn < 2 ^ 63 }
+    requires births { core.old.born < 2 ^ 63 + 2 ^ 62 }
     requires room { total summary.old ≤ 2 ^ 127 }
     requires empty { events.old ≡ [] }
-    ensures counts { IfOk result (CountsTurn own.now plain.old.engine plain.new.engine summary.old summary.new) }
+    ensures counts { IfOk result (CountsTurn own.now core.old.engine core.new.engine summary.old summary.new) }
     ensures own_end { IfOk result (λ found. IfSome found (λ ending. IsOwnEnd ending.how)) }
-    ensures next { IfOk result (λ found. found ≡ None → IsNextTurn plain.old plain.new) }
+    ensures next { IfOk result (λ found. found ≡ None → IsNextTurn core.old core.new) }
     ensures few { total summary.new ≤ total summary.old + 2 ^ 64 }
     ensures emptied { events.new ≡ [] }
 {
-    let done = plain.turn();
-    let last = plain.time();
-    let time = plain.turn_time(None).unwrap_or(last);
-    let step = plain.advance(None, events);
+    let done = core.turn();
+    let last = core.time();
+    let time = core.turn_time(None).unwrap_or(last);
+    let step = Advance::advance(core, None, events);
     count_events(events.as_slice(), summary);
     events.truncate(0);
     match step {

@@ -1,6 +1,6 @@
 //! An engine as a run sees it.
 
-ghost use Rattle.std.specs.Prelude.{◌≡◌, ◌<◌, ◌≤◌, ◌^◌, ℕ, Option, Ok, Err, is_some, is_none, is_err, true, IfOk, IfErr, IfSome};
+ghost use Rattle.std.specs.Prelude.{◌≡◌, ◌+◌, ◌<◌, ◌≤◌, ◌^◌, ℕ, Option, Ok, Err, is_some, is_none, is_err, true, IfOk, IfErr, IfSome, OnOk};
 ghost use Rattle.std.specs.Option.{option_copied};
 ghost use Rattle.dsde_syntax.specs.declared.decl.Model.{Model};
 ghost use Rattle.dsde_declared.specs.declared.ids.ModelId.{ModelId};
@@ -9,7 +9,7 @@ ghost use Rattle.dsde_sim_events.specs.Told.{Told, Tells};
 ghost use Rattle.dsde_sim_turns.specs.declared.step.Step.{Step};
 ghost use Rattle.dsde_sim_turns.specs.Engine.{Engine, next_of};
 ghost use Rattle.dsde_sim_turns.specs.Turn.{turn_time};
-ghost use Rattle.dsde_sim.specs.Working.{HeadComes, IsRoot, working};
+ghost use Rattle.dsde_sim_working.specs.Working.{HeadComes, IsRoot, working};
 ghost use Rattle.dsde_run_engine.specs.Advancing.{StepsOn};
 
 use dsde_sim_events::{Event, TurnEnd};
@@ -33,6 +33,9 @@ pub trait Advance {
     /// The engine of a state.
     ghost engine: { State → Engine };
 
+    /// How many parts were born in it since it started, where it counts them; otherwise 0.
+    ghost born: { Self → ℕ };
+
     /// What an advance of a program tells from a state with this head of the input, and what it comes to.
     ghost advance: { Model → State → Option Arrival → Told (Step × State) };
 
@@ -54,16 +57,19 @@ pub trait Advance {
     /// Takes one turn with this head of the input, which is not before the time of the last turn, and
     /// tells it. After a fault the events before it were told, and without memory some of the events,
     /// from their front. After either the engine is spent. `Quiet` comes only where there is no head,
-    /// and changes nothing.
+    /// and changes nothing. At most 2^33 parts are born in a turn, and an engine takes one
+    /// where fewer than 2^63 + 2^62 were born before.
     fn advance(&mut self, head: Option<&Arrival>, events: &mut Seq<Event>) -> Result<Step, TurnEnd>
         requires fresh { is_some (engine (state self.old)).tree ≡ true }
         requires turns { (engine (state self.old)).turn < 2 ^ 63 }
         requires head { HeadComes (working (program self.old) (engine (state self.old))) (option_copied head) }
         requires late { IfSome (option_copied head) (λ arrival. (engine (state self.old)).time ≤ arrival.time) }
+        requires births { born self.old < 2 ^ 63 + 2 ^ 62 }
         ensures ok { IfOk result (λ step. Tells (advance (program self.old) (state self.old) (option_copied head.entry)) events.old events.new (Ok (step, state self.new))) }
         ensures err { IfErr result (λ end. Tells (advance (program self.old) (state self.old) (option_copied head.entry)) events.old events.new (Err end)) }
         ensures steps { IfOk result (StepsOn engine (state self.old) (state self.new) (option_copied head.entry)) }
         ensures program { program self.new ≡ program self.old }
         ensures root { (number : ModelId) → IsRoot number (engine (state self.old)) → IfOk result (λ step. IsRoot number (engine (state self.new))) }
-        ensures spent { is_none (engine (state self.new)).tree ≡ is_err result };
+        ensures spent { is_none (engine (state self.new)).tree ≡ is_err result }
+        ensures births { OnOk result (born self.new ≤ born self.old + 2 ^ 33) };
 }

@@ -11,7 +11,7 @@ use Rattle.dsde_sim_turns.specs.Engine.{Engine}
 use Rattle.dsde_sim_turns.specs.Turn as turning
 use Rattle.dsde_sim_movers.specs.lemmas.Steps.{same-ok, split-then}
 use Rattle.dsde_system.specs.Program.{system}
-use Rattle.dsde_sim.specs.Working as sim
+use Rattle.dsde_sim_working.specs.Working as sim
 use Rattle.dsde_drawing.specs.Words.{seeded}
 use Rattle.dsde_order.specs.Free as drawing
 use Rattle.dsde_order.specs.Free.{Drawing}

@@ -1,6 +1,6 @@
 //! A run whose turns move in orders that the words of a generator draw.
 
-ghost use Rattle.std.specs.Prelude.{◌≡◌, ◌<◌, ◌≤◌, ◌^◌, Ok, [], IsErrOf};
+ghost use Rattle.std.specs.Prelude.{◌≡◌, ◌≤◌, Ok, [], IsErrOf};
 ghost use Rattle.dsde_io.specs.Fault.{Rose};
 ghost use Rattle.dsde_run.specs.Run.{records_in};
 ghost use Rattle.dsde_run.specs.Reading.{ComesWhole, TakesWanted, Told};
@@ -14,10 +14,10 @@ use dsde_trace::Pick;
 use dsde_values::Seq;
 use std::alloc::Global;
 
-/// Runs a program from its start, for at most this many turns. In each turn the components and the executives
-/// that move do so in the order that the next words of the generator of this seed draw, of which each takes one:
-/// an executive moves after all beneath its network. The start's lines are handed on before the first record
-/// is wanted.
+/// Runs a program from its start, for at most this many turns, which are no more than 1,000,000,000. In each
+/// turn the components and the executives that move do so in the order that the next words of the generator of
+/// this seed draw, of which each takes one: an executive moves after all beneath its network. The start's lines
+/// are handed on before the first record is wanted.
 ///
 /// The trace is that of the run in those orders, and the answer is how that run ended. `Unwritten` and `ReadFault`
 /// come only where the sink and the source counted a fault, `Memory` at want of memory; after each of them the
@@ -31,7 +31,7 @@ pub fn run_free<R: Source, W: Sink>(
     source: &mut R,
     sink: &mut W,
 ) -> Result<Finish, Cut>
-    requires turns { turns < 2 ^ 63 }
+    requires turns { turns ≤ 1_000_000_000 }
 
     ensures comes { Told (R.left source.old) (R.left source.new) (λ before.
         ComesWhole own.now pick (λ records. free_run own.now seed records turns) (records_in own.now before) (W.written sink.old) (W.written sink.new) result before) }

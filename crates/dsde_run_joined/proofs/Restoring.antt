@@ -8,7 +8,7 @@ use Rattle.dsde_sim_tree.specs.declared.sim.Sim.{Sim}
 use Rattle.dsde_sim_turns.specs.Engine.{Engine}
 use Rattle.dsde_sim_stands.specs.Stands.{Stands}
 use Rattle.dsde_sim_starting.specs.Fitting.{FitsTree}
-use Rattle.dsde_sim.specs.Working.{working}
+use Rattle.dsde_sim_working.specs.Working.{working}
 use Rattle.dsde_image.specs.declared.image.Version.{Version}
 use Rattle.dsde_image_written.specs.Plain.{ImagesAreRestored}
 use Rattle.dsde_save.specs.Saved.{IsOf, image_of}

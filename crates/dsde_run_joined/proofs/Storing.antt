@@ -7,7 +7,7 @@ use Rattle.dsde_syntax.specs.declared.decl.Model.{Model}
 use Rattle.dsde_check_rules.specs.Right.{IsRight}
 use Rattle.dsde_sim_tree.specs.declared.sim.Sim.{Sim}
 use Rattle.dsde_sim_turns.specs.Engine.{Engine}
-use Rattle.dsde_sim.specs.Working.{working}
+use Rattle.dsde_sim_working.specs.Working.{working}
 use Rattle.dsde_image.specs.Image.{IsImage}
 use Rattle.dsde_image.specs.Written.{IsWritten}
 use Rattle.dsde_image.specs.declared.image.Image.{Image}

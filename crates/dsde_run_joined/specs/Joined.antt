@@ -4,7 +4,7 @@ use Rattle.dsde_check_rules.specs.Right.{IsRight}
 use Rattle.dsde_sim_events.specs.declared.event.Event.TheVariants as event
 use Rattle.dsde_sim_events.specs.declared.event.Finish.{Finish}
 use Rattle.dsde_sim_tree.specs.declared.sim.Sim.{Sim}
-use Rattle.dsde_sim.specs.Working.{working}
+use Rattle.dsde_sim_working.specs.Working.{working}
 use Rattle.dsde_image.specs.declared.image.Version.{Version}
 use Rattle.dsde_trace.specs.declared.pick.Pick.{Pick}
 use Rattle.dsde_run_meaning.specs.Run.{Run}

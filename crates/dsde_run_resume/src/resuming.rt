@@ -8,11 +8,11 @@ ghost use Rattle.dsde_run.specs.Steps.{IsRoot};
 ghost use Rattle.dsde_run_resume.specs.Resumed.{records_for, resumed_on};
 ghost use Rattle.dsde_run_resume.specs.Resuming.{ComesBack, stopped_as, taken_up};
 
+use dsde_core::Core;
 use dsde_input::InputEnd;
 use dsde_input_skip::{SkipEnd, skip};
 use dsde_io::{Sink, Source};
 use dsde_run::{Cut, RunEnd, Running, run_turns};
-use dsde_sim::Plain;
 use dsde_sim_events::{Finish, InputKind};
 use dsde_sound_components::top_is_sure;
 use dsde_trace::Pick;
@@ -28,8 +28,8 @@ pub enum Unresumed {
 }
 
 /// Takes a run up again: skips the records of the input that the engine took, and goes on for at most this
-/// many turns, with no record before the engine's time. The input is the whole input of the run from its
-/// start.
+/// many turns, which are no more than 1,000,000,000, with no record before the engine's time. No more than 2^62
+/// parts were born in the engine. The input is the whole input of the run from its start.
 ///
 /// Nothing is written before the records are skipped: where a line among them is bad the run ends with it, with no
 /// line of its own, and `FewRecords` comes exactly where the input ends before. Then the engine stays as it was.
@@ -37,46 +37,48 @@ pub enum Unresumed {
 /// fault. An engine that took no record and goes on for no turn reads nothing. This project's profile.
 pub fn resume_turns<R: Source, W: Sink>(
     alloc: Global,
-    plain: &mut Plain<'_>,
+    core: &mut Core<'_>,
     source: &mut R,
     sink: &mut W,
     own: &Running<'_>,
     pick: Pick,
     turns: u64,
 ) -> Result<Finish, Unresumed>
-    requires program { plain.old.program ≡ own.now.model }
-    requires fresh { is_some plain.old.engine.tree ≡ true }
-    requires bounded { plain.old.engine.turn + turns < 2 ^ 63 }
+    requires program { core.old.program ≡ own.now.model }
+    requires fresh { is_some core.old.engine.tree ≡ true }
+    requires bounded { core.old.engine.turn + turns < 2 ^ 63 }
+    requires at_most { turns ≤ 1_000_000_000 }
+    requires births { core.old.born ≤ 2 ^ 62 }
 
-    ensures comes { Told (R.left source.old) (R.left source.new) (ComesBack own.now pick turns plain.old.engine
-        plain.new.engine (W.written sink.old) (W.written sink.new) result) }
+    ensures comes { Told (R.left source.old) (R.left source.new) (ComesBack own.now pick turns core.old.engine
+        core.new.engine (W.written sink.old) (W.written sink.new) result) }
     ensures taken { Told (R.left source.old) (R.left source.new) (λ before.
-        TakesWanted (resumed_on own.now turns plain.old.engine) (records_for own.now plain.old.engine before) [] before) }
+        TakesWanted (resumed_on own.now turns core.old.engine) (records_for own.now core.old.engine before) [] before) }
     ensures quiet { result ≡ Ok Finish.Quiet → Told (R.left source.old) (R.left source.new) (λ _ after. after ≡ []) }
-    ensures few { result ≡ Err Unresumed.FewRecords → (sink.new ≡ sink.old) × (plain.new ≡ plain.old) }
+    ensures few { result ≡ Err Unresumed.FewRecords → (sink.new ≡ sink.old) × (core.new ≡ core.old) }
 
-    ensures program { plain.new.program ≡ plain.old.program }
-    ensures unspent { IfOk result (λ how. IsWhole how → is_some plain.new.engine.tree ≡ true) }
-    ensures idle { plain.old.engine.taken ≡ 0 → turns ≡ 0 → source.new ≡ source.old }
+    ensures program { core.new.program ≡ core.old.program }
+    ensures unspent { IfOk result (λ how. IsWhole how → is_some core.new.engine.tree ≡ true) }
+    ensures idle { core.old.engine.taken ≡ 0 → turns ≡ 0 → source.new ≡ source.old }
 
     ensures unread { result ≡ Err (Unresumed.Cut Cut.ReadFault) → Rose (R.faults source.old) (R.faults source.new) }
     ensures unwritten { result ≡ Err (Unresumed.Cut Cut.Unwritten) → Rose (W.faults sink.old) (W.faults sink.new) }
     ensures reads_counted { R.faults source.old ≤ R.faults source.new }
     ensures writes_counted { W.faults sink.old ≤ W.faults sink.new }
 {
-    is_rooted(plain, own);
+    is_rooted(core, own);
     let skipped = skip(
         alloc,
         source,
         own.ins(),
         own.types(),
-        plain.taken(),
-        plain.time(),
+        core.taken(),
+        core.time(),
     );
     match skipped {
         Ok(mut reader) => answered(run_turns(
             alloc,
-            plain,
+            core,
             &mut reader,
             source,
             sink,
@@ -89,13 +91,13 @@ pub fn resume_turns<R: Source, W: Sink>(
 }
 
 /// A law: the root of an engine's tree is of the model that runs.
-fn is_rooted(plain: &Plain<'_>, own: &Running<'_>)
-    requires { plain.now.program ≡ own.now.model }
-    ensures { IsRoot own.now plain.now.engine }
+fn is_rooted(core: &Core<'_>, own: &Running<'_>)
+    requires { core.now.program ≡ own.now.model }
+    ensures { IsRoot own.now core.now.engine }
 {
     top_is_sure();
     own.program().right();
-    plain.stands();
+    core.stands();
 }
 
 /// How a run ends whose turns ended so.

@@ -10,7 +10,7 @@ use Rattle.dsde_sim_tree.specs.declared.sim.Sim.{Sim}
 use Rattle.dsde_sim_turns.specs.Engine.{Engine}
 use Rattle.dsde_sim_turns.specs.Turn.{start}
 use Rattle.dsde_sim_stands.specs.Stands.{StandsTree}
-use Rattle.dsde_sim.specs.Working.{Stands}
+use Rattle.dsde_sim_working.specs.Working.{Stands}
 use Rattle.dsde_run_meaning.specs.Run.{Run, Spots, records_in, run}
 use Rattle.dsde_run_cuts.specs.Cut.{CanGoOn}
 

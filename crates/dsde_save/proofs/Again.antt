@@ -7,7 +7,8 @@ use Rattle.dsde_system.specs.Program.{system}
 use Rattle.dsde_sim_tree.specs.declared.sim.Sim.{Sim}
 use Rattle.dsde_sim_turns.specs.Engine.{Engine}
 use Rattle.dsde_sim_stands.specs.Stands.{StandsTree}
-use Rattle.dsde_sim.specs.Working.{StandsIf, Working, working}
+use Rattle.dsde_sim_working.specs.Working.{StandsIf, working}
+use Rattle.dsde_core.specs.Standing.{Standing}
 use Rattle.dsde_image.specs.declared.image.Image.{Image}
 use Rattle.dsde_image.specs.declared.image.Version.{Version}
 use Rattle.dsde_image_fits.specs.Walk.{Walked}
@@ -27,7 +28,7 @@ engine-is program version engine tree own is same =
     ap (λ (found : Option Sim). let at : Engine = record { tree = found; turn = engine.turn; time = engine.time; taken = engine.taken } in working program at)
     (ap (λ (t : Sim). let one : Option Sim = Some t in one) same ∙ sym is)
 
-by-result : (program : Model) (version : Version) (engine : Engine) (tree : Sim) (result : Result Working RestoreError) → engine.tree ≡ Some tree
+by-result : (program : Model) (version : Version) (engine : Engine) (tree : Sim) (result : Result Standing RestoreError) → engine.tree ≡ Some tree
     → fitting program (image_of program version engine tree) ≡ Ok tree → Answers program (image_of program version engine tree) result → IsAgain (working program engine) result
 by-result program version engine tree (Ok own) is fits answer = answer.is ∙ engine-is program version engine tree answer.tree is (ok-is (sym answer.fits ∙ fits))
 by-result program version engine tree (Err restore_error.NotJson) is fits answer = answer
@@ -35,7 +36,7 @@ by-result program version engine tree (Err restore_error.WrongForm) is fits answ
 by-result program version engine tree (Err (restore_error.DoesNotFit path)) is fits answer = not-both _ (fitting program (image_of program version engine tree)) fits answer
 by-result program version engine tree (Err restore_error.Memory) is fits answer = tt
 
-pub gives-again : ImagesAreRestored → (program : Model) → IsRight program → (bytes : List ℕ) (result : Result Working RestoreError)
+pub gives-again : ImagesAreRestored → (program : Model) → IsRight program → (bytes : List ℕ) (result : Result Standing RestoreError)
     → ((image : Image) → Says bytes image → Answers program image result) → GivesAgain program bytes result
 gives-again restored program right bytes result exact version engine tree is fits stands says =
     let own = subst (StandsIf program) is fits in

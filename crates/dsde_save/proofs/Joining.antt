@@ -9,7 +9,7 @@ use Rattle.dsde_system.specs.Program.{system}
 use Rattle.dsde_sim_tree.specs.declared.sim.Sim.{Sim}
 use Rattle.dsde_sim_turns.specs.Engine.{Engine}
 use Rattle.dsde_sim_stands.specs.Stands.{StandsTree}
-use Rattle.dsde_sim.specs.Working.{StandsAt, StandsIf}
+use Rattle.dsde_sim_working.specs.Working.{StandsAt, StandsIf}
 use Rattle.dsde_image.specs.Image.{IsImage}
 use Rattle.dsde_image.specs.Written.{IsWrittenRow}
 use Rattle.dsde_image.specs.declared.image.Image.{Image}

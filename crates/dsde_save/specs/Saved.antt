@@ -15,7 +15,8 @@ use Rattle.dsde_image_json.specs.Json.{image_data}
 use Rattle.dsde_image_json.specs.Text.{IsReading}
 use Rattle.dsde_image_walk.specs.declared.ends.RestoreEnd.{RestoreEnd}
 use Rattle.dsde_image_walk.specs.declared.ends.RestoreEnd.TheVariants as restore_end
-use Rattle.dsde_sim.specs.Working.{StandsAt, StandsIf, Working, working}
+use Rattle.dsde_sim_working.specs.Working.{StandsAt, StandsIf, Working, working}
+use Rattle.dsde_core.specs.Standing.{Standing}
 use Rattle.dsde_save.specs.declared.restoring.RestoreError.{RestoreError}
 use Rattle.dsde_save.specs.declared.restoring.RestoreError.TheVariants as restore_error
 
@@ -37,6 +38,10 @@ pub record Says (bytes : List ℕ) (image : Image) : Type 0 where
   pub image_is : IsImage image
   pub reading : IsReading bytes (image_data image)
 
+-- a program and the engine that runs it, however many parts were born in it
+abbrev pub at_work : Standing → Working
+at_work own = working own.program own.engine
+
 -- The engine is that of an image that fits the program.
 pub record IsOf (program : Model) (image : Image) (own : Working) : Type 0 where
   pub tree : Sim
@@ -56,8 +61,8 @@ IsMisfitOf program image restore_error.Memory = Unit {0}
 IsMisfitOf program image _ = ⊥
 
 -- The answer where the bytes say this image: its engine, or its first path that does not fit, or memory ran out.
-abbrev pub Answers : Model → Image → Result Working RestoreError → Type 0
-Answers program image (Ok own) = IsOf program image own
+abbrev pub Answers : Model → Image → Result Standing RestoreError → Type 0
+Answers program image (Ok own) = IsOf program image (at_work own)
 Answers program image (Err why) = IsMisfitOf program image why
 
 -- The bytes say an image that does not fit the program, and this is the text of the first path.
@@ -71,13 +76,13 @@ IsMisfit program bytes (restore_error.DoesNotFit path) = Misfits program bytes (
 IsMisfit program bytes _ = Unit {0}
 
 -- The answer is this engine, or memory ran out.
-abbrev pub IsAgain : Working → Result Working RestoreError → Type 0
-IsAgain own (Ok found) = found ≡ own
+abbrev pub IsAgain : Working → Result Standing RestoreError → Type 0
+IsAgain own (Ok found) = at_work found ≡ own
 IsAgain own (Err restore_error.Memory) = Unit {0}
 IsAgain own (Err _) = ⊥
 
 -- Where the bytes say the image of an engine at work, of either version, the answer is this engine.
-abbrev pub GivesAgain : Model → List ℕ → Result Working RestoreError → Type 0
+abbrev pub GivesAgain : Model → List ℕ → Result Standing RestoreError → Type 0
 GivesAgain program bytes result =
     (version : Version) (engine : Engine) (tree : Sim) → engine.tree ≡ Some tree → StandsIf program engine.tree → StandsAt program engine
     → Says bytes (image_of program version engine tree) → IsAgain (working program engine) result

@@ -1,19 +1,19 @@
 //! Engines, restored from the bytes of an image.
 
-ghost use Rattle.std.specs.Prelude.{◌≡◌, ◌≢◌, IfOk, IfErr, IsErrOf};
+ghost use Rattle.std.specs.Prelude.{◌≡◌, ◌≢◌, ◌≤◌, IfOk, IfErr, IsErrOf};
 ghost use Rattle.serde_json.specs.Data.{Data};
 ghost use Rattle.dsde_image.specs.Image.{IsImage};
 ghost use Rattle.dsde_image.specs.declared.image.Image.{Image};
 ghost use Rattle.dsde_image_json.specs.Json.{image_data};
 ghost use Rattle.dsde_image_json.specs.Text.{IsReading};
-ghost use Rattle.dsde_save.specs.Saved.{Answers, GivesAgain, IsMisfit, IsMisfitOf, IsOf, IsRestored, Says};
+ghost use Rattle.dsde_save.specs.Saved.{at_work, Answers, GivesAgain, IsMisfit, IsMisfitOf, IsOf, IsRestored, Says};
 
+use dsde_core::Core;
 use dsde_image::Image;
 use dsde_image_reading::{ReadImage, read_image};
 use dsde_image_walk::{RestoreEnd, restored_tree};
 use dsde_image_written::images_are_restored;
 use dsde_program::Program;
-use dsde_sim::Plain;
 use dsde_values::{Memory, Path};
 use std::alloc::Global;
 
@@ -59,9 +59,10 @@ fn with_image<'p>(
     alloc: Global,
     program: &'p Program<'p>,
     image: &Image,
-) -> Result<Plain<'p>, RestoreError>
+) -> Result<Core<'p>, RestoreError>
     requires { IsImage image.now }
-    ensures ok { IfOk result (IsOf program.now image.now) }
+    ensures ok { IfOk result (λ core. IsOf program.now image.now (at_work core)) }
+    ensures born { IfOk result (λ core. core.born ≤ 131_072) }
     ensures err { IfErr result (IsMisfitOf program.now image.now) }
 {
     let tree = restored_tree(
@@ -71,7 +72,7 @@ fn with_image<'p>(
         image.time,
         image.parts.as_slice(),
     )?;
-    let engine = Plain::from_tree(alloc, program, tree, image.turn, image.time, image.records)?;
+    let engine = Core::from_tree(alloc, program, tree, image.turn, image.time, image.records)?;
     Ok(engine)
 }
 
@@ -80,12 +81,13 @@ fn answered<'p>(
     alloc: Global,
     program: &'p Program<'p>,
     bytes: &[u8],
-) -> Result<Plain<'p>, RestoreError>
-    ensures restored { IfOk result (IsRestored program.now bytes.now) }
+) -> Result<Core<'p>, RestoreError>
+    ensures restored { IfOk result (λ core. IsRestored program.now bytes.now (at_work core)) }
     ensures not_json { IsErrOf result RestoreError.NotJson → (seen : Data) → ¬ IsReading bytes.now seen }
     ensures wrong_form { IsErrOf result RestoreError.WrongForm → (seen : Data) × IsReading bytes.now seen × ((image : Image) → IsImage image → seen ≢ image_data image) }
     ensures misfit { IfErr result (IsMisfit program.now bytes.now) }
     ensures exact { (image : Image) → Says bytes.now image → Answers program.now image result }
+    ensures born { IfOk result (λ core. core.born ≤ 131_072) }
 {
     match read_image(alloc, bytes) {
         Ok(image) => with_image(alloc, program, &image),
@@ -100,17 +102,19 @@ fn answered<'p>(
 ///
 /// `NotJson` comes exactly where the bytes say no JSON value that nests at most 127 deep, `WrongForm`
 /// exactly where they say one that is no image's, and `DoesNotFit` exactly where its rows are those of
-/// no tree of the program that stands at its time. So the image of an engine gives an equal one.
+/// no tree of the program that stands at its time. So the image of an engine gives an equal one. Its
+/// parts take new births: no more than may be alive.
 pub fn restore<'p>(
     alloc: Global,
     program: &'p Program<'p>,
     bytes: &[u8],
-) -> Result<Plain<'p>, RestoreError>
-    ensures restored { IfOk result (IsRestored program.now bytes.now) }
+) -> Result<Core<'p>, RestoreError>
+    ensures restored { IfOk result (λ core. IsRestored program.now bytes.now (at_work core)) }
     ensures not_json { IsErrOf result RestoreError.NotJson → (seen : Data) → ¬ IsReading bytes.now seen }
     ensures wrong_form { IsErrOf result RestoreError.WrongForm → (seen : Data) × IsReading bytes.now seen × ((image : Image) → IsImage image → seen ≢ image_data image) }
     ensures misfit { IfErr result (IsMisfit program.now bytes.now) }
     ensures exact { (image : Image) → Says bytes.now image → Answers program.now image result }
+    ensures born { IfOk result (λ core. core.born ≤ 131_072) }
     ensures again { GivesAgain program.now bytes.now result }
 {
     images_are_restored();

@@ -6,7 +6,7 @@ ghost use Rattle.dsde_sim_events.specs.Told.{at, below, to_boss, Comes};
 
 use dsde_faults::LeafEnd;
 use dsde_sim_events::TurnEnd;
-use dsde_values::{Memory, Name, Path, Seq, Text};
+use dsde_values::{Memory, Name, Path, Seq, Stem};
 use std::alloc::Global;
 
 /// A path equal to this one.
@@ -34,7 +34,7 @@ fn exec(alloc: Global) -> Result<Name, Memory>
     ensures { IfOk result (λ name. name ≡ EXEC) }
 {
     Ok(Name {
-        stem: Text::from_slice(alloc, b"exec")?,
+        stem: Stem::from_slice(alloc, b"exec")?,
         index: None,
     })
 }

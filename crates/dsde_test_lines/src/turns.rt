@@ -4,10 +4,10 @@ ghost use Rattle.std.specs.Prelude.{◌≡◌, ◌≤◌, true, is_some};
 ghost use Rattle.dsde_run.specs.Steps.{IsRoot};
 
 use crate::asked::{append_line, bytes_of};
+use dsde_core::Core;
 use dsde_input::InputReader;
 use dsde_io::{MemorySink, MemorySource};
 use dsde_run::{Running, run_turns};
-use dsde_sim::Plain;
 use dsde_trace::Pick;
 use dsde_values::{Memory, Seq, Text};
 use std::alloc::Global;
@@ -58,16 +58,16 @@ fn append_end(
     sink: &mut MemorySink,
 ) -> Result<(), Memory> {
     let mut events = Seq::new(alloc);
-    let mut started = Plain::start(alloc, own.program(), &mut events);
+    let mut started = Core::start(alloc, own.program(), &mut events);
     mem::forget(events);
     let appended = match &mut started {
-        Ok(plain) => {
-            if plain.spent() || turns > 1_000_000 {
+        Ok(core) => {
+            if core.spent() || turns > 1_000_000 {
                 append_line(answers, "no turns")
-            } else if plain.turn() > 0 || plain.time() > 0 {
+            } else if core.turn() > 0 || core.time() > 0 {
                 append_line(answers, "turns before the first")
             } else {
-                take_turns(alloc, answers, plain, own, turns, source, sink)
+                take_turns(alloc, answers, core, own, turns, source, sink)
             }
         }
         Err(_) => append_line(answers, "no start"),
@@ -80,22 +80,23 @@ fn append_end(
 fn take_turns(
     alloc: Global,
     answers: &mut String,
-    plain: &mut Plain<'_>,
+    core: &mut Core<'_>,
     own: &Running<'_>,
     turns: u64,
     source: &mut MemorySource,
     sink: &mut MemorySink,
 ) -> Result<(), Memory>
-    requires program { plain.old.program ≡ own.now.model }
-    requires root { IsRoot own.now plain.old.engine }
-    requires fresh { is_some plain.old.engine.tree ≡ true }
-    requires first { (plain.old.engine.time ≡ 0) × (plain.old.engine.turn ≡ 0) }
+    requires program { core.old.program ≡ own.now.model }
+    requires root { IsRoot own.now core.old.engine }
+    requires fresh { is_some core.old.engine.tree ≡ true }
+    requires first { (core.old.engine.time ≡ 0) × (core.old.engine.turn ≡ 0) }
     requires few { turns ≤ 1_000_000 }
+    requires births { core.old.born ≤ 131_072 }
 {
     let mut reader = InputReader::new(alloc)?;
     let end = run_turns(
         alloc,
-        plain,
+        core,
         &mut reader,
         source,
         sink,

@@ -3,7 +3,7 @@
 use crate::change::Change;
 use dsde_bank::Handle;
 use dsde_declared::ViaId;
-use dsde_lists::{Boxed, Memory, Text};
+use dsde_lists::{Boxed, Memory, Stem};
 use dsde_routes_wiring::{Links, WiredKid, Wiring};
 use dsde_structure::{End, Link, Part, Via};
 use dsde_values::{Name, Seq};
@@ -21,7 +21,7 @@ pub struct Dice {
 /// The name of one letter.
 pub fn named(alloc: Global, letter: u8) -> Result<Name, Memory> {
     Ok(Name {
-        stem: Text::from_slice(alloc, &[letter])?,
+        stem: Stem::from_slice(alloc, &[letter])?,
         index: None,
     })
 }

@@ -5,7 +5,7 @@ use crate::rows::{copy_row, show};
 use dsde_bank::Handle;
 use dsde_base::Steps;
 use dsde_declared::ViaId;
-use dsde_lists::{Boxed, Memory, Text};
+use dsde_lists::{Boxed, Memory, Stem};
 use dsde_repair_fitting::add_handles;
 use dsde_routes::build;
 use dsde_routes_wiring::{Links, WiredKid, Wiring};
@@ -41,7 +41,7 @@ fn handle(words: &[&str], index: usize) -> Handle {
 
 fn named(alloc: Global, word: &str) -> Result<Name, Memory> {
     Ok(Name {
-        stem: Text::from_slice(alloc, word.as_bytes())?,
+        stem: Stem::from_slice(alloc, word.as_bytes())?,
         index: None,
     })
 }
@@ -99,7 +99,7 @@ fn link(alloc: Global, words: &[&str]) -> Result<Link, Memory> {
 /// Component `w` of a number, and its link to the network's out port.
 fn worker(alloc: Global, index: u64, links: &mut Seq<Link>) -> Result<WiredKid, Memory> {
     let name = Name {
-        stem: Text::from_slice(alloc, b"w")?,
+        stem: Stem::from_slice(alloc, b"w")?,
         index: Some(index),
     };
     links.push(Link {

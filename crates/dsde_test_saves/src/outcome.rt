@@ -2,11 +2,11 @@
 
 ghost use Rattle.std.specs.Prelude.{◌≡◌, ◌≤◌, ◌^◌, is_some, true};
 
+use dsde_core::Core;
 use dsde_io::{SureSink, SureSource};
 use dsde_run::{Running, run_leaving};
 use dsde_run_resume::{Unresumed, resume_turns};
 use dsde_save::{restore, save};
-use dsde_sim::Plain;
 use dsde_trace::Pick;
 use dsde_values::{Memory, Text};
 use std::alloc::Global;
@@ -26,7 +26,7 @@ pub(crate) fn run(
     alloc: Global,
     own: &Running<'_>,
     input: &[u8],
-    turns: u32,
+    turns: u16,
 ) -> Result<Outcome, Memory> {
     let mut source = SureSource::new(Text::from_slice(alloc, input)?, LARGEST);
     let mut sink = SureSink::new(Text::new(alloc));
@@ -50,7 +50,7 @@ pub(crate) fn resumed(
     own: &Running<'_>,
     image: &[u8],
     input: &[u8],
-    turns: u32,
+    turns: u16,
 ) -> Result<Outcome, Memory> {
     match restore(alloc, own.program(), image) {
         Ok(mut engine) => gone_on(alloc, own, &mut engine, input, turns),
@@ -62,13 +62,14 @@ pub(crate) fn resumed(
 fn gone_on(
     alloc: Global,
     own: &Running<'_>,
-    engine: &mut Plain<'_>,
+    engine: &mut Core<'_>,
     input: &[u8],
-    turns: u32,
+    turns: u16,
 ) -> Result<Outcome, Memory>
     requires program { engine.old.program ≡ own.now.model }
     requires fresh { is_some engine.old.engine.tree ≡ true }
     requires early { engine.old.engine.turn ≤ 2 ^ 62 }
+    requires births { engine.old.born ≤ 131_072 }
 {
     let mut source = SureSource::new(Text::from_slice(alloc, input)?, LARGEST);
     let mut sink = SureSink::new(Text::new(alloc));
@@ -95,7 +96,7 @@ fn nothing(alloc: Global, why: &[u8]) -> Result<Outcome, Memory> {
     })
 }
 
-fn left_by(alloc: Global, engine: Option<&Plain<'_>>, sink: &SureSink) -> Result<Outcome, Memory> {
+fn left_by(alloc: Global, engine: Option<&Core<'_>>, sink: &SureSink) -> Result<Outcome, Memory> {
     let image = match engine {
         Some(engine) => saved(alloc, engine)?,
         None => Text::new(alloc),
@@ -107,7 +108,7 @@ fn left_by(alloc: Global, engine: Option<&Plain<'_>>, sink: &SureSink) -> Result
 }
 
 /// The text of the image of an engine, unless a turn did not come to its end.
-pub(crate) fn saved(alloc: Global, engine: &Plain) -> Result<Text, Memory> {
+pub(crate) fn saved(alloc: Global, engine: &Core) -> Result<Text, Memory> {
     if engine.spent() {
         return Text::from_slice(alloc, b"a turn did not come to its end");
     }

@@ -32,7 +32,7 @@ fn tell_cut(
     alloc: Global,
     own: &Running<'_>,
     table: &Table,
-    turns: u32,
+    turns: u16,
     whole: &Outcome,
     lines: &mut String,
 ) -> Result<(), Memory> {

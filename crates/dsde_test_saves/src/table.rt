@@ -29,7 +29,7 @@ pub(crate) struct Table {
     pub texts: Vec<Vec<u8>>,
     pub answer: Vec<u8>,
     pub input: Vec<u8>,
-    pub turns: u32,
+    pub turns: u16,
     pub image: Vec<u8>,
 }
 
@@ -48,7 +48,7 @@ pub(crate) fn read_table(alloc: Global, file: &Value, table: &Value) -> Result<T
         texts: texts_of(alloc, table)?,
         answer: said(alloc, table.get("answer"))?,
         input: text_at(alloc, table, "input")?,
-        turns: u32::try_from(turns)?,
+        turns: u16::try_from(turns)?,
         image: said(alloc, table.get("image"))?,
     })
 }

@@ -1,6 +1,6 @@
 //! Counting the events of a trace.
 
-ghost use Rattle.std.specs.Prelude.{◌≡◌, ◌<◌, ◌-◌, ◌^◌};
+ghost use Rattle.std.specs.Prelude.{◌≡◌};
 ghost use Rattle.dsde_trace.specs.Count.{counted, HasRoom};
 
 use dsde_sim_events::Event;

@@ -17,7 +17,7 @@ mod when;
 
 pub use arrival::{Arrival, Item};
 pub use decimal::decimal_of;
-pub use dsde_lists::{Boxed, Memory, Seq, Text};
+pub use dsde_lists::{Boxed, Memory, Seq, Stem, Text};
 pub use lawful::is_lawful;
 pub use laws::{at_most_one_value_begins, one_name, orders_are_total};
 pub use name::{Name, compare_names};

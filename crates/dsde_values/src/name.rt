@@ -7,14 +7,14 @@ ghost use Rattle.std.specs.Cmp.Rules.{comparing};
 ghost use Rattle.std.specs.Ordering.{as_partial_cmp, eq_by_cmp};
 ghost use Rattle.dsde_values.specs.Path.{name_cmp, is_plain, is_executive};
 
-use dsde_lists::{Memory, Text};
+use dsde_lists::{Memory, Stem};
 use std::alloc::Global;
 use std::cmp::Ordering;
 
 /// A component's name: an identifier, or one with an index, as `m[3]`.
 #[derive(Debug, Drop)]
 pub struct Name {
-    pub stem: Text,
+    pub stem: Stem,
     /// At most 2^63 - 1.
     pub index: Option<u64>,
 }
@@ -25,7 +25,7 @@ impl Name {
         ensures { IfOk result (λ name. name ≡ self.now) }
     {
         Ok(Name {
-            stem: Text::from_slice(alloc, self.stem.as_slice())?,
+            stem: Stem::from_slice(alloc, self.stem.as_slice())?,
             index: self.index,
         })
     }

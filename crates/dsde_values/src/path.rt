@@ -8,7 +8,7 @@ ghost use Rattle.dsde_values.specs.declared.path.ReadPath.TheVariants as read_pa
 
 use crate::Name;
 use crate::decimal::decimal_of;
-use dsde_lists::{Memory, Seq, Text, append_decimal};
+use dsde_lists::{Memory, Seq, Stem, Text, append_decimal};
 use dsde_words::{is_reserved, is_word, word_size};
 use std::alloc::Global;
 use std::cmp::Ordering;
@@ -26,7 +26,7 @@ impl Path {
     {
         let mut names = Seq::new(alloc);
         names.push(Name {
-            stem: Text::from_slice(alloc, b"root")?,
+            stem: Stem::from_slice(alloc, b"root")?,
             index: None,
         })?;
         Ok(Path { names })
@@ -133,7 +133,7 @@ fn read_name(alloc: Global, text: &[u8]) -> Result<Name, ReadPath>
         return Err(ReadPath::NotAPath);
     };
     Ok(Name {
-        stem: Text::from_slice(alloc, stem)?,
+        stem: Stem::from_slice(alloc, stem)?,
         index,
     })
 }

@@ -61,9 +61,23 @@ pub fn are_equal(values: &[Value], others: &[Value]) -> bool
     true
 }
 
-/// A value equal to this one.
+/// A value equal to this one. A number and a truth value are copied where the call stands.
 #[cycle(copying)]
+#[inline(always)]
 pub fn copy_value(alloc: Global, value: &Value) -> Result<Value, Memory>
+    ensures { IfOk result (λ copy. copy ≡ value.now) }
+{
+    match value {
+        Value::Int(number) => Ok(Value::Int(*number)),
+        Value::Bool(truth) => Ok(Value::Bool(*truth)),
+        _ => copy_any(alloc, value),
+    }
+}
+
+/// The same, by the way that all values can go.
+#[cycle(copying)]
+#[inline(never)]
+fn copy_any(alloc: Global, value: &Value) -> Result<Value, Memory>
     ensures { IfOk result (λ copy. copy ≡ value.now) }
 {
     Ok(match value {
@@ -82,7 +96,7 @@ pub fn copy_value(alloc: Global, value: &Value) -> Result<Value, Memory>
 pub fn copy_values(alloc: Global, values: &[Value]) -> Result<Values, Memory>
     ensures { IfOk result (λ copies. copies ≡ values.now) }
 {
-    let mut copies = Seq::new(alloc);
+    let mut copies = Seq::with_room(alloc, values.len())?;
     for value in values {
         copies.push(copy_value(alloc, value)?)?;
     }

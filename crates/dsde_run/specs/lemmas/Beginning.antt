@@ -1,5 +1,5 @@
 -- What a start comes to.
-use Rattle.std.proofs.Common.{◌≡◌, true, List, [], refl, sym, ap, subst}
+use Rattle.std.proofs.Common.{◌≡◌, List, [], refl, sym, ap, subst}
 use Rattle.std.specs.Prelude.{is_some, Result, Ok, Err, IfOk, IfErr}
 use Rattle.dsde_values.specs.Path.{root}
 use Rattle.dsde_formalism.specs.System.{System, Chosen}
@@ -10,7 +10,7 @@ use Rattle.dsde_sim_turns.specs.Engine.{Engine, begun}
 use Rattle.dsde_sim_turns.specs.Turn as turning
 use Rattle.dsde_sim_turns.specs.Turn.{started_tree}
 use Rattle.dsde_system.specs.Program.{system}
-use Rattle.dsde_sim.specs.Working.{Working}
+use Rattle.dsde_syntax.specs.declared.decl.Model.{Model}
 use Rattle.dsde_run.specs.Run.{Running}
 use Rattle.dsde_run.specs.Steps.{Begins, IsBegun, IsRoot, Starts}
 use Rattle.dsde_run_engine.specs.lemmas.Steps.{ends-first, same_ok}
@@ -36,7 +36,7 @@ is_begun system engine ends =
     }
 
 -- A start in path order, of the program that runs.
-pub plain-starts : (own : Running) (none told : List Event) (started : Result Working TurnEnd) → IfOk started (λ plain. plain.program ≡ own.model) → IfOk started (λ plain. IsRoot own plain.engine) →
-    IfOk started (λ plain. Tells (turning.start (system own.model)) none told (Ok plain.engine)) → IfOk started (λ plain. Starts own plain.program plain.engine)
-plain-starts own none told (Ok plain) is rooted tells = record { is_program = is; root = rooted; begun = is_begun (system own.model) plain.engine tells.1 }
-plain-starts own none told (Err why) is rooted tells = tt
+pub path-starts : {Machine : Type 0} (program : Machine → Model) (engine : Machine → Engine) (own : Running) (none told : List Event) (started : Result Machine TurnEnd) → IfOk started (λ machine. program machine ≡ own.model) →
+    IfOk started (λ machine. IsRoot own (engine machine)) → IfOk started (λ machine. Tells (turning.start (system own.model)) none told (Ok (engine machine))) → IfOk started (λ machine. Starts own (program machine) (engine machine))
+path-starts program engine own none told (Ok machine) is rooted tells = record { is_program = is; root = rooted; begun = is_begun (system own.model) (engine machine) tells.1 }
+path-starts program engine own none told (Err why) is rooted tells = tt

@@ -6,7 +6,7 @@ use crate::tests::text;
 use dsde_bank::Handle;
 use dsde_base::Steps;
 use dsde_grove::{Grove, GrowEnd};
-use dsde_values::{Memory, Name, Text, write_path};
+use dsde_values::{Memory, Name, Stem, Text, write_path};
 use std::alloc::Global;
 use std::marker::Brand;
 use std::process::Abort;
@@ -42,7 +42,7 @@ fn handle_of(given: &Given, number: usize) -> Handle {
 
 fn name(alloc: Global, stem: &str) -> Result<Name, Memory> {
     Ok(Name {
-        stem: text(alloc, stem.as_bytes())?,
+        stem: Stem::from_slice(alloc, stem.as_bytes())?,
         index: None,
     })
 }
@@ -285,7 +285,7 @@ fn a_dropped_part_stays_dropped(rt: HostRuntime) -> Result<(), Fail> {
 /// The name of the part of that number below its parent.
 fn indexed(alloc: Global, index: u64) -> Result<Name, Memory> {
     Ok(Name {
-        stem: text(alloc, b"m")?,
+        stem: Stem::from_slice(alloc, b"m")?,
         index: Some(index),
     })
 }

@@ -6,13 +6,13 @@ use Rattle.dsde_cli_run.proofs.Fitting.{none-restored, ready-of, refused-ok, ref
 use Rattle.dsde_cli_run.proofs.resume.restored.Goals as goal
 
 pub returns-in-Ok-clause-ready : goal.returns-in-Ok-clause-ready
-returns-in-Ok-clause-ready c = ready-of c.args.program.now c.args.bytes.now c.in-Ok.plain c.in-Ok.ensures.restored
+returns-in-Ok-clause-ready c = ready-of c.args.program.now c.args.bytes.now c.in-Ok.core c.in-Ok.ensures.restored c.in-Ok.ensures.born
 
 pub returns-in-Ok-clause-only : goal.returns-in-Ok-clause-only
-returns-in-Ok-clause-only c = restored-only c.args.program.now c.args.bytes.now c.in-Ok.plain c.in-Ok.ensures.exact
+returns-in-Ok-clause-only c = restored-only c.args.program.now c.args.bytes.now c.in-Ok.core c.in-Ok.ensures.exact
 
 pub returns-in-Ok-clause-refused : goal.returns-in-Ok-clause-refused
-returns-in-Ok-clause-refused c = refused-ok c.args.program.now c.args.bytes.now c.in-Ok.plain c.in-Ok.ensures.exact c.in-Ok.ensures.restored
+returns-in-Ok-clause-refused c = refused-ok c.args.program.now c.args.bytes.now c.in-Ok.core c.in-Ok.ensures.exact c.in-Ok.ensures.restored
 
 pub returns-in-Err-clause-none : goal.returns-in-Err-clause-none
 returns-in-Err-clause-none c =

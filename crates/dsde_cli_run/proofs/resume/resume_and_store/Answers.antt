@@ -1,6 +1,6 @@
 use Rattle.std.proofs.Common.{◌≡◌, [], inl, inr, subst, ap}
 use Rattle.std.specs.Prelude.{IfSome}
-use Rattle.dsde_sim.specs.Working.{Working}
+use Rattle.dsde_sim_working.specs.Working.{Working}
 use Rattle.dsde_run.specs.Reading.{Told, TakesWanted}
 use Rattle.dsde_run_resume.specs.Resumed.{records_for, resumed, resumed_on}
 use Rattle.dsde_run_saved.specs.Saved.{image_left}

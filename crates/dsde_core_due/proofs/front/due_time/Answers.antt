@@ -13,6 +13,7 @@ loop-time-preserved g c =
     let rest = took c.loop-time.queue c.take_first.new.self c.take_first.result (c.in-Some.time, c.in-Some.handle) c.take_first.ensures.taken (sym c.in-Some.ensures.first) in
     record {
       scheduled = stale-goes c.args.grove.now c.loop-time.queue.pairs c.take_first.new.self.pairs (c.in-Some.time, c.in-Some.handle) c.loop-time.invariant.scheduled rest (sym c.is_due_at.ensures.value ∙ c.if-is_due_at.false);
+      shorter = omega (arith, c.loop-time.invariant.shorter, ap length rest);
       ticks = omega (arith, c.loop-time.invariant.ticks, ap length rest, c.is_due_at.ensures.ticks);
     }
 

@@ -5,6 +5,7 @@ use Rattle.dsde_core_due.proofs.front.due_time.Given as goal
 abbrev pub invariant-loop-time : goal.invariant-loop-time
 invariant-loop-time g l = record {
   scheduled : IsScheduled l.grove l.queue.pairs;
+  shorter : length l.queue.pairs ≤ length l.fn.queue.pairs;
   ticks : l.looks + 4 * length l.queue.pairs ≤ l.fn.looks + 4 * length l.fn.queue.pairs;
 }
 

@@ -1,8 +1,7 @@
-use Rattle.std.proofs.Common.{◌≡◌, sym, ap, subst, ◌∙◌}
+use Rattle.std.proofs.Common.{sym, subst}
 use Rattle.std.specs.Prelude.{Result}
 use Rattle.dsde_sim_events.specs.declared.event.Finish.{Finish}
 use Rattle.dsde_run.specs.declared.run.Cut.{Cut}
-use Rattle.dsde_run.specs.Ends.{answer_of}
 use Rattle.dsde_run.specs.Run.{go_by}
 use Rattle.dsde_run.specs.Reading.{Told, Comes}
 use Rattle.dsde_run.specs.Steps.{to_give}

@@ -1,4 +1,4 @@
-use Rattle.std.proofs.Common.{◌≡◌, Ok, Err, Some, None, refl, sym, ap, subst, ◌∙◌}
+use Rattle.std.proofs.Common.{Ok, Err, Some, None, ap}
 use Rattle.dsde_input.specs.Reader.{Reader}
 use Rattle.dsde_run.proofs.Asking.{of_model, asked-one, asked-over, refused}
 use Rattle.dsde_run.proofs.run.ask.Goals as goal

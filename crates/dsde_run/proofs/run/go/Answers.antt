@@ -1,9 +1,8 @@
-use Rattle.std.proofs.Common.{◌≡◌, ◌≢◌, ◌+◌, ◌-◌, [], ◌++◌, Ok, Err, suc, refl, ap, sym, subst, ◌∙◌, arith}
+use Rattle.std.proofs.Common.{◌≡◌, ◌≤◌, ◌+◌, ◌-◌, ◌^◌, Err, suc, refl, ap, sym, subst, ◌∙◌, arith}
 use Rattle.dsde_run.specs.declared.run.After.TheVariants.{Turned, Ended}
 use Rattle.dsde_run.specs.declared.run.Head.TheVariants.{Wanted}
-use Rattle.dsde_run_meaning.specs.Run.{ended}
 use Rattle.dsde_run.specs.Run.{go_by}
-use Rattle.dsde_run.specs.Reading.{Told, TakesWanted, IsFront}
+use Rattle.dsde_run.specs.Reading.{Told}
 use Rattle.dsde_run.specs.Steps.{to_give, Stands, Turns, IsNext, Waits, record_of, passed}
 use Rattle.dsde_run.proofs.Ending.{comes-halted, taken-halted, halts-not_quiet, comes-unwritten, comes-ended, comes-bound}
 use Rattle.dsde_run.proofs.Standing.{stands-first, stands-ready, stands-turned, stands-handed, front-stands}
@@ -28,6 +27,7 @@ loop-turn-init g c =
       kept = refl;
       fresh = c.requires.fresh;
       bounded = omega (arith, c.requires.bounded);
+      births = omega (arith, c.requires.births);
       reads_counted = omega arith;
       writes_counted = omega arith;
       idle = λ _. (refl, refl);
@@ -176,6 +176,7 @@ loop-turn-preserved g c =
     stands-turned c.args.own.now c.args.pick (λ records. go_by g.E.Advance.engine (g.E.Advance.advance c.args.own.now.model) c.args.own.now c.args.turns records (g.E.Advance.state c.args.engine.now)) g.E.Advance.engine (g.E.Advance.advance c.args.own.now.model) later (g.E.Advance.state c.loop-turn.engine) c.args.reader.now c.ready.new.reader (to_give c.args.own.now c.args.reader.now before) c.ready.new.head (g.E.Advance.state c.turn-in-loop-turn.new.engine) c.in-Turned.took_input
     (g.W.Sink.written c.args.sink.now) (g.W.Sink.written c.ready.new.sink) c.ready.new.text c.turn-in-loop-turn.new.text before after stands c.in_default.ensures.known turned) in
     let next : IsNext (g.E.Advance.engine (g.E.Advance.state c.loop-turn.engine)) (g.E.Advance.engine (g.E.Advance.state c.turn-in-loop-turn.new.engine)) (record_of c.ready.new.head) c.in-Turned.took_input = rw c.in-Turned.is at c.in-Ok.ensures.readies in
+    let bears : g.E.Advance.born c.turn-in-loop-turn.new.engine ≤ g.E.Advance.born c.loop-turn.engine + 2 ^ 33 = rw c.in-Turned.is at c.in-Ok.ensures.births in
     record {
       stands = Told-weaker (g.R.Source.left c.args.source.now) (g.R.Source.left c.ready.new.source) after_turn
           (λ before after stands.
@@ -191,6 +192,7 @@ loop-turn-preserved g c =
       kept = c.turn-in-loop-turn.ensures.program ∙ c.loop-turn.invariant.kept;
       fresh = next.fresh;
       bounded = omega (arith, next.turned.counted, c.loop-turn.invariant.bounded);
+      births = omega (arith, bears, c.loop-turn.invariant.births);
       reads_counted = omega (arith, c.loop-turn.invariant.reads_counted, c.in_default.ensures.reads_counted);
       writes_counted = omega (arith, c.loop-turn.invariant.writes_counted, c.in_default.ensures.writes_counted, c.in_default-hand_on_much.ensures.counted);
       idle = λ same. absurd (omega (arith, same));
@@ -213,3 +215,6 @@ turn-requires-in-loop-turn-clause-comes g c =
 pub turn-requires-in-loop-turn-clause-late : goal.turn-requires-in-loop-turn-clause-late
 turn-requires-in-loop-turn-clause-late g c =
     waits-late c.args.own.now (g.E.Advance.engine (g.E.Advance.state c.loop-turn.engine)).time c.ready.new.reader c.ready.new.head (c.in_default.ensures.waits (g.E.Advance.engine (g.E.Advance.state c.loop-turn.engine)).time c.loop-turn.invariant.waits)
+
+pub turn-requires-in-loop-turn-clause-births : goal.turn-requires-in-loop-turn-clause-births
+turn-requires-in-loop-turn-clause-births g c = omega (arith, c.loop-turn.invariant.births, c.loop-turn-test.true, c.requires.few)

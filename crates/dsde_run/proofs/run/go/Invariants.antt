@@ -1,4 +1,4 @@
-use Rattle.std.proofs.Common.{◌≡◌, ◌≤◌, ◌+◌, ◌-◌, ◌<◌, ◌^◌, true, []}
+use Rattle.std.proofs.Common.{◌≡◌, ◌≤◌, ◌+◌, ◌-◌, ◌*◌, ◌<◌, ◌^◌, true, []}
 use Rattle.std.specs.Prelude.{is_some}
 use Rattle.dsde_run.specs.Run.{go_by}
 use Rattle.dsde_run.specs.Reading.{Told}
@@ -17,6 +17,7 @@ invariant-loop-turn g l = record {
   kept : g.E.Advance.program l.engine ≡ g.E.Advance.program l.initial.engine;
   fresh : is_some (g.E.Advance.engine (g.E.Advance.state l.engine)).tree ≡ true;
   bounded : (g.E.Advance.engine (g.E.Advance.state l.engine)).turn + (l.turns - l._turn) < 2 ^ 63;
+  births : g.E.Advance.born l.engine ≤ 2 ^ 62 + l._turn * 2 ^ 33;
   reads_counted : g.R.Source.faults l.initial.source ≤ g.R.Source.faults l.source;
   writes_counted : g.W.Sink.faults l.initial.sink ≤ g.W.Sink.faults l.sink;
   idle : l._turn ≡ 0 → (l.source ≡ l.initial.source) × (l.reader ≡ l.initial.reader);

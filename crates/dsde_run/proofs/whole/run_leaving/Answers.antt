@@ -1,39 +1,43 @@
-use Rattle.std.proofs.Common.{◌≡◌, List, Ok, Err, sym, subst, ◌∙◌}
+use Rattle.std.proofs.Common.{◌≡◌, List, Ok, Err, sym, subst, arith}
+use Rattle.std.proofs.lemmas.Result.{IfOk-weaker}
 use Rattle.std.specs.Prelude.{IfOk, IfErr}
 use Rattle.dsde_syntax.specs.declared.decl.Model.{Model}
 use Rattle.dsde_declared.specs.Models.{top_number}
 use Rattle.dsde_system.specs.Program.{system}
-use Rattle.dsde_sim.specs.Working as sim
-use Rattle.dsde_sim.specs.Working.{Working}
+use Rattle.dsde_sim_working.specs.Working as sim
+use Rattle.dsde_core.specs.Standing.{Standing}
 use Rattle.dsde_sim_events.specs.declared.event.Event.{Event}
 use Rattle.dsde_sim_events.specs.declared.fault.TurnEnd.{TurnEnd}
 use Rattle.dsde_sim_events.specs.Told.{Tells}
 use Rattle.dsde_sim_turns.specs.Turn as turning
 use Rattle.dsde_run.specs.Steps.{Begins}
-use Rattle.dsde_run.specs.lemmas.Beginning.{begins-by, plain-starts}
+use Rattle.dsde_run.specs.lemmas.Beginning.{begins-by, path-starts}
 use Rattle.dsde_run.proofs.whole.run_leaving.Goals as goal
 
 pub returns-clause-comes : goal.returns-clause-comes
-returns-clause-comes g c = c.run_started.ensures.comes (turning.start (system c.args.own.now.model)) (subst (λ (events : List Event). Begins (λ (plain : Working). plain.engine) (turning.start (system c.args.own.now.model)) events c.start-started.result) (sym c.as_slice.ensures)
-    (begins-by (λ (plain : Working). plain.engine) (turning.start (system c.args.own.now.model)) c.new-events.result c.start-started.new.events c.start-started.result c.new-events.ensures
-    (subst (λ (m : Model). IfOk c.start-started.result (λ (plain : Working). Tells (turning.start (system m)) c.new-events.result c.start-started.new.events (Ok plain.engine))) c.program.ensures c.start-started.ensures.ok)
+returns-clause-comes g c = c.run_started.ensures.comes (turning.start (system c.args.own.now.model)) (subst (λ (events : List Event). Begins (λ (core : Standing). core.engine) (turning.start (system c.args.own.now.model)) events c.start-started.result) (sym c.as_slice.ensures)
+    (begins-by (λ (core : Standing). core.engine) (turning.start (system c.args.own.now.model)) c.new-events.result c.start-started.new.events c.start-started.result c.new-events.ensures
+    (subst (λ (m : Model). IfOk c.start-started.result (λ (core : Standing). Tells (turning.start (system m)) c.new-events.result c.start-started.new.events (Ok core.engine))) c.program.ensures c.start-started.ensures.ok)
     (subst (λ (m : Model). IfErr c.start-started.result (λ (why : TurnEnd). Tells (turning.start (system m)) c.new-events.result c.start-started.new.events (Err why))) c.program.ensures c.start-started.ensures.err)))
 
 pub returns-clause-taken : goal.returns-clause-taken
-returns-clause-taken g c = c.run_started.ensures.taken (turning.start (system c.args.own.now.model)) (subst (λ (events : List Event). Begins (λ (plain : Working). plain.engine) (turning.start (system c.args.own.now.model)) events c.start-started.result) (sym c.as_slice.ensures)
-    (begins-by (λ (plain : Working). plain.engine) (turning.start (system c.args.own.now.model)) c.new-events.result c.start-started.new.events c.start-started.result c.new-events.ensures
-    (subst (λ (m : Model). IfOk c.start-started.result (λ (plain : Working). Tells (turning.start (system m)) c.new-events.result c.start-started.new.events (Ok plain.engine))) c.program.ensures c.start-started.ensures.ok)
+returns-clause-taken g c = c.run_started.ensures.taken (turning.start (system c.args.own.now.model)) (subst (λ (events : List Event). Begins (λ (core : Standing). core.engine) (turning.start (system c.args.own.now.model)) events c.start-started.result) (sym c.as_slice.ensures)
+    (begins-by (λ (core : Standing). core.engine) (turning.start (system c.args.own.now.model)) c.new-events.result c.start-started.new.events c.start-started.result c.new-events.ensures
+    (subst (λ (m : Model). IfOk c.start-started.result (λ (core : Standing). Tells (turning.start (system m)) c.new-events.result c.start-started.new.events (Ok core.engine))) c.program.ensures c.start-started.ensures.ok)
     (subst (λ (m : Model). IfErr c.start-started.result (λ (why : TurnEnd). Tells (turning.start (system m)) c.new-events.result c.start-started.new.events (Err why))) c.program.ensures c.start-started.ensures.err)))
 
 pub returns-clause-stands : goal.returns-clause-stands
-returns-clause-stands g c = c.run_started.ensures.stands (turning.start (system c.args.own.now.model)) (subst (λ (events : List Event). Begins (λ (plain : Working). plain.engine) (turning.start (system c.args.own.now.model)) events c.start-started.result) (sym c.as_slice.ensures)
-    (begins-by (λ (plain : Working). plain.engine) (turning.start (system c.args.own.now.model)) c.new-events.result c.start-started.new.events c.start-started.result c.new-events.ensures
-    (subst (λ (m : Model). IfOk c.start-started.result (λ (plain : Working). Tells (turning.start (system m)) c.new-events.result c.start-started.new.events (Ok plain.engine))) c.program.ensures c.start-started.ensures.ok)
+returns-clause-stands g c = c.run_started.ensures.stands (turning.start (system c.args.own.now.model)) (subst (λ (events : List Event). Begins (λ (core : Standing). core.engine) (turning.start (system c.args.own.now.model)) events c.start-started.result) (sym c.as_slice.ensures)
+    (begins-by (λ (core : Standing). core.engine) (turning.start (system c.args.own.now.model)) c.new-events.result c.start-started.new.events c.start-started.result c.new-events.ensures
+    (subst (λ (m : Model). IfOk c.start-started.result (λ (core : Standing). Tells (turning.start (system m)) c.new-events.result c.start-started.new.events (Ok core.engine))) c.program.ensures c.start-started.ensures.ok)
     (subst (λ (m : Model). IfErr c.start-started.result (λ (why : TurnEnd). Tells (turning.start (system m)) c.new-events.result c.start-started.new.events (Err why))) c.program.ensures c.start-started.ensures.err)))
 
 pub run_started-requires-clause-starts : goal.run_started-requires-clause-starts
 run_started-requires-clause-starts g c =
-    plain-starts c.args.own.now c.new-events.result c.start-started.new.events c.start-started.result
-    (subst (λ (m : Model). IfOk c.start-started.result (λ (plain : Working). plain.program ≡ m)) c.program.ensures c.start-started.ensures.program)
-    (subst (λ (m : Model). IfOk c.start-started.result (λ (plain : Working). sim.IsRoot (top_number m) plain.engine)) c.program.ensures c.start-started.ensures.root)
-    (subst (λ (m : Model). IfOk c.start-started.result (λ (plain : Working). Tells (turning.start (system m)) c.new-events.result c.start-started.new.events (Ok plain.engine))) c.program.ensures c.start-started.ensures.ok)
+    path-starts (λ (core : Standing). core.program) (λ (core : Standing). core.engine) c.args.own.now c.new-events.result c.start-started.new.events c.start-started.result
+    (subst (λ (m : Model). IfOk c.start-started.result (λ (core : Standing). core.program ≡ m)) c.program.ensures c.start-started.ensures.program)
+    (subst (λ (m : Model). IfOk c.start-started.result (λ (core : Standing). sim.IsRoot (top_number m) core.engine)) c.program.ensures c.start-started.ensures.root)
+    (subst (λ (m : Model). IfOk c.start-started.result (λ (core : Standing). Tells (turning.start (system m)) c.new-events.result c.start-started.new.events (Ok core.engine))) c.program.ensures c.start-started.ensures.ok)
+
+pub run_started-requires-clause-births : goal.run_started-requires-clause-births
+run_started-requires-clause-births g c = IfOk-weaker c.start-started.result _ _ (λ core few. omega (arith, few)) c.start-started.ensures.born

@@ -1,10 +1,10 @@
 use Rattle.std.proofs.lemmas.Result.{IfOk-weaker}
-use Rattle.std.proofs.Common.{◌≡◌, ◌≤◌, [], ◌++◌, Ok, Err, refl, sym, ap, subst, ◌∙◌, arith}
-use Rattle.dsde_input.specs.Reader.{Reader, fresh}
+use Rattle.std.proofs.Common.{[], Err, subst, ◌∙◌}
+use Rattle.dsde_input.specs.Reader.{Reader}
 use Rattle.dsde_run.specs.declared.run.Cut.TheVariants as cut
 use Rattle.dsde_run_meaning.specs.Run.{unstarted}
 use Rattle.dsde_run.specs.Run.{run_by, go_by, records_in, kept_text}
-use Rattle.dsde_run.specs.Reading.{Told, TakesWanted, Comes, ComesWhole}
+use Rattle.dsde_run.specs.Reading.{TakesWanted, Comes, ComesWhole}
 use Rattle.dsde_run.specs.Steps.{Begins, to_give}
 use Rattle.dsde_run.proofs.Handing.{IsFront-none}
 use Rattle.dsde_run.proofs.Tolds.{Told-same, Told-weaker}

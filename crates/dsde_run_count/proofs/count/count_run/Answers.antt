@@ -10,9 +10,9 @@ use Rattle.dsde_run_count.proofs.count.count_run.Goals as goal
 
 pub returns-in-Ok-count_turns-clause-counts : goal.returns-in-Ok-count_turns-clause-counts
 returns-in-Ok-count_turns-clause-counts c =
-    counts-started c.args.own.now c.args.turns c.in-Ok.plain.engine c.new-events.result c.start-started.new.events c.count_events.new.summary
+    counts-started c.args.own.now c.args.turns c.in-Ok.core.engine c.new-events.result c.start-started.new.events c.count_events.new.summary
     (record { summary = c.count_turns.new.summary; how = c.in-Ok-count_turns.ending.how; turns = c.in-Ok-count_turns.ending.turns; time = c.in-Ok-count_turns.ending.time }) c.new-events.ensures
-    (subst (λ (m : Model). turn.Tells (turning.start (system m)) c.new-events.result c.start-started.new.events (Ok c.in-Ok.plain.engine)) c.program.ensures c.in-Ok.ensures.ok)
+    (subst (λ (m : Model). turn.Tells (turning.start (system m)) c.new-events.result c.start-started.new.events (Ok c.in-Ok.core.engine)) c.program.ensures c.in-Ok.ensures.ok)
     (c.count_events.ensures.counted ∙ ap (λ (summary : Summary). counts_from summary c.as_slice.result.now) c.none_counted-summary.ensures ∙ ap (counts_from none_counted) c.as_slice.ensures)
     c.in-Ok-count_turns.ensures.counts
 

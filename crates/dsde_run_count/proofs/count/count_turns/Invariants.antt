@@ -9,10 +9,11 @@ use Rattle.dsde_run_count.proofs.count.count_turns.Given as goal
 
 abbrev pub invariant-loop-turn : goal.invariant-loop-turn
 invariant-loop-turn l = record {
-  goes : (new : Summary) (ending : Ending) → EndsCounted l.summary (go l.own (l.turns - l._turn) end l.plain.engine) new ending → EndsCounted l.initial.summary (go l.own l.turns end l.initial.plain.engine) new ending;
-  program : l.plain.program ≡ l.own.model;
-  fresh : is_some l.plain.engine.tree ≡ true;
-  bounded : l.plain.engine.turn + (l.turns - l._turn) < 2 ^ 63;
+  goes : (new : Summary) (ending : Ending) → EndsCounted l.summary (go l.own (l.turns - l._turn) end l.core.engine) new ending → EndsCounted l.initial.summary (go l.own l.turns end l.initial.core.engine) new ending;
+  program : l.core.program ≡ l.own.model;
+  fresh : is_some l.core.engine.tree ≡ true;
+  bounded : l.core.engine.turn + (l.turns - l._turn) < 2 ^ 63;
+  births : l.core.born ≤ 2 ^ 62 + l._turn * 2 ^ 33;
   room : total l.summary ≤ 2 ^ 64 + l._turn * 2 ^ 64;
   empty : l.events ≡ [];
 }

@@ -8,5 +8,5 @@ use Rattle.dsde_run_resume.proofs.resuming.is_rooted.Goals as goal
 
 pub returns : goal.returns
 returns c =
-    rooted c.args.own.now.model (c.top_is_sure.ensures c.args.own.now.model (subst IsRight c.program.ensures c.right.ensures)) c.args.plain.now.engine.time c.args.plain.now.engine.tree
-    (subst (λ (model : Model). StandsEngine (system model) c.args.plain.now.engine) c.requires c.stands.ensures.stands.stands)
+    rooted c.args.own.now.model (c.top_is_sure.ensures c.args.own.now.model (subst IsRight c.program.ensures c.right.ensures)) c.args.core.now.engine.time c.args.core.now.engine.tree
+    (subst (λ (model : Model). StandsEngine (system model) c.args.core.now.engine) c.requires c.stands.ensures.stands.stands)

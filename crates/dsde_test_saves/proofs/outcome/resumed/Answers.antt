@@ -1,6 +1,6 @@
 use Rattle.std.proofs.Common.{◌≡◌, ◌≤◌, ◌^◌, true, refl, sym, subst}
 use Rattle.std.specs.Prelude.{is_some}
-use Rattle.dsde_sim.specs.Working.{Working}
+use Rattle.dsde_sim_working.specs.Working.{Working}
 use Rattle.dsde_test_saves.proofs.outcome.resumed.Goals as goal
 
 pub gone_on-requires-clause-program : goal.gone_on-requires-clause-program

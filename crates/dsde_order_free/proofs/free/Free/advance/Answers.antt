@@ -12,12 +12,12 @@ use Rattle.dsde_sim_turns.specs.declared.step.Step.TheVariants.{Turned}
 use Rattle.dsde_sim_turns.specs.Engine.{Engine}
 use Rattle.dsde_sim_turns.specs.Turn.{turn_time, items_at}
 use Rattle.dsde_sim_movers.specs.Names.{IsNamed}
-use Rattle.dsde_sim.specs.Working.{Comes, HeadComes, Stands, StandsIf, working}
+use Rattle.dsde_sim_working.specs.Working.{Comes, HeadComes, Stands, StandsIf, working}
 use Rattle.dsde_drawing.specs.Words.{behind}
 use Rattle.dsde_order.specs.Free.{Drawing, advance, drawn_turn, moves_of}
 use Rattle.dsde_order_free.specs.Drawn.{Drawn}
 use Rattle.dsde_order_free.proofs.Advancing.{advance-err, advance-ok, agrees, counts, if-named}
-use Rattle.dsde_order_free.proofs.Times.{turn-comes}
+use Rattle.dsde_sim_working.specs.lemmas.Advancing.{turn-comes}
 use Rattle.dsde_order_free.proofs.free.Free.advance.Goals as goal
 
 pub drawn_turn-requires-clause-moment : goal.drawn_turn-requires-clause-moment

@@ -1,0 +1,3 @@
+mod Resting
+mod Starting
+mod Turning

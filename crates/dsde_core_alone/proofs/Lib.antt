@@ -1,0 +1,4 @@
+mod Calling
+mod Whole
+mod Moves
+mod Waits

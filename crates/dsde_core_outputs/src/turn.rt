@@ -1,0 +1,60 @@
+//! What a turn begins with.
+
+ghost use Rattle.std.specs.Prelude.{◌≡◌, ◌<◌, ◌≤◌, ◌^◌, length, map, IfOk, IfSome, OnOk};
+ghost use Rattle.std.specs.Option.{option_map};
+ghost use Rattle.dsde_values.specs.Path.{root};
+ghost use Rattle.dsde_values.specs.When.{IsMoment};
+ghost use Rattle.dsde_system.specs.Program.{system};
+ghost use Rattle.dsde_sim_events.specs.Told.{Comes};
+ghost use Rattle.dsde_sim_tree.specs.Output.{output};
+ghost use Rattle.dsde_sim_tree.specs.Tree.{model_of};
+ghost use Rattle.dsde_sim_working.specs.Working.{FitsItems};
+ghost use Rattle.dsde_queue.specs.Queue.{first_of, time_of, IsOrdered};
+ghost use Rattle.dsde_core_flat.specs.Scheduled.{IsScheduled, IsScheduledBut};
+ghost use Rattle.dsde_core_flat.specs.Stands.{IsShallow};
+ghost use Rattle.dsde_core_steps.specs.Flat.{tree_of, Stands};
+ghost use Rattle.dsde_core_movers.specs.Movers.{handle_of, sent_of, with_queue, AreMovers};
+
+use dsde_base::Steps;
+use dsde_core_alone::root_movers;
+use dsde_core_due::turn_due;
+use dsde_core_movers::Phase;
+use dsde_core_network::net_movers;
+use dsde_core_steps::Flat;
+use dsde_program::Program;
+use dsde_sim_events::TurnEnd;
+use dsde_values::Item;
+use std::alloc::Global;
+use std::sync::ledger::Ledger;
+
+/// Takes those who are due at a turn's time out of the schedule, in which none is earlier, and asks them for what they
+/// send, one after another in path order: a fault is the first one that comes, that of the output message of the tree.
+/// Gives what the root sends, port by port, and those who move: whoever is due or gets something, in path order, each
+/// with what it receives. They wait for their moves. After a fault, and after `Memory`, some pairs have left.
+pub fn turn_movers<L: Ledger>(
+    alloc: Global,
+    program: &Program,
+    flat: &mut Flat,
+    time: u64,
+    items: &[Item],
+    looks: &mut Steps<L>,
+) -> Result<Phase, TurnEnd>
+    requires moment { IsMoment time }
+    requires stands { Stands program.now flat.old }
+    requires scheduled { IsScheduled flat.old.grove flat.old.queue.pairs }
+    requires ordered { IsOrdered flat.old.queue.pairs }
+    requires least { IfSome (option_map time_of (first_of flat.old.queue.pairs)) (λ first. time ≤ first) }
+    requires shallow { IsShallow flat.old.grove }
+    requires items { FitsItems program.now (model_of (tree_of flat.old)).0 items.now }
+    ensures comes { Comes (output (system program.now) (tree_of flat.old) root time) (sent_of result) }
+    ensures few { IfOk result (λ phase. length phase.sent < 2 ^ 32) }
+    ensures movers { IfOk result (λ phase. AreMovers program.now flat.new time items.now phase.movers) }
+    ensures same { OnOk result (flat.new ≡ with_queue flat.old flat.new.queue) }
+    ensures waits { IfOk result (λ phase. IsScheduledBut flat.new.grove (map handle_of phase.movers) flat.new.queue.pairs) }
+{
+    let due = turn_due(alloc, &flat.grove, &mut flat.queue, time, looks)?;
+    if flat.wiring.is_some() {
+        return net_movers(alloc, program, flat, due, time, items, looks);
+    }
+    root_movers(alloc, program, flat, time, items, looks)
+}

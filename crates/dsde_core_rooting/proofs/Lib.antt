@@ -1,0 +1,4 @@
+mod Asked
+mod Roots
+mod Filling
+mod Calling

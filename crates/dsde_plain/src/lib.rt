@@ -1,0 +1,12 @@
+//! The simulator of a program that walks the whole tree at each turn: its start and its turns, and the events that
+//! they tell. No program runs by it; tests compare what other engines come to with what it does.
+#![tactic(auto)]
+
+mod as_run;
+mod plain;
+mod turn;
+
+pub use dsde_sim_events::TurnEnd;
+pub use dsde_sim_tree::{Kid, Net, Sim};
+pub use dsde_sim_turns::Step;
+pub use plain::Plain;

@@ -1,5 +1,0 @@
-pub mod Receiving
-pub mod Times
-pub mod Advancing
-pub mod Delivering
-mod Standing

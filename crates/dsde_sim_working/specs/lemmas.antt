@@ -1,0 +1,5 @@
+pub mod Advancing
+pub mod Delivering
+pub mod Receiving
+pub mod Standing
+pub mod Times
