@@ -7,11 +7,11 @@ use Rattle.dsde_values.specs.declared.when.When.{When}
 use Rattle.dsde_values.specs.Value.{fits_int}
 use Rattle.dsde_values.specs.declared.when.When.TheVariants.{At}
 use Rattle.dsde_faults.specs.declared.kind.FaultKind.TheVariants.{TimeTooFar}
-use Rattle.dsde_eval_meaning.specs.Outcome.{Fault, Stuck, Outcome, ◌>>=◌, int_of, option_of}
-use Rattle.dsde_eval_meaning.specs.Typed.{Typed, Sound}
+use Rattle.dsde_language.specs.Outcome.{Fault, Stuck, Outcome, ◌>>=◌, int_of, option_of}
+use Rattle.dsde_language.specs.Typed.{Typed, Sound}
 use Rattle.dsde_system.specs.Body.{after, due_after}
-use Rattle.dsde_sound_typing.specs.lemmas.Outcomes.{sound-stuck}
-use Rattle.dsde_sound_typing.specs.lemmas.Values.{Held, int-sound, option-sound}
+use Rattle.dsde_system.specs.given.sound_expressions.lemmas_Outcomes.{sound-stuck}
+use Rattle.dsde_system.specs.given.sound_expressions.lemmas_Values.{Held, int-sound, option-sound}
 use Rattle.dsde_atomic.specs.Steps.{due_by}
 
 module _ (types : Types) where

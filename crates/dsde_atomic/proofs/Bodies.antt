@@ -1,27 +1,27 @@
 -- What a body sees.
 use Rattle.std.proofs.Common.{◌≡◌, ℕ, false, List, ◌++◌, Some, Result, Ok, Err, sym, ◌∙◌, ap, subst}
-use Rattle.dsde_syntax.specs.declared.decl.Model.{Model}
+use Rattle.dsde_language.specs.given.syntax.decl_Model.{Model}
 use Rattle.dsde_values.specs.declared.types.Ty.TheVariants as ty
 use Rattle.dsde_values.specs.declared.value.Value.{Value}
 use Rattle.dsde_values.specs.declared.when.When.{When}
 use Rattle.dsde_faults.specs.declared.kind.Site.TheVariants as site
 use Rattle.dsde_faults.specs.declared.end.EvalEnd.{EvalEnd}
 use Rattle.dsde_faults.specs.declared.end.LeafEnd.{LeafEnd}
-use Rattle.dsde_program_nodes.specs.declared.code.Code.{Code}
-use Rattle.dsde_declared.specs.declared.ids.ModelId.{ModelId}
-use Rattle.dsde_declared.specs.Models.{types_of, Own, param_slots, state_slots}
-use Rattle.dsde_eval_meaning.specs.Outcome.{Stuck, Outcome, ◌>>=◌, Gives}
-use Rattle.dsde_eval_meaning.specs.Typed.{Typed, Fits, values_in}
-use Rattle.dsde_sound_places.specs.Bodies.{BodyStands, body_slots}
-use Rattle.dsde_formalism.specs.Leaf as formalism
-use Rattle.dsde_formalism.specs.System.{Component}
-use Rattle.dsde_eval_meaning.specs.Functions.{mean_of}
-use Rattle.dsde_sound_places.specs.Conditions.{CanEval, Came}
+use Rattle.dsde_language.specs.declared.code.Code.{Code}
+use Rattle.dsde_language.specs.declared.ids.ModelId.{ModelId}
+use Rattle.dsde_language.specs.DeclaredModels.{types_of, Own, param_slots, state_slots}
+use Rattle.dsde_language.specs.Outcome.{Stuck, Outcome, ◌>>=◌, Gives}
+use Rattle.dsde_language.specs.Typed.{Typed, Fits, values_in}
+use Rattle.dsde_system.specs.given.sound_expressions.Bodies.{BodyStands, body_slots}
+use Rattle.dsde_system.specs.given.formalism.Leaf as formalism
+use Rattle.dsde_system.specs.given.formalism.System.{Component}
+use Rattle.dsde_language.specs.Functions.{mean_of}
+use Rattle.dsde_system.specs.given.sound_expressions.Conditions.{CanEval, Came}
 use Rattle.dsde_system.specs.Body.{vars_of, body_vars, at_site, due}
 use Rattle.dsde_system.specs.Program.{system, component}
 use Rattle.dsde_system.specs.Fitting.{Fill, FitsArgs, FitsState}
 use Rattle.dsde_atomic.specs.Steps.{own_at, sited, due_by, FitsBody}
-use Rattle.dsde_sound_typing.specs.lemmas.Outcomes.{sound-given}
+use Rattle.dsde_system.specs.given.sound_expressions.lemmas_Outcomes.{sound-given}
 use Rattle.dsde_atomic.proofs.Ends.{some-is, site-end, site-ok, then-end, component-is}
 use Rattle.dsde_atomic.proofs.Filling.{fits-vars, values-vars, fill-append, fits-append, values-append}
 use Rattle.dsde_atomic.proofs.Advances.{is-advance}

@@ -1,22 +1,22 @@
 -- Ends of steps, and what stands at a number.
 use Rattle.std.proofs.Common.{◌≡◌, ℕ, ◌<◌, List, length, Option, Some, Result, Ok, Err, slice_get, refl, sym, ap, subst}
-use Rattle.dsde_syntax.specs.declared.decl.Model.{Model}
+use Rattle.dsde_language.specs.given.syntax.decl_Model.{Model}
 use Rattle.dsde_values.specs.declared.value.Value.{Value}
 use Rattle.dsde_faults.specs.declared.kind.Site.{Site}
 use Rattle.dsde_faults.specs.declared.end.EvalEnd.{EvalEnd}
 use Rattle.dsde_faults.specs.declared.end.EvalEnd.TheVariants as eval_end
 use Rattle.dsde_faults.specs.declared.end.LeafEnd.{LeafEnd}
 use Rattle.dsde_faults.specs.declared.end.LeafEnd.TheVariants as leaf_end
-use Rattle.dsde_program_nodes.specs.declared.code.Code.{Code}
-use Rattle.dsde_declared.specs.declared.ids.ModelId.{ModelId}
-use Rattle.dsde_program_nodes.specs.Models.{infos_of, resolved}
-use Rattle.dsde_check_rules.specs.Right.{IsRight}
-use Rattle.dsde_eval_meaning.specs.Outcome.{Fault, Outcome, Gives}
-use Rattle.dsde_eval_meaning.specs.Outcome as outcome
-use Rattle.dsde_declared.specs.Models.{Own}
-use Rattle.dsde_sound_places.specs.Bodies.{BodyStands}
-use Rattle.dsde_sound_places.specs.Laws.{HasOwn, BodiesStand}
-use Rattle.dsde_formalism.specs.Leaf as formalism
+use Rattle.dsde_language.specs.declared.code.Code.{Code}
+use Rattle.dsde_language.specs.declared.ids.ModelId.{ModelId}
+use Rattle.dsde_language.specs.NodeModels.{infos_of, resolved}
+use Rattle.dsde_language.specs.Right.{IsRight}
+use Rattle.dsde_language.specs.Outcome.{Fault, Outcome, Gives}
+use Rattle.dsde_language.specs.Outcome as outcome
+use Rattle.dsde_language.specs.DeclaredModels.{Own}
+use Rattle.dsde_system.specs.given.sound_expressions.Bodies.{BodyStands}
+use Rattle.dsde_system.specs.given.sound_expressions.Laws.{HasOwn, BodiesStand}
+use Rattle.dsde_system.specs.given.formalism.Leaf as formalism
 use Rattle.dsde_system.specs.Body.{at_site}
 use Rattle.dsde_system.specs.Program.{system, component, component_at}
 use Rattle.dsde_atomic.specs.Steps.{own_at, sited}

@@ -3,8 +3,8 @@ use Rattle.std.proofs.Common.{◌≡◌, ℕ, zero, suc, ◌+◌, ◌≤◌, ◌
 use Rattle.dsde_values.specs.declared.types.Field.{Field}
 use Rattle.dsde_values.specs.declared.types.Types.{Types}
 use Rattle.dsde_values.specs.declared.value.Value.{Value}
-use Rattle.dsde_eval_meaning.specs.Meaning.{Vars}
-use Rattle.dsde_eval_meaning.specs.Typed.{Fits, values_in}
+use Rattle.dsde_language.specs.Meaning.{Vars}
+use Rattle.dsde_language.specs.Typed.{Fits, values_in}
 use Rattle.dsde_system.specs.Body.{vars_of}
 use Rattle.dsde_system.specs.Fitting.{Fill}
 

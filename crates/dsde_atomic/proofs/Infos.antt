@@ -3,20 +3,20 @@ use Rattle.std.proofs.Common.{◌≡◌, ◌<◌, ◌≤◌, ◌⊎◌, inl, inr
 use Rattle.std.proofs.lemmas.List.{append-nil}
 use Rattle.std.proofs.lemmas.Option.{slice_get-map, slice_get_cases}
 use Rattle.std.specs.Option.{option_map, option_map_or}
-use Rattle.dsde_syntax.specs.declared.decl.Decl.{Decl}
-use Rattle.dsde_syntax.specs.declared.decl.Decl.TheVariants as decl
-use Rattle.dsde_syntax.specs.declared.decl.Model.{Model}
-use Rattle.dsde_syntax.specs.declared.decl.PortDecl.{PortDecl}
+use Rattle.dsde_language.specs.given.syntax.decl_Decl.{Decl}
+use Rattle.dsde_language.specs.given.syntax.decl_Decl_TheVariants as decl
+use Rattle.dsde_language.specs.given.syntax.decl_Model.{Model}
+use Rattle.dsde_language.specs.given.syntax.decl_PortDecl.{PortDecl}
 use Rattle.dsde_values.specs.declared.types.Field.{Field}
 use Rattle.dsde_values.specs.declared.value.Value.{Value}
-use Rattle.dsde_declared.specs.declared.ids.ModelId.{ModelId}
+use Rattle.dsde_language.specs.declared.ids.ModelId.{ModelId}
 use Rattle.dsde_system.specs.Program.{system, component_at, network_at}
-use Rattle.dsde_check_rules.specs.declared.known.Known.{Known}
-use Rattle.dsde_program_nodes.specs.declared.code.Code.{Code}
-use Rattle.dsde_program_nodes.specs.declared.info.Info.{Info}
-use Rattle.dsde_declared.specs.Models.{whole_of, typed_fields, state_fields, port_fields, Own, owns_of}
-use Rattle.dsde_program_nodes.specs.Models.{infos_of, infos_from}
-use Rattle.dsde_sound_places.specs.Bodies.{BodyStands}
+use Rattle.dsde_language.specs.declared.known.Known.{Known}
+use Rattle.dsde_language.specs.declared.code.Code.{Code}
+use Rattle.dsde_language.specs.declared.info.Info.{Info}
+use Rattle.dsde_language.specs.DeclaredModels.{whole_of, typed_fields, state_fields, port_fields, Own, owns_of}
+use Rattle.dsde_language.specs.NodeModels.{infos_of, infos_from}
+use Rattle.dsde_system.specs.given.sound_expressions.Bodies.{BodyStands}
 
 -- what an atomic model or a network declares
 abbrev pub info_by : Known → Own → Info

@@ -1,33 +1,33 @@
 -- The first values of state variables, one behind another.
 use Rattle.std.proofs.Common.{◌≡◌, ℕ, ◌+◌, ◌<◌, ◌≤◌, false, List, [], ◌∷◌, ◌++◌, length, drop, Some, Result, Ok, Err, refl, sym, ◌∙◌, ap, subst, append_assoc, length-append, arith}
 use Rattle.std.proofs.lemmas.List.{append-nil}
-use Rattle.dsde_syntax.specs.declared.decl.Model.{Model}
-use Rattle.dsde_syntax.specs.declared.decl.StateDecl.{StateDecl}
+use Rattle.dsde_language.specs.given.syntax.decl_Model.{Model}
+use Rattle.dsde_language.specs.given.syntax.decl_StateDecl.{StateDecl}
 use Rattle.dsde_values.specs.declared.types.Field.{Field}
 use Rattle.dsde_values.specs.declared.value.Value.{Value}
-use Rattle.dsde_check_rules.specs.Tables.{by_text}
+use Rattle.dsde_language.specs.RuleTables.{by_text}
 use Rattle.dsde_faults.specs.declared.end.EvalEnd.{EvalEnd}
-use Rattle.dsde_program_nodes.specs.declared.code.Code.{Code}
-use Rattle.dsde_program_nodes.specs.declared.ids.ExprId.{ExprId}
-use Rattle.dsde_declared.specs.Models.{whole_of, types_of, state_fields, Own, param_slots, state_slots}
-use Rattle.dsde_eval_meaning.specs.Outcome.{Outcome, ◌>>=◌, Gives}
-use Rattle.dsde_eval_meaning.specs.Meaning.{Vars, with_var}
-use Rattle.dsde_eval_meaning.specs.Typed.{Typed, Fits, values_in}
-use Rattle.dsde_sound_places.specs.Places.{IsExpr}
-use Rattle.dsde_sound_places.specs.Bodies.{BodyStands, InitsStand, body_slots}
-use Rattle.dsde_formalism.specs.System.{State}
-use Rattle.dsde_eval_meaning.specs.Functions.{mean_of}
-use Rattle.dsde_sound_places.specs.Conditions.{CanEval, Came}
+use Rattle.dsde_language.specs.declared.code.Code.{Code}
+use Rattle.dsde_language.specs.declared.node_ids.ExprId.{ExprId}
+use Rattle.dsde_language.specs.DeclaredModels.{whole_of, types_of, state_fields, Own, param_slots, state_slots}
+use Rattle.dsde_language.specs.Outcome.{Outcome, ◌>>=◌, Gives}
+use Rattle.dsde_language.specs.Meaning.{Vars, with_var}
+use Rattle.dsde_language.specs.Typed.{Typed, Fits, values_in}
+use Rattle.dsde_system.specs.given.sound_expressions.Places.{IsExpr}
+use Rattle.dsde_system.specs.given.sound_expressions.Bodies.{BodyStands, InitsStand, body_slots}
+use Rattle.dsde_system.specs.given.formalism.System.{State}
+use Rattle.dsde_language.specs.Functions.{mean_of}
+use Rattle.dsde_system.specs.given.sound_expressions.Conditions.{CanEval, Came}
 use Rattle.dsde_faults.specs.declared.kind.Site.TheVariants as site
 use Rattle.dsde_faults.specs.declared.end.LeafEnd.{LeafEnd}
-use Rattle.dsde_declared.specs.declared.ids.ModelId.{ModelId}
-use Rattle.dsde_formalism.specs.System.{Component}
-use Rattle.dsde_formalism.specs.Leaf as formalism
+use Rattle.dsde_language.specs.declared.ids.ModelId.{ModelId}
+use Rattle.dsde_system.specs.given.formalism.System.{Component}
+use Rattle.dsde_system.specs.given.formalism.Leaf as formalism
 use Rattle.dsde_system.specs.Program.{system, component}
 use Rattle.dsde_system.specs.Body.{vars_of, inits_from}
 use Rattle.dsde_system.specs.Fitting.{Fill, FitsArgs, FitsState}
 use Rattle.dsde_atomic.specs.Steps.{own_at, sited, Begun, Begins}
-use Rattle.dsde_sound_typing.specs.lemmas.Outcomes.{sound-given}
+use Rattle.dsde_system.specs.given.sound_expressions.lemmas_Outcomes.{sound-given}
 use Rattle.dsde_atomic.proofs.Ends.{some-is, site-end, site-ok, then-end, component-is}
 use Rattle.std.proofs.Common.{slice_index_or}
 use Rattle.dsde_atomic.proofs.Filling.{drop-at, drop-over, fits-vars, values-vars, fill-length, fill-drop, fits-fill, fits-append, values-append, drop-past}

@@ -1,26 +1,26 @@
 -- The internal transition and the output of a component.
 use Rattle.std.proofs.Common.{◌≡◌, List, [], ◌++◌, length, Option, Some, None, Result, Ok, Err, sym, ◌∙◌, ap, subst}
 use Rattle.std.proofs.lemmas.List.{append-nil}
-use Rattle.dsde_syntax.specs.declared.decl.Model.{Model}
-use Rattle.dsde_syntax.specs.declared.decl.Phase.{Phase}
+use Rattle.dsde_language.specs.given.syntax.decl_Model.{Model}
+use Rattle.dsde_language.specs.given.syntax.decl_Phase.{Phase}
 use Rattle.dsde_values.specs.declared.arrival.Item.{Item}
 use Rattle.dsde_values.specs.declared.value.Value.{Value}
 use Rattle.dsde_faults.specs.declared.kind.Site.TheVariants as site
 use Rattle.dsde_faults.specs.declared.end.EvalEnd.{EvalEnd}
 use Rattle.dsde_faults.specs.declared.end.LeafEnd.{LeafEnd}
-use Rattle.dsde_program_nodes.specs.declared.code.Code.{Code}
-use Rattle.dsde_program_nodes.specs.declared.ids.BlockId.{BlockId}
-use Rattle.dsde_declared.specs.declared.ids.ModelId.{ModelId}
-use Rattle.dsde_declared.specs.Models.{types_of, Own, body_outs, state_slots}
-use Rattle.dsde_eval_meaning.specs.Outcome.{Outcome, ◌>>=◌, Gives}
-use Rattle.dsde_eval_meaning.specs.Meaning.{scene}
-use Rattle.dsde_eval_meaning.specs.Flow.{lifted}
-use Rattle.dsde_sound_places.specs.Places.{piece_of}
-use Rattle.dsde_sound_places.specs.Bodies.{BodyStands, body_slots}
-use Rattle.dsde_formalism.specs.System.{Component, State}
-use Rattle.dsde_formalism.specs.Leaf as formalism
-use Rattle.dsde_eval_meaning.specs.Functions.{block_of}
-use Rattle.dsde_sound_places.specs.Conditions.{CanRun, Ran}
+use Rattle.dsde_language.specs.declared.code.Code.{Code}
+use Rattle.dsde_language.specs.declared.node_ids.BlockId.{BlockId}
+use Rattle.dsde_language.specs.declared.ids.ModelId.{ModelId}
+use Rattle.dsde_language.specs.DeclaredModels.{types_of, Own, body_outs, state_slots}
+use Rattle.dsde_language.specs.Outcome.{Outcome, ◌>>=◌, Gives}
+use Rattle.dsde_language.specs.Meaning.{scene}
+use Rattle.dsde_language.specs.Flow.{lifted}
+use Rattle.dsde_system.specs.given.sound_expressions.Places.{piece_of}
+use Rattle.dsde_system.specs.given.sound_expressions.Bodies.{BodyStands, body_slots}
+use Rattle.dsde_system.specs.given.formalism.System.{Component, State}
+use Rattle.dsde_system.specs.given.formalism.Leaf as formalism
+use Rattle.dsde_language.specs.Functions.{block_of}
+use Rattle.dsde_system.specs.given.sound_expressions.Conditions.{CanRun, Ran}
 use Rattle.dsde_system.specs.Body.{at_site, body_vars, moved_by, internal, sends}
 use Rattle.dsde_system.specs.Program.{system, component}
 use Rattle.dsde_system.specs.Fitting.{Fill, FitsArgs, FitsState, FitsSends}

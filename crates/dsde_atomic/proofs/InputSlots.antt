@@ -2,7 +2,7 @@
 use Rattle.std.proofs.Common.{◌≡◌, ℕ, ◌<◌, ◌^◌, pos, Bool, true, false, ◌&&◌, ◌||◌, List, [], ◌∷◌, ◌++◌, length, nat_lt, nat_le, refl, ◌∙◌, ap, arith}
 use Rattle.std.specs.List.{list_all}
 use Rattle.std.proofs.lemmas.Bool.{leb-true}
-use Rattle.dsde_syntax.specs.declared.decl.Model.{Model}
+use Rattle.dsde_language.specs.given.syntax.decl_Model.{Model}
 use Rattle.dsde_values.specs.declared.types.Field.{Field}
 use Rattle.dsde_values.specs.declared.types.Ty.{Ty}
 use Rattle.dsde_values.specs.declared.types.Ty.TheVariants as ty
@@ -11,15 +11,15 @@ use Rattle.dsde_values.specs.declared.value.Value.{Value}
 use Rattle.dsde_values.specs.declared.value.Value.TheVariants as value
 use Rattle.dsde_values.specs.Value.{has_type}
 use Rattle.dsde_values.specs.When.{IsMoment}
-use Rattle.dsde_declared.specs.Names.{elapsed_name}
-use Rattle.dsde_declared.specs.Models.{types_of, Own, body_ins}
-use Rattle.dsde_program_nodes.specs.Statements.{list_fields, input_fields}
-use Rattle.dsde_eval_meaning.specs.Meaning.{Vars}
-use Rattle.dsde_eval_meaning.specs.Typed.{Typed, Fits, values_in}
-use Rattle.dsde_formalism.specs.System.{Ports}
+use Rattle.dsde_language.specs.Names.{elapsed_name}
+use Rattle.dsde_language.specs.DeclaredModels.{types_of, Own, body_ins}
+use Rattle.dsde_language.specs.Statements.{list_fields, input_fields}
+use Rattle.dsde_language.specs.Meaning.{Vars}
+use Rattle.dsde_language.specs.Typed.{Typed, Fits, values_in}
+use Rattle.dsde_system.specs.given.formalism.System.{Ports}
 use Rattle.dsde_system.specs.Body.{vars_of, lists_of, input_vars, is_flooded}
 use Rattle.dsde_system.specs.Fitting.{AreOf, Reach}
-use Rattle.dsde_sound_typing.specs.lemmas.Values.{typed-int, typed-list}
+use Rattle.dsde_system.specs.given.sound_expressions.lemmas_Values.{typed-int, typed-list}
 use Rattle.dsde_atomic.proofs.Filling.{fits-append, values-append}
 
 or-false : (a b : Bool) → (a || b) ≡ false → (a ≡ false) × (b ≡ false)

@@ -1,21 +1,21 @@
 -- State variables behind a block.
 use Rattle.std.proofs.Common.{◌≡◌, ℕ, zero, suc, ◌+◌, ◌≤◌, List, [], ◌∷◌, ◌++◌, length, take, drop, Result, Ok, Err, refl, sym, ◌∙◌, ap, subst, length-append, arith}
-use Rattle.dsde_syntax.specs.declared.decl.Model.{Model}
+use Rattle.dsde_language.specs.given.syntax.decl_Model.{Model}
 use Rattle.dsde_values.specs.declared.arrival.Item.{Item}
 use Rattle.dsde_values.specs.declared.types.Field.{Field}
 use Rattle.dsde_values.specs.declared.types.Types.{Types}
 use Rattle.dsde_values.specs.declared.value.Value.{Value}
 use Rattle.dsde_faults.specs.declared.end.EvalEnd.{EvalEnd}
 use Rattle.dsde_faults.specs.declared.end.EvalEnd.TheVariants as eval_end
-use Rattle.dsde_declared.specs.Models.{types_of}
-use Rattle.dsde_eval_meaning.specs.Outcome.{Fault, Outcome, ◌>>=◌, Gives}
-use Rattle.dsde_eval_meaning.specs.Meaning.{Scene, scene}
-use Rattle.dsde_eval_meaning.specs.Flow.{Flow, Stopped, lifted}
-use Rattle.dsde_eval_meaning.specs.Tables.{State, state_of, Flows}
-use Rattle.dsde_eval_meaning.specs.Typed.{Fits, AllSent, Lands, values_in, shown, seen}
-use Rattle.dsde_sound_places.specs.Places.{piece_of}
-use Rattle.dsde_eval_meaning.specs.Functions.{block_of}
-use Rattle.dsde_sound_places.specs.Conditions.{CanRun, Ran, Grown}
+use Rattle.dsde_language.specs.DeclaredModels.{types_of}
+use Rattle.dsde_language.specs.Outcome.{Fault, Outcome, ◌>>=◌, Gives}
+use Rattle.dsde_language.specs.Meaning.{Scene, scene}
+use Rattle.dsde_language.specs.Flow.{Flow, Stopped, lifted}
+use Rattle.dsde_language.specs.MeaningTables.{State, state_of, Flows}
+use Rattle.dsde_language.specs.Typed.{Fits, AllSent, Lands, values_in, shown, seen}
+use Rattle.dsde_system.specs.given.sound_expressions.Places.{piece_of}
+use Rattle.dsde_language.specs.Functions.{block_of}
+use Rattle.dsde_system.specs.given.sound_expressions.Conditions.{CanRun, Ran, Grown}
 use Rattle.dsde_system.specs.Fitting.{Fill}
 use Rattle.dsde_atomic.specs.Steps.{part, CanMove, Moved}
 use Rattle.dsde_atomic.proofs.Filling.{fits-fill, fill-length, fill-take, fill-drop}

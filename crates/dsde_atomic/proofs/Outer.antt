@@ -1,7 +1,7 @@
 -- The transitions of a component that see the input.
 use Rattle.std.proofs.Common.{◌≡◌, ℕ, Bool, true, false, if◌then◌else◌, pos, List, [], ◌∷◌, ◌++◌, length, Some, Result, Ok, Err, refl, sym, ◌∙◌, ap, subst}
-use Rattle.dsde_syntax.specs.declared.decl.Model.{Model}
-use Rattle.dsde_syntax.specs.declared.decl.Phase.{Phase}
+use Rattle.dsde_language.specs.given.syntax.decl_Model.{Model}
+use Rattle.dsde_language.specs.given.syntax.decl_Phase.{Phase}
 use Rattle.dsde_values.specs.declared.value.Value.{Value}
 use Rattle.dsde_values.specs.declared.value.Value.TheVariants as value
 use Rattle.dsde_values.specs.When.{IsMoment}
@@ -10,13 +10,13 @@ use Rattle.dsde_faults.specs.declared.kind.Site.{Site}
 use Rattle.dsde_faults.specs.declared.end.EvalEnd.{EvalEnd}
 use Rattle.dsde_faults.specs.declared.end.LeafEnd.{LeafEnd}
 use Rattle.dsde_faults.specs.declared.end.LeafEnd.TheVariants as leaf_end
-use Rattle.dsde_declared.specs.Models.{types_of, Own, body_ins}
-use Rattle.dsde_program_nodes.specs.Statements.{input_fields}
-use Rattle.dsde_eval_meaning.specs.Outcome.{Fault, Outcome, Gives}
-use Rattle.dsde_eval_meaning.specs.Meaning.{Vars}
-use Rattle.dsde_eval_meaning.specs.Typed.{Fits, values_in}
-use Rattle.dsde_sound_places.specs.Bodies.{body_slots, moved_slots}
-use Rattle.dsde_formalism.specs.System.{State, Ports}
+use Rattle.dsde_language.specs.DeclaredModels.{types_of, Own, body_ins}
+use Rattle.dsde_language.specs.Statements.{input_fields}
+use Rattle.dsde_language.specs.Outcome.{Fault, Outcome, Gives}
+use Rattle.dsde_language.specs.Meaning.{Vars}
+use Rattle.dsde_language.specs.Typed.{Fits, values_in}
+use Rattle.dsde_system.specs.given.sound_expressions.Bodies.{body_slots, moved_slots}
+use Rattle.dsde_system.specs.given.formalism.System.{State, Ports}
 use Rattle.dsde_system.specs.Body.{at_site, body_vars, input_vars, lists_of, moved_by, seeing, is_flooded}
 use Rattle.dsde_system.specs.Fitting.{Reach, FitsArgs, FitsState, FitsInputs}
 use Rattle.dsde_atomic.specs.Steps.{own_at, sited, CanMove, Moved, IsPhase, HasPhase, Sees}

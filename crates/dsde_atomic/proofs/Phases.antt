@@ -1,18 +1,18 @@
 -- Blocks of a body.
 use Rattle.std.proofs.Common.{◌≡◌, ℕ, ◌+◌, ◌≤◌, List, [], ◌++◌, length, take, drop, Option, Some, None, Result, Ok, refl, sym, ◌∙◌, ap, subst, length-append, append_assoc, arith}
-use Rattle.dsde_syntax.specs.declared.decl.Model.{Model}
-use Rattle.dsde_syntax.specs.declared.decl.Phase.{Phase}
+use Rattle.dsde_language.specs.given.syntax.decl_Model.{Model}
+use Rattle.dsde_language.specs.given.syntax.decl_Phase.{Phase}
 use Rattle.dsde_values.specs.declared.types.Field.{Field}
 use Rattle.dsde_values.specs.declared.value.Value.{Value}
 use Rattle.dsde_faults.specs.declared.end.EvalEnd.{EvalEnd}
-use Rattle.dsde_program_nodes.specs.declared.ids.BlockId.{BlockId}
-use Rattle.dsde_declared.specs.Models.{types_of, Own, param_slots, state_slots}
-use Rattle.dsde_eval_meaning.specs.Outcome.{Gives}
-use Rattle.dsde_eval_meaning.specs.Meaning.{Vars}
-use Rattle.dsde_eval_meaning.specs.Typed.{Fits, values_in}
-use Rattle.dsde_sound_places.specs.Places.{IsBlock}
-use Rattle.dsde_sound_places.specs.Bodies.{PhaseStands, body_slots}
-use Rattle.dsde_formalism.specs.System.{State}
+use Rattle.dsde_language.specs.declared.node_ids.BlockId.{BlockId}
+use Rattle.dsde_language.specs.DeclaredModels.{types_of, Own, param_slots, state_slots}
+use Rattle.dsde_language.specs.Outcome.{Gives}
+use Rattle.dsde_language.specs.Meaning.{Vars}
+use Rattle.dsde_language.specs.Typed.{Fits, values_in}
+use Rattle.dsde_system.specs.given.sound_expressions.Places.{IsBlock}
+use Rattle.dsde_system.specs.given.sound_expressions.Bodies.{PhaseStands, body_slots}
+use Rattle.dsde_system.specs.given.formalism.System.{State}
 use Rattle.dsde_system.specs.Body.{moved_by}
 use Rattle.dsde_system.specs.Fitting.{Fill}
 use Rattle.dsde_atomic.specs.Steps.{Moved}

@@ -1,17 +1,17 @@
 -- A component behind an event.
 use Rattle.std.proofs.Common.{◌≡◌, ℕ, Bool, List, ◌++◌, drop, length, Result, sym, ◌∙◌, ap, subst}
 use Rattle.dsde_values.specs.declared.value.Value.{Value}
-use Rattle.dsde_syntax.specs.declared.decl.Model.{Model}
+use Rattle.dsde_language.specs.given.syntax.decl_Model.{Model}
 use Rattle.dsde_values.specs.declared.when.When.{When}
 use Rattle.dsde_values.specs.When.{IsMoment}
-use Rattle.dsde_declared.specs.declared.ids.ModelId.{ModelId}
-use Rattle.dsde_declared.specs.Models.{types_of, state_slots}
-use Rattle.dsde_formalism.specs.declared.leaf.Leaf.{Leaf}
+use Rattle.dsde_language.specs.declared.ids.ModelId.{ModelId}
+use Rattle.dsde_language.specs.DeclaredModels.{types_of, state_slots}
+use Rattle.dsde_system.specs.given.formalism.leaf_Leaf.{Leaf}
 use Rattle.dsde_system.specs.Fitting.{Fill, FitsArgs, FitsState, FitsLeaf, IsInTime}
 use Rattle.dsde_atomic.proofs.Bodies.{state-fill}
 use Rattle.dsde_values.specs.declared.arrival.Item.{Item}
 use Rattle.dsde_faults.specs.declared.end.EvalEnd.{EvalEnd}
-use Rattle.dsde_sound_places.specs.Conditions.{Ran}
+use Rattle.dsde_system.specs.given.sound_expressions.Conditions.{Ran}
 use Rattle.dsde_atomic.proofs.Filling.{drop-past}
 
 -- The state stands behind the arguments.

@@ -2,28 +2,28 @@
 use Rattle.std.proofs.Common.{◌≡◌, slice_get, ℕ, ◌+◌, ◌<◌, ◌≤◌, false, List, [], ◌∷◌, ◌++◌, length, drop, Option, Some, Result, Ok, Err, slice_index_or, refl, sym, ◌∙◌, ap, subst, append_assoc}
 use Rattle.std.proofs.lemmas.List.{append-nil, length-map}
 use Rattle.std.proofs.lemmas.Option.{slice_get_within}
-use Rattle.dsde_syntax.specs.declared.expr.Expr.{Expr}
-use Rattle.dsde_syntax.specs.declared.decl.Model.{Model}
+use Rattle.dsde_language.specs.given.syntax.expr_Expr.{Expr}
+use Rattle.dsde_language.specs.given.syntax.decl_Model.{Model}
 use Rattle.dsde_values.specs.declared.types.Field.{Field}
 use Rattle.dsde_values.specs.declared.value.Value.{Value}
 use Rattle.dsde_faults.specs.declared.kind.Site.TheVariants as site
 use Rattle.dsde_faults.specs.declared.end.EvalEnd.{EvalEnd}
 use Rattle.dsde_faults.specs.declared.end.EvalEnd.TheVariants as eval_end
-use Rattle.dsde_program_nodes.specs.declared.info.Info.{Info}
-use Rattle.dsde_program_nodes.specs.declared.ids.ExprId.{ExprId}
-use Rattle.dsde_declared.specs.Models.{top_number, whole_of, types_of, Own, TopOf, owns_of, param_slots, top_in}
-use Rattle.dsde_program_nodes.specs.Models.{resolved}
-use Rattle.dsde_eval_meaning.specs.Outcome.{Outcome, ◌>>=◌, Gives, present}
-use Rattle.dsde_eval_meaning.specs.Typed.{Typed}
-use Rattle.dsde_sound_places.specs.Places.{IsExpr}
-use Rattle.dsde_sound_places.specs.Bodies.{TopStands, ArgsStand}
-use Rattle.dsde_formalism.specs.System.{Chosen}
-use Rattle.dsde_eval_meaning.specs.Functions.{mean_of}
-use Rattle.dsde_sound_places.specs.Conditions.{CanEval, Came}
+use Rattle.dsde_language.specs.declared.info.Info.{Info}
+use Rattle.dsde_language.specs.declared.node_ids.ExprId.{ExprId}
+use Rattle.dsde_language.specs.DeclaredModels.{top_number, whole_of, types_of, Own, TopOf, owns_of, param_slots, top_in}
+use Rattle.dsde_language.specs.NodeModels.{resolved}
+use Rattle.dsde_language.specs.Outcome.{Outcome, ◌>>=◌, Gives, present}
+use Rattle.dsde_language.specs.Typed.{Typed}
+use Rattle.dsde_system.specs.given.sound_expressions.Places.{IsExpr}
+use Rattle.dsde_system.specs.given.sound_expressions.Bodies.{TopStands, ArgsStand}
+use Rattle.dsde_system.specs.given.formalism.System.{Chosen}
+use Rattle.dsde_language.specs.Functions.{mean_of}
+use Rattle.dsde_system.specs.given.sound_expressions.Conditions.{CanEval, Came}
 use Rattle.dsde_system.specs.Program.{system, args_from, top_of}
 use Rattle.dsde_system.specs.Fitting.{Fill, FitsArgs, Topped}
 use Rattle.dsde_atomic.specs.Steps.{sited}
-use Rattle.dsde_sound_typing.specs.lemmas.Outcomes.{sound-given}
+use Rattle.dsde_system.specs.given.sound_expressions.lemmas_Outcomes.{sound-given}
 use Rattle.dsde_atomic.proofs.Ends.{then-end}
 use Rattle.dsde_atomic.proofs.Filling.{fill-append, drop-at, drop-over}
 use Rattle.dsde_atomic.proofs.Infos.{infos-by, info_by}

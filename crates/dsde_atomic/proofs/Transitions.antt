@@ -1,19 +1,19 @@
 -- External and confluent transitions.
 use Rattle.std.proofs.Common.{◌≡◌, ℕ, List, [], Option, Some, None, Result, Ok, sym, ◌∙◌, ap, subst}
-use Rattle.dsde_syntax.specs.declared.decl.Model.{Model}
-use Rattle.dsde_syntax.specs.declared.decl.Phase.{Phase}
+use Rattle.dsde_language.specs.given.syntax.decl_Model.{Model}
+use Rattle.dsde_language.specs.given.syntax.decl_Phase.{Phase}
 use Rattle.dsde_values.specs.declared.value.Value.{Value}
 use Rattle.dsde_faults.specs.declared.kind.Site.TheVariants as site
 use Rattle.dsde_faults.specs.declared.end.LeafEnd.{LeafEnd}
-use Rattle.dsde_program_nodes.specs.declared.code.Code.{Code}
-use Rattle.dsde_program_nodes.specs.declared.ids.BlockId.{BlockId}
-use Rattle.dsde_declared.specs.declared.ids.ModelId.{ModelId}
-use Rattle.dsde_program_nodes.specs.Statements.{phase_at}
-use Rattle.dsde_eval_meaning.specs.Outcome.{Outcome}
-use Rattle.dsde_declared.specs.Models.{Own}
-use Rattle.dsde_sound_places.specs.Bodies.{BodyStands, moved_slots}
-use Rattle.dsde_formalism.specs.System.{Component, State, Ports}
-use Rattle.dsde_formalism.specs.Leaf as formalism
+use Rattle.dsde_language.specs.declared.code.Code.{Code}
+use Rattle.dsde_language.specs.declared.node_ids.BlockId.{BlockId}
+use Rattle.dsde_language.specs.declared.ids.ModelId.{ModelId}
+use Rattle.dsde_language.specs.Statements.{phase_at}
+use Rattle.dsde_language.specs.Outcome.{Outcome}
+use Rattle.dsde_language.specs.DeclaredModels.{Own}
+use Rattle.dsde_system.specs.given.sound_expressions.Bodies.{BodyStands, moved_slots}
+use Rattle.dsde_system.specs.given.formalism.System.{Component, State, Ports}
+use Rattle.dsde_system.specs.given.formalism.Leaf as formalism
 use Rattle.dsde_system.specs.Body.{at_site, seeing, external, confluent, internal}
 use Rattle.dsde_system.specs.Program.{system, component}
 use Rattle.dsde_system.specs.Fitting.{FitsArgs}

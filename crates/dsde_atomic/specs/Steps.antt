@@ -1,8 +1,8 @@
 -- What the parts of a component's start and move take and give.
 use Rattle.std.specs.Prelude.{◌≡◌, ℕ, ◌+◌, ◌≤◌, List, [], length, take, drop, Option, Some, Result, Ok, Err, slice_get}
-use Rattle.dsde_syntax.specs.declared.stmt.Stmt.{Stmt}
-use Rattle.dsde_syntax.specs.declared.decl.Model.{Model}
-use Rattle.dsde_syntax.specs.declared.decl.Phase.{Phase}
+use Rattle.dsde_language.specs.given.syntax.stmt_Stmt.{Stmt}
+use Rattle.dsde_language.specs.given.syntax.decl_Model.{Model}
+use Rattle.dsde_language.specs.given.syntax.decl_Phase.{Phase}
 use Rattle.dsde_values.specs.declared.types.Field.{Field}
 use Rattle.dsde_values.specs.declared.value.Value.{Value}
 use Rattle.dsde_values.specs.declared.when.When.{When}
@@ -11,16 +11,16 @@ use Rattle.dsde_faults.specs.declared.end.EvalEnd.{EvalEnd}
 use Rattle.dsde_faults.specs.declared.end.EvalEnd.TheVariants as eval_end
 use Rattle.dsde_faults.specs.declared.end.LeafEnd.{LeafEnd}
 use Rattle.dsde_faults.specs.declared.end.LeafEnd.TheVariants as leaf_end
-use Rattle.dsde_declared.specs.Models.{types_of, Own, owns_of, param_slots, state_slots}
-use Rattle.dsde_eval_meaning.specs.Outcome.{Outcome, ◌>>=◌, Gives, option_of}
-use Rattle.dsde_eval_meaning.specs.Meaning.{Vars, scene}
-use Rattle.dsde_eval_meaning.specs.Flow.{lifted}
-use Rattle.dsde_eval_meaning.specs.Typed.{Fits, values_in}
-use Rattle.dsde_sound_places.specs.Places.{IsBlock}
-use Rattle.dsde_sound_places.specs.Bodies.{body_slots, moved_slots}
-use Rattle.dsde_eval_meaning.specs.Functions.{block_of}
-use Rattle.dsde_formalism.specs.System.{State, Ports}
-use Rattle.dsde_formalism.specs.Leaf as formalism
+use Rattle.dsde_language.specs.DeclaredModels.{types_of, Own, owns_of, param_slots, state_slots}
+use Rattle.dsde_language.specs.Outcome.{Outcome, ◌>>=◌, Gives, option_of}
+use Rattle.dsde_language.specs.Meaning.{Vars, scene}
+use Rattle.dsde_language.specs.Flow.{lifted}
+use Rattle.dsde_language.specs.Typed.{Fits, values_in}
+use Rattle.dsde_system.specs.given.sound_expressions.Places.{IsBlock}
+use Rattle.dsde_system.specs.given.sound_expressions.Bodies.{body_slots, moved_slots}
+use Rattle.dsde_language.specs.Functions.{block_of}
+use Rattle.dsde_system.specs.given.formalism.System.{State, Ports}
+use Rattle.dsde_system.specs.given.formalism.Leaf as formalism
 use Rattle.dsde_system.specs.Body.{due_after, inits_from, vars_of, seeing, at_site}
 use Rattle.dsde_system.specs.Fitting.{Fill}
 

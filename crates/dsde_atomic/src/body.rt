@@ -1,16 +1,15 @@
 //! The bodies of models, and the values that they see.
 
 ghost use Rattle.std.specs.Prelude.{◌≡◌, ◌<◌, ◌≤◌, Some, length, drop};
-ghost use Rattle.dsde_program_nodes.specs.Models.{infos_of};
-ghost use Rattle.dsde_declared.specs.Models.{Own};
-ghost use Rattle.dsde_sound_places.specs.Bodies.{BodyStands};
+ghost use Rattle.dsde_language.specs.NodeModels.{infos_of};
+ghost use Rattle.dsde_language.specs.DeclaredModels.{Own};
+ghost use Rattle.dsde_system.specs.given.sound_expressions.Bodies.{BodyStands};
 ghost use Rattle.dsde_atomic.specs.Steps.{own_at, sited};
 
 use crate::laws::laws;
-use dsde_declared::ModelId;
+use dsde_eval::given::program::Program;
 use dsde_faults::{EvalEnd, LeafEnd, Site};
-use dsde_program::Program;
-use dsde_program_nodes::Code;
+use dsde_language::{Code, ModelId};
 use dsde_values::{Seq, Values};
 
 /// The body of the atomic model with a number, or of the network's executive.

@@ -3,20 +3,20 @@
 ghost use Rattle.std.specs.Prelude.{◌≡◌, ◌≢◌, ◌<◌, ◌++◌, List, length, Ok, Err, IfOk};
 ghost use Rattle.dsde_values.specs.declared.value.Value as values;
 ghost use Rattle.dsde_values.specs.When.{IsMoment};
-ghost use Rattle.dsde_program_nodes.specs.Models.{infos_of};
-ghost use Rattle.dsde_eval_meaning.specs.Outcome as outcome;
-ghost use Rattle.dsde_eval_meaning.specs.Outcome.{Stuck};
-ghost use Rattle.dsde_formalism.specs.Leaf.{Gives};
+ghost use Rattle.dsde_language.specs.NodeModels.{infos_of};
+ghost use Rattle.dsde_language.specs.Outcome as outcome;
+ghost use Rattle.dsde_language.specs.Outcome.{Stuck};
+ghost use Rattle.dsde_system.specs.given.formalism.Leaf.{Gives};
 ghost use Rattle.dsde_system.specs.Body.{after};
 ghost use Rattle.dsde_system.specs.Program.{system};
 ghost use Rattle.dsde_system.specs.Fitting.{FitsArgs, FitsState, IsInTime};
 ghost use Rattle.dsde_atomic.specs.Steps.{FitsBody, due_by};
 
 use crate::body::{at_site, code_of};
-use dsde_declared::ModelId;
+use dsde_eval::given::program::Program;
 use dsde_eval::{Env, eval};
 use dsde_faults::{EvalEnd, FaultKind, LeafEnd, Site};
-use dsde_program::Program;
+use dsde_language::ModelId;
 use dsde_values::{LAST_MOMENT, Value, When};
 use std::alloc::Global;
 

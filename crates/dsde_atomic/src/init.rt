@@ -1,16 +1,16 @@
 //! The first values of state variables.
 
 ghost use Rattle.std.specs.Prelude.{IfOk};
-ghost use Rattle.dsde_formalism.specs.Leaf.{Gives};
+ghost use Rattle.dsde_system.specs.given.formalism.Leaf.{Gives};
 ghost use Rattle.dsde_system.specs.Program.{system};
 ghost use Rattle.dsde_system.specs.Fitting.{FitsArgs, FitsState};
 ghost use Rattle.dsde_atomic.specs.Steps.{Begins};
 
 use crate::body::{at_site, behind, code_of};
-use dsde_declared::ModelId;
+use dsde_eval::given::program::Program;
 use dsde_eval::{Env, eval};
 use dsde_faults::{EvalEnd, LeafEnd, Site};
-use dsde_program::Program;
+use dsde_language::ModelId;
 use dsde_values::{Values, copy_values};
 use std::alloc::Global;
 

@@ -1,8 +1,8 @@
 //! What holds of each model in which nothing is wrong.
 
-ghost use Rattle.dsde_sound_places.specs.Laws.{BodiesStand, TopsStand};
+ghost use Rattle.dsde_system.specs.given.sound_expressions.Laws.{BodiesStand, TopsStand};
 
-use dsde_sound_places::{bodies_stand, tops_stand};
+use dsde_system::given::sound_expressions::{bodies_stand, tops_stand};
 
 /// Laws: the parts of each body of a model stand at their numbers, and so do those of `top`.
 pub(crate) fn laws()

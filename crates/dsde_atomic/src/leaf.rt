@@ -2,7 +2,7 @@
 
 ghost use Rattle.std.specs.Prelude.{◌≡◌, ◌++◌, IfOk};
 ghost use Rattle.dsde_values.specs.When.{IsMoment};
-ghost use Rattle.dsde_formalism.specs.Leaf.{Gives, settled, start_leaf, output_leaf, move_leaf};
+ghost use Rattle.dsde_system.specs.given.formalism.Leaf.{Gives, settled, start_leaf, output_leaf, move_leaf};
 ghost use Rattle.dsde_system.specs.Program.{system};
 ghost use Rattle.dsde_system.specs.Fitting.{FitsArgs, FitsInputs, FitsLeaf, FitsSends, FitsState, IsInTime};
 
@@ -10,12 +10,12 @@ use crate::body::{at_site, behind, code_of};
 use crate::due::due;
 use crate::init::init;
 use crate::moves::transition;
-use dsde_declared::ModelId;
+use dsde_eval::given::eval_tables::slots_of;
+use dsde_eval::given::program::Program;
 use dsde_eval::{Env, run_block};
-use dsde_eval_tables::slots_of;
 use dsde_faults::{LeafEnd, Site};
-use dsde_formalism::{Inputs, Leaf, MoveKind};
-use dsde_program::Program;
+use dsde_language::ModelId;
+use dsde_system::given::formalism::{Inputs, Leaf, MoveKind};
 use dsde_values::{Item, Memory, Seq, Values, When, copy_values};
 use std::alloc::Global;
 

@@ -4,6 +4,7 @@
 
 mod body;
 mod due;
+pub mod given;
 mod init;
 mod laws;
 mod leaf;
@@ -12,7 +13,7 @@ mod ports;
 mod top;
 
 pub use dsde_faults::{LeafEnd, Site};
-pub use dsde_formalism::{Inputs, Leaf, MoveKind};
+pub use dsde_system::given::formalism::{Inputs, Leaf, MoveKind};
 pub use leaf::{move_leaf, next_event, output_leaf, start_leaf};
 pub use ports::{
     component_at, is_network, network_at, network_in, network_out, ports_in, ports_out,

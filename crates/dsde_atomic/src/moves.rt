@@ -3,21 +3,20 @@
 ghost use Rattle.std.specs.Prelude.{◌≡◌, ◌≤◌, ◌++◌, ◌∷◌, [], pos, length, IfOk, OnOk};
 ghost use Rattle.dsde_values.specs.declared.value.Value.TheVariants as values;
 ghost use Rattle.dsde_values.specs.When.{IsMoment};
-ghost use Rattle.dsde_formalism.specs.Leaf.{Gives, transition};
+ghost use Rattle.dsde_system.specs.given.formalism.Leaf.{Gives, transition};
 ghost use Rattle.dsde_system.specs.Body.{is_flooded, lists_of};
 ghost use Rattle.dsde_system.specs.Program.{system};
 ghost use Rattle.dsde_system.specs.Fitting.{FitsArgs, FitsInputs, FitsState};
 ghost use Rattle.dsde_atomic.specs.Steps.{CanMove, HasPhase, Moved, Sees};
 
 use crate::body::{at_site, behind, code_of};
-use dsde_declared::ModelId;
+use dsde_eval::given::eval_tables::slots_of;
+use dsde_eval::given::program::Program;
 use dsde_eval::{Env, run_block};
-use dsde_eval_tables::slots_of;
 use dsde_faults::{EvalEnd, FaultKind, LeafEnd, Site};
-use dsde_formalism::{Inputs, MoveKind};
+use dsde_language::{BlockId, ModelId};
 use dsde_lists::Memory;
-use dsde_program::Program;
-use dsde_program_nodes::BlockId;
+use dsde_system::given::formalism::{Inputs, MoveKind};
 use dsde_values::{Seq, Value, Values};
 use std::alloc::Global;
 

@@ -2,12 +2,12 @@
 
 ghost use Rattle.std.specs.Prelude.{◌≡◌, ◌<◌, true, List, length};
 ghost use Rattle.dsde_values.specs.declared.value.Value.{Value};
-ghost use Rattle.dsde_program_nodes.specs.Models.{infos_of};
+ghost use Rattle.dsde_language.specs.NodeModels.{infos_of};
 ghost use Rattle.dsde_system.specs.Program.{system};
 
 use crate::body::code_of;
-use dsde_declared::ModelId;
-use dsde_program::Program;
+use dsde_eval::given::program::Program;
+use dsde_language::ModelId;
 
 /// How many in ports the atomic model with a number has, or the executive of the network.
 pub fn ports_in(program: &Program, model: ModelId) -> usize

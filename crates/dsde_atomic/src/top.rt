@@ -1,15 +1,15 @@
 //! The model that runs.
 
 ghost use Rattle.std.specs.Prelude.{IfOk};
-ghost use Rattle.dsde_declared.specs.Models.{top_number};
+ghost use Rattle.dsde_language.specs.DeclaredModels.{top_number};
 ghost use Rattle.dsde_system.specs.Program.{system};
 ghost use Rattle.dsde_system.specs.Fitting.{FitsArgs, Topped};
 
 use crate::body::at_site;
 use crate::laws::laws;
+use dsde_eval::given::program::Program;
 use dsde_eval::{Env, eval};
 use dsde_faults::{LeafEnd, Site};
-use dsde_program::Program;
 use dsde_values::{Seq, Values};
 use std::alloc::Global;
 

@@ -3,6 +3,7 @@
 
 mod bank;
 mod batch;
+pub mod given;
 mod handle;
 
 pub use bank::Bank;

@@ -1,11 +1,11 @@
 -- What is wrong with a test is what is wrong with what stands on it.
 use Rattle.std.proofs.Common.{◌≡◌, Result, Ok, Err, sym, ap, subst}
-use Rattle.dsde_check_rules.specs.declared.known.Known.{Known}
-use Rattle.dsde_check_rules.specs.declared.wrong.Wrong.{Wrong}
-use Rattle.dsde_check_rules.specs.Steps.{◌>>=◌, Test}
-use Rattle.dsde_check_scope.specs.declared.error.CheckError.{CheckError}
-use Rattle.dsde_check_scope.specs.declared.error.CheckError.TheVariants as end_of
-use Rattle.dsde_check_scope.specs.Says.{Says, Leaves}
+use Rattle.dsde_language.specs.declared.known.Known.{Known}
+use Rattle.dsde_language.specs.declared.wrong.Wrong.{Wrong}
+use Rattle.dsde_language.specs.Steps.{◌>>=◌, Test}
+use Rattle.dsde_check_bodies.specs.given.check_scope.error_CheckError.{CheckError}
+use Rattle.dsde_check_bodies.specs.given.check_scope.error_CheckError_TheVariants as end_of
+use Rattle.dsde_check_bodies.specs.given.check_scope.Says.{Says, Leaves}
 
 -- in terms of the error alone
 stops : (test : Test) (known after : Known) (error : CheckError) → Says test (Err error) → Leaves (test >>= (λ _. Ok known)) (Err error) after

@@ -4,13 +4,13 @@ use Rattle.dsde_syntax.specs.declared.id.Id.{Id}
 use Rattle.dsde_syntax.specs.declared.decl.Body.{Body}
 use Rattle.dsde_syntax.specs.declared.decl.PortDecl.{PortDecl}
 use Rattle.dsde_syntax.specs.declared.item.Item.{Item}
-use Rattle.dsde_check_rules.specs.declared.known.Around.{Around}
-use Rattle.dsde_check_rules.specs.declared.signatures.Port.{Port}
-use Rattle.dsde_check_rules.specs.Steps.{◌>>=◌, Test, within}
-use Rattle.dsde_check_rules.specs.Judge.{Scope}
-use Rattle.dsde_check_rules.specs.Blocks.{body_of, ports_all}
-use Rattle.dsde_check_rules.specs.Structures.{structure_of}
-use Rattle.dsde_check_rules.specs.Rules.{inside_rule}
+use Rattle.dsde_language.specs.declared.known.Around.{Around}
+use Rattle.dsde_language.specs.declared.signatures.Port.{Port}
+use Rattle.dsde_language.specs.Steps.{◌>>=◌, Test, within}
+use Rattle.dsde_language.specs.Judge.{Scope}
+use Rattle.dsde_language.specs.Blocks.{body_of, ports_all}
+use Rattle.dsde_language.specs.RuleStructures.{structure_of}
+use Rattle.dsde_language.specs.Rules.{inside_rule}
 
 -- an atomic model with these ports, over its parameters
 abbrev pub ported_rule : Around → ℕ → Id → List Port → Body → Scope → Test

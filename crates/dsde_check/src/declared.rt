@@ -1,18 +1,20 @@
 //! A declaration, over what is known before it.
 
 ghost use Rattle.std.specs.Prelude.{◌≡◌, [], length, slice_get, unwrap_or};
-ghost use Rattle.dsde_check_rules.specs.Rules.{around_with, decl_rule, record_rule, atomic_rule, inside_rule, network_rule, top_rule};
-ghost use Rattle.dsde_check_rules.specs.Blocks.{body_names, ports_all};
-ghost use Rattle.dsde_check_scope.specs.Says.{Says, Leaves};
+ghost use Rattle.dsde_language.specs.Rules.{around_with, decl_rule, record_rule, atomic_rule, inside_rule, network_rule, top_rule};
+ghost use Rattle.dsde_language.specs.Blocks.{body_names, ports_all};
+ghost use Rattle.dsde_check_bodies.specs.given.check_scope.Says.{Says, Leaves};
 ghost use Rattle.dsde_check.specs.Parts.{atomic_over, executed_rule, network_over, ported_rule};
 
 use crate::CheckError;
 use crate::own::distinct;
+use dsde_check_bodies::given::check_scope::{
+    Around, body_names, fields_all, params_all, ports_all, within,
+};
+use dsde_check_bodies::given::check_tables::{Known, Local, PortEntry, Word};
 use dsde_check_bodies::{body as body_rule, func};
-use dsde_check_rules::WrongKind;
-use dsde_check_scope::{Around, body_names, fields_all, params_all, ports_all, within};
 use dsde_check_structures::{args as args_rule, structure};
-use dsde_check_tables::{Known, Local, PortEntry, Word};
+use dsde_language::WrongKind;
 use dsde_names::Names;
 use dsde_syntax::{Body, Decl, Expr, Id, Item, PortDecl, Typed};
 use std::alloc::Global;

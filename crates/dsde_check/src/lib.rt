@@ -5,6 +5,6 @@ mod declared;
 mod own;
 mod whole;
 
-pub use dsde_check_rules::WrongKind;
-pub use dsde_check_scope::CheckError;
+pub use dsde_check_bodies::given::check_scope::CheckError;
+pub use dsde_language::WrongKind;
 pub use whole::check;

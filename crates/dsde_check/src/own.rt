@@ -1,13 +1,13 @@
 //! The names that declarations take.
 
 ghost use Rattle.std.specs.Prelude.{◌≡◌, ◌++◌, ◌∷◌, [], OnOk};
-ghost use Rattle.dsde_check_rules.specs.Steps.{apart};
-ghost use Rattle.dsde_check_rules.specs.Rules.{own_name, apart_all, distinct};
-ghost use Rattle.dsde_check_scope.specs.Says.{Says};
+ghost use Rattle.dsde_language.specs.Steps.{apart};
+ghost use Rattle.dsde_language.specs.Rules.{own_name, apart_all, distinct};
+ghost use Rattle.dsde_check_bodies.specs.given.check_scope.Says.{Says};
 
 use crate::CheckError;
-use dsde_check_rules::WrongKind;
-use dsde_check_tables::Word;
+use dsde_check_bodies::given::check_tables::Word;
+use dsde_language::WrongKind;
 use dsde_names::Names;
 use dsde_syntax::{Decl, Id, Key};
 use std::alloc::Global;

@@ -2,16 +2,16 @@
 
 ghost use Rattle.std.specs.Prelude.{◌≡◌};
 ghost use Rattle.std.specs.List.{list_any};
-ghost use Rattle.dsde_check_rules.specs.Tables.{known_of};
-ghost use Rattle.dsde_check_rules.specs.Rules.{decls_rule, is_top, top_rules, rules, first_wrong};
-ghost use Rattle.dsde_check_scope.specs.Says.{Says, Tells};
+ghost use Rattle.dsde_language.specs.RuleTables.{known_of};
+ghost use Rattle.dsde_language.specs.Rules.{decls_rule, is_top, top_rules, rules, first_wrong};
+ghost use Rattle.dsde_check_bodies.specs.given.check_scope.Says.{Says, Tells};
 
 use crate::CheckError;
 use crate::declared::decl_rule;
 use crate::own::apart_all;
-use dsde_check_rules::WrongKind;
-use dsde_check_scope::narrow;
-use dsde_check_tables::Known;
+use dsde_check_bodies::given::check_scope::narrow;
+use dsde_check_bodies::given::check_tables::Known;
+use dsde_language::WrongKind;
 use dsde_syntax::{Decl, Model, tokens_of};
 use std::alloc::Global;
 

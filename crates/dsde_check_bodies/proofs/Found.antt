@@ -3,15 +3,15 @@ use Rattle.std.proofs.Common.{◌≡◌, ◌∙◌, List, Option, Some, None, Re
 use Rattle.dsde_names.specs.Table.{named}
 use Rattle.dsde_syntax.specs.declared.id.Id.{Id}
 use Rattle.dsde_values.specs.declared.types.Ty.{Ty}
-use Rattle.dsde_check_rules.specs.declared.known.Around.{Around}
-use Rattle.dsde_check_rules.specs.declared.seen.Binding.{Binding}
-use Rattle.dsde_check_rules.specs.declared.signatures.Port.{Port}
-use Rattle.dsde_check_rules.specs.declared.wrong.Wrong.{Wrong}
-use Rattle.dsde_check_rules.specs.declared.wrong.WrongKind.TheVariants.{Unknown, WrongType}
-use Rattle.dsde_check_rules.specs.Steps.{◌>>=◌, unless, wrong}
-use Rattle.dsde_check_rules.specs.Tables.{port_name}
-use Rattle.dsde_check_rules.specs.Judge.{Judge, Scope, bound_to}
-use Rattle.dsde_check_rules.specs.Blocks.{Passed, may_set, send_of, send_to, set_of, set_to}
+use Rattle.dsde_language.specs.declared.known.Around.{Around}
+use Rattle.dsde_language.specs.declared.seen.Binding.{Binding}
+use Rattle.dsde_language.specs.declared.signatures.Port.{Port}
+use Rattle.dsde_language.specs.declared.wrong.Wrong.{Wrong}
+use Rattle.dsde_language.specs.declared.wrong.WrongKind.TheVariants.{Unknown, WrongType}
+use Rattle.dsde_language.specs.Steps.{◌>>=◌, unless, wrong}
+use Rattle.dsde_language.specs.RuleTables.{port_name}
+use Rattle.dsde_language.specs.Judge.{Judge, Scope, bound_to}
+use Rattle.dsde_language.specs.Blocks.{Passed, may_set, send_of, send_to, set_of, set_to}
 use Rattle.dsde_check_bodies.specs.Parts.{taken}
 
 -- a value that is sent through the port that is found, if one is

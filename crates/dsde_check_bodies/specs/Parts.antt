@@ -5,14 +5,14 @@ use Rattle.dsde_syntax.specs.declared.type_name.TypeName.{TypeName}
 use Rattle.dsde_syntax.specs.declared.expr.Expr.{Expr}
 use Rattle.dsde_syntax.specs.declared.stmt.Stmt.{Stmt}
 use Rattle.dsde_values.specs.declared.types.Ty.{Ty}
-use Rattle.dsde_check_rules.specs.declared.known.Around.{Around}
-use Rattle.dsde_check_rules.specs.declared.seen.Binding.{Binding}
-use Rattle.dsde_check_rules.specs.declared.signatures.Func.{Func}
-use Rattle.dsde_check_rules.specs.declared.wrong.Wrong.{Wrong}
-use Rattle.dsde_check_rules.specs.Steps.{◌>>=◌, above, within}
-use Rattle.dsde_check_rules.specs.Types.{wanted}
-use Rattle.dsde_check_rules.specs.Judge.{Scope, Judge, type_of}
-use Rattle.dsde_check_rules.specs.Blocks.{Walk, walked, func_height}
+use Rattle.dsde_language.specs.declared.known.Around.{Around}
+use Rattle.dsde_language.specs.declared.seen.Binding.{Binding}
+use Rattle.dsde_language.specs.declared.signatures.Func.{Func}
+use Rattle.dsde_language.specs.declared.wrong.Wrong.{Wrong}
+use Rattle.dsde_language.specs.Steps.{◌>>=◌, above, within}
+use Rattle.dsde_language.specs.Types.{wanted}
+use Rattle.dsde_language.specs.Judge.{Scope, Judge, type_of}
+use Rattle.dsde_language.specs.Blocks.{Walk, walked, func_height}
 
 -- a value of this type, which a statement takes
 abbrev pub taken : Ty → Judge → Walk

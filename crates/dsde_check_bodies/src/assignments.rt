@@ -1,17 +1,19 @@
 //! Statements without braces: names that are bound and assigned to, and values that are sent.
 
 ghost use Rattle.std.specs.Prelude.{◌≡◌, not, length, take, OnOk};
-ghost use Rattle.dsde_check_rules.specs.Steps.{unless};
-ghost use Rattle.dsde_check_rules.specs.Judge.{judge};
-ghost use Rattle.dsde_check_rules.specs.Blocks.{let_of, may_set, send_of, send_to, set_to, var_kind};
-ghost use Rattle.dsde_check_rules.specs.declared.wrong.WrongKind.TheVariants.{WrongType};
-ghost use Rattle.dsde_check_scope.specs.Says.{Says, Walks};
+ghost use Rattle.dsde_language.specs.Steps.{unless};
+ghost use Rattle.dsde_language.specs.Judge.{judge};
+ghost use Rattle.dsde_language.specs.Blocks.{let_of, may_set, send_of, send_to, set_to, var_kind};
+ghost use Rattle.dsde_language.specs.declared.wrong.WrongKind.TheVariants.{WrongType};
+ghost use Rattle.dsde_check_expressions.specs.given.check_scope.Says.{Says, Walks};
 ghost use Rattle.dsde_check_bodies.specs.Parts.{taken};
 
+use dsde_check_expressions::given::check_scope::{
+    Around, CheckError, above, bind, copy_type, wanted,
+};
+use dsde_check_expressions::given::check_tables::{Local, PortEntry};
 use dsde_check_expressions::judge;
-use dsde_check_rules::{BindingKind, WrongKind};
-use dsde_check_scope::{Around, CheckError, above, bind, copy_type, wanted};
-use dsde_check_tables::{Local, PortEntry};
+use dsde_language::{BindingKind, WrongKind};
 use dsde_names::Names;
 use dsde_syntax::{Expr, Id};
 use dsde_values::Ty;

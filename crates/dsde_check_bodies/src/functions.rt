@@ -1,16 +1,16 @@
 //! Functions.
 
 ghost use Rattle.std.specs.Prelude.{[], map};
-ghost use Rattle.dsde_check_rules.specs.Judge.{judge};
-ghost use Rattle.dsde_check_rules.specs.Blocks.{func_height, func_in, func_of, return_of, walk, walk_all};
-ghost use Rattle.dsde_check_scope.specs.Says.{Says, Walks};
+ghost use Rattle.dsde_language.specs.Judge.{judge};
+ghost use Rattle.dsde_language.specs.Blocks.{func_height, func_in, func_of, return_of, walk, walk_all};
+ghost use Rattle.dsde_check_expressions.specs.given.check_scope.Says.{Says, Walks};
 ghost use Rattle.dsde_check_bodies.specs.Parts.{func_giving, func_made, func_over};
 
 use crate::headers::{own_params, own_type, types_of};
 use crate::statements::stmts;
+use dsde_check_expressions::given::check_scope::{Around, CheckError, above, wanted, within};
+use dsde_check_expressions::given::check_tables::{Callee, Known, Local};
 use dsde_check_expressions::judge;
-use dsde_check_scope::{Around, CheckError, above, wanted, within};
-use dsde_check_tables::{Callee, Known, Local};
 use dsde_names::Names;
 use dsde_syntax::{Expr, Id, Stmt, TypeName, Typed};
 use dsde_values::{Seq, Ty};

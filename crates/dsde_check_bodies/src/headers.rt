@@ -1,14 +1,16 @@
 //! Parameters and types, by what is known round them.
 
 ghost use Rattle.std.specs.Prelude.{◌≡◌, ◌++◌, [], IfOk, OnOk};
-ghost use Rattle.dsde_check_rules.specs.Judge.{type_of};
-ghost use Rattle.dsde_check_rules.specs.Blocks.{params_all};
-ghost use Rattle.dsde_check_scope.specs.Says.{Says};
+ghost use Rattle.dsde_language.specs.Judge.{type_of};
+ghost use Rattle.dsde_language.specs.Blocks.{params_all};
+ghost use Rattle.dsde_check_expressions.specs.given.check_scope.Says.{Says};
 ghost use Rattle.dsde_check_bodies.specs.Parts.{types_of};
 
-use dsde_check_rules::TypeSeen;
-use dsde_check_scope::{Around, CheckError, copy_type, params_all, type_of};
-use dsde_check_tables::Local;
+use dsde_check_expressions::given::check_scope::{
+    Around, CheckError, copy_type, params_all, type_of,
+};
+use dsde_check_expressions::given::check_tables::Local;
+use dsde_language::TypeSeen;
 use dsde_names::Names;
 use dsde_syntax::{Memory, TypeName, Typed};
 use dsde_values::{Seq, Ty};

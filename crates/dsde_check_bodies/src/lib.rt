@@ -4,6 +4,7 @@
 mod assignments;
 mod bodies;
 mod functions;
+pub mod given;
 mod headers;
 mod phases;
 mod statements;

@@ -2,13 +2,13 @@
 
 ghost use Rattle.std.specs.Prelude.{◌≡◌, length, take, IfOk, OnOk};
 ghost use Rattle.dsde_values.specs.declared.types.Ty.TheVariants as ty;
-ghost use Rattle.dsde_check_rules.specs.Blocks.{input_seen, inputs_of, inputs_seen, move_of, phase_of, phases_of};
-ghost use Rattle.dsde_check_scope.specs.Says.{Says};
+ghost use Rattle.dsde_language.specs.Blocks.{input_seen, inputs_of, inputs_seen, move_of, phase_of, phases_of};
+ghost use Rattle.dsde_check_expressions.specs.given.check_scope.Says.{Says};
 
 use crate::statements::inner;
-use dsde_check_rules::BindingKind;
-use dsde_check_scope::{Around, CheckError, close, copy_type};
-use dsde_check_tables::{Local, PortEntry, list_type};
+use dsde_check_expressions::given::check_scope::{Around, CheckError, close, copy_type};
+use dsde_check_expressions::given::check_tables::{Local, PortEntry, list_type};
+use dsde_language::BindingKind;
 use dsde_names::Names;
 use dsde_syntax::{Body, Memory, Phase};
 use dsde_values::Ty;

@@ -2,16 +2,18 @@
 
 ghost use Rattle.std.specs.Prelude.{◌≡◌, false, length, map, take, OnOk};
 ghost use Rattle.dsde_names.specs.Table.{is_among};
-ghost use Rattle.dsde_check_rules.specs.Tables.{binding_name};
-ghost use Rattle.dsde_check_rules.specs.Judge.{judge};
-ghost use Rattle.dsde_check_rules.specs.Blocks.{arm_of, arms_walk, for_items, for_walk, inner, walk, walk_all, walk_arm};
-ghost use Rattle.dsde_check_scope.specs.Says.{Says, Walks};
+ghost use Rattle.dsde_language.specs.RuleTables.{binding_name};
+ghost use Rattle.dsde_language.specs.Judge.{judge};
+ghost use Rattle.dsde_language.specs.Blocks.{arm_of, arms_walk, for_items, for_walk, inner, walk, walk_all, walk_arm};
+ghost use Rattle.dsde_check_expressions.specs.given.check_scope.Says.{Says, Walks};
 
 use crate::assignments::{let_of, send_to, set_to};
+use dsde_check_expressions::given::check_scope::{
+    Around, CheckError, above, bind, close, item_type,
+};
+use dsde_check_expressions::given::check_tables::{Local, PortEntry};
 use dsde_check_expressions::{judge, test};
-use dsde_check_rules::{BindingKind, Seen};
-use dsde_check_scope::{Around, CheckError, above, bind, close, item_type};
-use dsde_check_tables::{Local, PortEntry};
+use dsde_language::{BindingKind, Seen};
 use dsde_names::Names;
 use dsde_syntax::{Expr, Id, Stmt, StmtArm};
 

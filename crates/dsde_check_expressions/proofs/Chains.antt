@@ -3,10 +3,10 @@ use Rattle.std.proofs.Common.{◌≡◌, ℕ, ◌+◌, ◌<◌, suc, List, ◌�
 use Rattle.std.specs.Result.{IsErr, IsErrAnd}
 use Rattle.std.proofs.Math.Seq.{drop-cons}
 use Rattle.std.proofs.Math.Numerals.{suc-eq-add-one}
-use Rattle.dsde_check_rules.specs.declared.seen.Seen.{Seen}
-use Rattle.dsde_check_rules.specs.declared.wrong.Wrong.{Wrong}
-use Rattle.dsde_check_rules.specs.Steps.{◌>>=◌}
-use Rattle.dsde_check_rules.specs.Judge.{Scope, Link, links_from}
+use Rattle.dsde_language.specs.declared.seen.Seen.{Seen}
+use Rattle.dsde_language.specs.declared.wrong.Wrong.{Wrong}
+use Rattle.dsde_language.specs.Steps.{◌>>=◌}
+use Rattle.dsde_language.specs.Judge.{Scope, Link, links_from}
 use Rattle.dsde_check_scope.specs.declared.error.CheckError.{CheckError}
 use Rattle.dsde_check_scope.specs.declared.error.CheckError.TheVariants as end_of
 use Rattle.dsde_check_scope.specs.Says.{Says}

@@ -5,8 +5,8 @@ use Rattle.dsde_syntax.specs.declared.id.Id.{Id}
 use Rattle.dsde_syntax.specs.declared.expr.FieldSet.{FieldSet}
 use Rattle.dsde_syntax.specs.declared.expr.Expr.TheVariants as expr
 use Rattle.dsde_syntax.specs.declared.expr.Expr.TheFolds.{the_lemmas}
-use Rattle.dsde_check_rules.specs.declared.known.Around.{Around}
-use Rattle.dsde_check_rules.specs.Judge.{Scope, judge, new_of, variant_of}
+use Rattle.dsde_language.specs.declared.known.Around.{Around}
+use Rattle.dsde_language.specs.Judge.{Scope, judge, new_of, variant_of}
 use Rattle.dsde_check_expressions.specs.Parts.{judge_set}
 
 pub judge_new : (around : Around) (at : ℕ) (owner : Id) (sets : List FieldSet) (scope : Scope) → judge around (expr.New at owner sets) scope ≡ new_of around.known at owner (map (judge_set around) sets) scope

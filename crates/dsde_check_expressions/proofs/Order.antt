@@ -2,10 +2,10 @@
 use Rattle.std.proofs.Common.{◌≡◌, ◌≢◌, ℕ, not, Err, false, List, [], ◌∷◌, length, map, refl, ap, arith}
 use Rattle.dsde_syntax.specs.declared.expr.FieldSet.{FieldSet}
 use Rattle.dsde_values.specs.declared.types.Field.{Field}
-use Rattle.dsde_check_rules.specs.declared.known.Around.{Around}
-use Rattle.dsde_check_rules.specs.declared.wrong.WrongKind.TheVariants.{WrongType}
-use Rattle.dsde_check_rules.specs.Steps.{unless}
-use Rattle.dsde_check_rules.specs.Judge.{in_order}
+use Rattle.dsde_language.specs.declared.known.Around.{Around}
+use Rattle.dsde_language.specs.declared.wrong.WrongKind.TheVariants.{WrongType}
+use Rattle.dsde_language.specs.Steps.{unless}
+use Rattle.dsde_language.specs.Judge.{in_order}
 use Rattle.dsde_check_expressions.specs.Parts.{judge_set}
 
 pub unlike : (around : Around) (fields : List Field) (sets : List FieldSet) → length fields ≢ length sets → in_order fields (map (judge_set around) sets) ≡ false

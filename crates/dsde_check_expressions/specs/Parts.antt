@@ -9,19 +9,19 @@ use Rattle.dsde_syntax.specs.declared.expr.SignTail.{SignTail}
 use Rattle.dsde_syntax.specs.declared.expr.Suffix.{Suffix}
 use Rattle.dsde_syntax.specs.declared.expr.Tail.{Tail}
 use Rattle.dsde_syntax.specs.declared.expr.Expr.TheFolds.{fold-Suffix, fold-ExprArm, fold-FieldSet, fold-SignTail, fold-Tail}
-use Rattle.dsde_check_rules.specs.declared.known.Around.{Around}
-use Rattle.dsde_check_rules.specs.declared.seen.Seen.{Seen}
-use Rattle.dsde_check_rules.specs.declared.wrong.Wrong.{Wrong}
-use Rattle.dsde_check_rules.specs.declared.wrong.WrongKind.TheVariants.{Unknown, WrongType}
-use Rattle.dsde_check_rules.specs.Steps.{◌>>=◌, Test, unless}
-use Rattle.dsde_check_rules.specs.Types.{wanted, held_type}
-use Rattle.dsde_check_rules.specs.declared.builtin.Row.{Row}
-use Rattle.dsde_check_rules.specs.declared.seen.Fitted.{Fitted}
-use Rattle.dsde_check_rules.specs.declared.signatures.Func.{Func}
+use Rattle.dsde_language.specs.declared.known.Around.{Around}
+use Rattle.dsde_language.specs.declared.seen.Seen.{Seen}
+use Rattle.dsde_language.specs.declared.wrong.Wrong.{Wrong}
+use Rattle.dsde_language.specs.declared.wrong.WrongKind.TheVariants.{Unknown, WrongType}
+use Rattle.dsde_language.specs.Steps.{◌>>=◌, Test, unless}
+use Rattle.dsde_language.specs.Types.{wanted, held_type}
+use Rattle.dsde_language.specs.declared.builtin.Row.{Row}
+use Rattle.dsde_language.specs.declared.seen.Fitted.{Fitted}
+use Rattle.dsde_language.specs.declared.signatures.Func.{Func}
 use Rattle.dsde_values.specs.declared.types.Field.{Field}
 use Rattle.dsde_values.specs.declared.types.Ty.{Ty}
 use Rattle.dsde_values.specs.declared.types.Ty.TheVariants as ty
-use Rattle.dsde_check_rules.specs.Judge.{made, total, field_of, seen_as, type_of, sign_may_fault, all_fields, in_order, given_type, Judge, Link, Guarded, SetJudge, judge_step, suffix_step, arm_step, set_step, sign_tail_step, tail_step}
+use Rattle.dsde_language.specs.Judge.{made, total, field_of, seen_as, type_of, sign_may_fault, all_fields, in_order, given_type, Judge, Link, Guarded, SetJudge, judge_step, suffix_step, arm_step, set_step, sign_tail_step, tail_step}
 
 -- `or value` and `and value`, behind what stands before it
 abbrev pub judge_tail : Around → Tail → Link

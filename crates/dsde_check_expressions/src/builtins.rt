@@ -1,12 +1,12 @@
 //! What builtins take and give.
 
-ghost use Rattle.dsde_check_rules.specs.Judge.{row_of, part_type};
+ghost use Rattle.dsde_language.specs.Judge.{row_of, part_type};
 ghost use Rattle.dsde_check_scope.specs.Says.{Says};
 ghost use Rattle.dsde_check_expressions.specs.Parts.{builtin_seen};
 
-use dsde_check_rules::{Fitted, Part, Seen};
+use dsde_check_scope::given::check_tables::{given_type, row_of};
 use dsde_check_scope::{Around, CheckError, copy_type, held_type, item_type, wanted};
-use dsde_check_tables::{given_type, row_of};
+use dsde_language::{Fitted, Part, Seen};
 use dsde_syntax::Key;
 use dsde_values::Ty;
 use std::alloc::Global;

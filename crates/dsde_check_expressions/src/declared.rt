@@ -3,16 +3,16 @@
 ghost use Rattle.std.specs.Prelude.{◌≡◌, not, length, map, OnOk};
 ghost use Rattle.std.specs.Str.{bytes_eq};
 ghost use Rattle.dsde_names.specs.Table.{is_among};
-ghost use Rattle.dsde_check_rules.specs.declared.wrong.WrongKind.TheVariants.{Unknown, WrongType};
-ghost use Rattle.dsde_check_rules.specs.Steps.{unless};
-ghost use Rattle.dsde_check_rules.specs.Tables.{field_name};
-ghost use Rattle.dsde_check_rules.specs.Judge.{field_in, field_of, variant_in, variant_at, variant_of, all_fields, in_order};
+ghost use Rattle.dsde_language.specs.declared.wrong.WrongKind.TheVariants.{Unknown, WrongType};
+ghost use Rattle.dsde_language.specs.Steps.{unless};
+ghost use Rattle.dsde_language.specs.RuleTables.{field_name};
+ghost use Rattle.dsde_language.specs.Judge.{field_in, field_of, variant_in, variant_at, variant_of, all_fields, in_order};
 ghost use Rattle.dsde_check_scope.specs.Says.{Says};
 ghost use Rattle.dsde_check_expressions.specs.Parts.{field_seen, judge_set, whole_record};
 
-use dsde_check_rules::{Seen, WrongKind};
+use dsde_check_scope::given::check_tables::{Known, Member, Word};
 use dsde_check_scope::{Around, CheckError, copy_type, narrow, seen_as};
-use dsde_check_tables::{Known, Member, Word};
+use dsde_language::{Seen, WrongKind};
 use dsde_names::{Entry, Named, Names};
 use dsde_syntax::{FieldSet, Id};
 use dsde_values::Ty;

@@ -3,7 +3,7 @@
 ghost use Rattle.std.specs.Prelude.{◌≡◌, map, length, Some, OnOk};
 ghost use Rattle.std.specs.Option.{option_map};
 ghost use Rattle.dsde_values.specs.declared.types.Ty.TheVariants as own;
-ghost use Rattle.dsde_check_rules.specs.Judge.{judge, links_from, test_of, fit_all, list_of, call_to, builtin_of, row_of, fit_parts, new_of, record_at, record_of, fill, arms_of};
+ghost use Rattle.dsde_language.specs.Judge.{judge, links_from, test_of, fit_all, list_of, call_to, builtin_of, row_of, fit_parts, new_of, record_at, record_of, fill, arms_of};
 ghost use Rattle.dsde_check_scope.specs.Says.{Says};
 ghost use Rattle.dsde_check_expressions.specs.Parts.{judge_tail, judge_sign_tail, judge_suffix, judge_arm, judge_set};
 
@@ -14,9 +14,9 @@ use crate::steps::{
     made_list, name_of, negated, negative, none_of, operand, other_seen, sign_seen, truth,
     unwrapped,
 };
-use dsde_check_rules::{BindingKind, Fitted, Part, Seen, WrongKind};
+use dsde_check_scope::given::check_tables::{Local, Member, row_of};
 use dsde_check_scope::{Around, CheckError, bind, close, narrow, seen_as, wanted};
-use dsde_check_tables::{Local, Member, row_of};
+use dsde_language::{BindingKind, Fitted, Part, Seen, WrongKind};
 use dsde_names::Names;
 use dsde_syntax::{Boxed, Expr, ExprArm, FieldSet, Id, Key, SignTail, Suffix, Tail};
 use dsde_values::Ty;

@@ -4,6 +4,7 @@
 mod builtins;
 mod declared;
 mod expr;
+pub mod given;
 mod steps;
 
 pub use expr::{fit_all, judge, test};

@@ -2,16 +2,16 @@
 
 ghost use Rattle.std.specs.Prelude.{◌≡◌};
 ghost use Rattle.dsde_values.specs.declared.types.Ty.TheVariants as own;
-ghost use Rattle.dsde_check_rules.specs.Types.{wanted, item_type, held_type};
-ghost use Rattle.dsde_check_rules.specs.Judge.{made, name_of, operand, sign_may_fault, compared};
+ghost use Rattle.dsde_language.specs.Types.{wanted, item_type, held_type};
+ghost use Rattle.dsde_language.specs.Judge.{made, name_of, operand, sign_may_fault, compared};
 ghost use Rattle.dsde_check_scope.specs.Says.{Says};
 ghost use Rattle.dsde_check_expressions.specs.Parts.{none_of, empty_of, elapsed, compared_seen, other_seen, negated, unwrapped, sign_seen, item_seen, call_seen, list_seen, negative};
 
-use dsde_check_rules::{Seen, WrongKind};
+use dsde_check_scope::given::check_tables::{Callee, Local, list_type, option_type};
 use dsde_check_scope::{
     Around, CheckError, copy_type, held_type, item_type, seen_as, type_of, wanted,
 };
-use dsde_check_tables::{Callee, Local, list_type, option_type};
+use dsde_language::{Seen, WrongKind};
 use dsde_names::Names;
 use dsde_syntax::{Id, Sign, TypeName};
 use dsde_values::Ty;

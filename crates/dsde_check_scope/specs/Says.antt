@@ -1,8 +1,8 @@
 -- What a check answers.
 use Rattle.std.specs.Prelude.{◌≡◌, ℕ, Option, None, Some, Result, Ok, Err}
-use Rattle.dsde_check_rules.specs.declared.wrong.Wrong.{Wrong}
-use Rattle.dsde_check_rules.specs.Judge.{Scope}
-use Rattle.dsde_check_rules.specs.Blocks.{Passed}
+use Rattle.dsde_language.specs.declared.wrong.Wrong.{Wrong}
+use Rattle.dsde_language.specs.Judge.{Scope}
+use Rattle.dsde_language.specs.Blocks.{Passed}
 use Rattle.dsde_check_scope.specs.declared.error.CheckError.{CheckError}
 use Rattle.dsde_check_scope.specs.declared.error.CheckError.TheVariants as end_of
 

@@ -2,15 +2,15 @@
 
 ghost use Rattle.std.specs.Prelude.{◌≡◌, false, true, OnOk};
 ghost use Rattle.dsde_names.specs.Table.{is_among};
-ghost use Rattle.dsde_check_rules.specs.Tables.{binding_name};
-ghost use Rattle.dsde_check_rules.specs.Judge.{fresh, made, total};
+ghost use Rattle.dsde_language.specs.RuleTables.{binding_name};
+ghost use Rattle.dsde_language.specs.Judge.{fresh, made, total};
 ghost use Rattle.dsde_check_scope.specs.Says.{Says};
 
 use crate::CheckError;
 use crate::names::{apart, unbound};
 use crate::seeing::seen_as;
-use dsde_check_rules::{Seen, WrongKind};
 use dsde_check_tables::{Known, Local, Word, depth_of};
+use dsde_language::{Seen, WrongKind};
 use dsde_names::Names;
 use dsde_syntax::Id;
 use dsde_values::Ty;
@@ -29,8 +29,8 @@ pub struct Around<'m> {
 }
 
 impl<'m> Model for Around<'m> {
-    ghost use Rattle.dsde_check_rules.specs.declared.known.Around.{Around};
-    ghost use Rattle.dsde_check_rules.specs.contracts.known.Around as whole;
+    ghost use Rattle.dsde_language.specs.declared.known.Around.{Around};
+    ghost use Rattle.dsde_language.specs.contracts.known.Around as whole;
 
     ghost Value = { Around };
 

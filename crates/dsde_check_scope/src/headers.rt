@@ -2,15 +2,15 @@
 
 ghost use Rattle.std.specs.Prelude.{◌≡◌, [], false, IfOk, OnOk};
 ghost use Rattle.dsde_names.specs.Table.{is_among};
-ghost use Rattle.dsde_check_rules.specs.Tables.{field_name, port_name};
-ghost use Rattle.dsde_check_rules.specs.Blocks.{new_field, fields_all, params_all, ports_all, new_port, with_params, with_ports, with_states, body_names};
+ghost use Rattle.dsde_language.specs.RuleTables.{field_name, port_name};
+ghost use Rattle.dsde_language.specs.Blocks.{new_field, fields_all, params_all, ports_all, new_port, with_params, with_ports, with_states, body_names};
 ghost use Rattle.dsde_check_scope.specs.Says.{Says, Leaves};
 
 use crate::CheckError;
 use crate::names::{bind, unbound};
 use crate::written::type_of;
-use dsde_check_rules::{BindingKind, WrongKind};
 use dsde_check_tables::{Known, Local, Member, PortEntry, Word, add_name};
+use dsde_language::{BindingKind, WrongKind};
 use dsde_lists::Memory;
 use dsde_names::Names;
 use dsde_syntax::{Body, Id, PortDecl, StateDecl, Typed};

@@ -3,6 +3,7 @@
 
 mod around;
 mod error;
+pub mod given;
 mod headers;
 mod names;
 mod seeing;

@@ -4,14 +4,14 @@ ghost use Rattle.std.specs.Prelude.{◌≡◌, ◌++◌, ◌∷◌, [], false, t
 ghost use Rattle.std.specs.List.{list_any};
 ghost use Rattle.std.specs.Str.{bytes_eq};
 ghost use Rattle.dsde_names.specs.Table.{is_among};
-ghost use Rattle.dsde_check_rules.specs.Tables.{binding_name};
-ghost use Rattle.dsde_check_rules.specs.Steps.{apart};
-ghost use Rattle.dsde_check_rules.specs.Judge.{unbound};
+ghost use Rattle.dsde_language.specs.RuleTables.{binding_name};
+ghost use Rattle.dsde_language.specs.Steps.{apart};
+ghost use Rattle.dsde_language.specs.Judge.{unbound};
 ghost use Rattle.dsde_check_scope.specs.Says.{Says};
 
 use crate::CheckError;
-use dsde_check_rules::{BindingKind, WrongKind};
 use dsde_check_tables::{Local, Word};
+use dsde_language::{BindingKind, WrongKind};
 use dsde_names::Names;
 use dsde_syntax::{Id, Memory};
 use dsde_values::Ty;

@@ -1,14 +1,14 @@
 //! What is seen of a part of a model.
 
 ghost use Rattle.std.specs.Prelude.{◌≡◌, Ok};
-ghost use Rattle.dsde_check_rules.specs.Steps.{above, within};
-ghost use Rattle.dsde_check_rules.specs.Types.{wanted, item_type, held_type};
-ghost use Rattle.dsde_check_rules.specs.Judge.{seen_as};
+ghost use Rattle.dsde_language.specs.Steps.{above, within};
+ghost use Rattle.dsde_language.specs.Types.{wanted, item_type, held_type};
+ghost use Rattle.dsde_language.specs.Judge.{seen_as};
 ghost use Rattle.dsde_check_scope.specs.Says.{Says};
 
 use crate::CheckError;
-use dsde_check_rules::{Seen, WrongKind};
 use dsde_check_tables::{copy_type, is_same};
+use dsde_language::{Seen, WrongKind};
 use dsde_values::Ty;
 use std::alloc::Global;
 

@@ -1,12 +1,12 @@
 //! Types as they are written.
 
 ghost use Rattle.std.specs.Prelude.{◌≡◌};
-ghost use Rattle.dsde_check_rules.specs.Judge.{made_type, type_at, type_of, type_of_id};
+ghost use Rattle.dsde_language.specs.Judge.{made_type, type_at, type_of, type_of_id};
 ghost use Rattle.dsde_check_scope.specs.Says.{Says};
 
 use crate::CheckError;
-use dsde_check_rules::{TypeSeen, WrongKind};
 use dsde_check_tables::{Known, deeper, depth_at, narrow};
+use dsde_language::{TypeSeen, WrongKind};
 use dsde_lists::Boxed;
 use dsde_syntax::{Id, TypeName};
 use dsde_values::Ty;

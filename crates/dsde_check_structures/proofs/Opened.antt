@@ -6,12 +6,12 @@ use Rattle.dsde_syntax.specs.declared.item.Item.{Item}
 use Rattle.dsde_syntax.specs.declared.item.Item.TheVariants as item
 use Rattle.dsde_syntax.specs.declared.item.Item.TheFolds.{the_lemmas}
 use Rattle.dsde_syntax.specs.declared.item.ItemArm.{ItemArm}
-use Rattle.dsde_check_rules.specs.declared.known.Site.{Site}
-use Rattle.dsde_check_rules.specs.Steps.{◌>>=◌}
-use Rattle.dsde_check_rules.specs.Types.{item_type}
-use Rattle.dsde_check_rules.specs.Judge.{Scope, fixed, fresh, judge}
-use Rattle.dsde_check_rules.specs.Blocks.{Walk, Passed, inner, walked, for_walk}
-use Rattle.dsde_check_rules.specs.Structures.{item_walk}
+use Rattle.dsde_language.specs.declared.known.Site.{Site}
+use Rattle.dsde_language.specs.Steps.{◌>>=◌}
+use Rattle.dsde_language.specs.Types.{item_type}
+use Rattle.dsde_language.specs.Judge.{Scope, fixed, fresh, judge}
+use Rattle.dsde_language.specs.Blocks.{Walk, Passed, inner, walked, for_walk}
+use Rattle.dsde_language.specs.RuleStructures.{item_walk}
 use Rattle.dsde_check_structures.specs.Parts.{item_arm_walk, arm_test, arm_by, for_head, for_by}
 
 pub arm_opened : (site : Site) (arm : ItemArm) (height : ℕ) (scope : Scope) → item_arm_walk site arm height scope ≡ arm_by site arm height scope

@@ -7,18 +7,18 @@ use Rattle.dsde_syntax.specs.declared.item.ItemArm.{ItemArm}
 use Rattle.dsde_syntax.specs.declared.item.Item.TheFolds.{fold-ItemArm}
 use Rattle.dsde_syntax.specs.declared.item.ViaPart.{ViaPart}
 use Rattle.dsde_values.specs.declared.types.Ty.{Ty}
-use Rattle.dsde_check_rules.specs.declared.known.Around.{Around}
-use Rattle.dsde_check_rules.specs.declared.known.Known.{Known}
-use Rattle.dsde_check_rules.specs.declared.known.Site.{Site}
-use Rattle.dsde_check_rules.specs.declared.seen.EndSeen.{EndSeen}
-use Rattle.dsde_check_rules.specs.declared.seen.Seen.{Seen}
-use Rattle.dsde_check_rules.specs.declared.wrong.Wrong.{Wrong}
-use Rattle.dsde_check_rules.specs.declared.wrong.WrongKind.TheVariants.{BadLink}
-use Rattle.dsde_check_rules.specs.Steps.{◌>>=◌, unless}
-use Rattle.dsde_check_rules.specs.Types.{item_type, wanted}
-use Rattle.dsde_check_rules.specs.Judge.{Scope, fixed, fresh, judge, test_of}
-use Rattle.dsde_check_rules.specs.Blocks.{Walk, ArmWalk, inner, walked}
-use Rattle.dsde_check_rules.specs.Structures.{Enter, enter_step, enter_arm_step, item_step, item_arm_step, item_walk, end_of, through}
+use Rattle.dsde_language.specs.declared.known.Around.{Around}
+use Rattle.dsde_language.specs.declared.known.Known.{Known}
+use Rattle.dsde_language.specs.declared.known.Site.{Site}
+use Rattle.dsde_language.specs.declared.seen.EndSeen.{EndSeen}
+use Rattle.dsde_language.specs.declared.seen.Seen.{Seen}
+use Rattle.dsde_language.specs.declared.wrong.Wrong.{Wrong}
+use Rattle.dsde_language.specs.declared.wrong.WrongKind.TheVariants.{BadLink}
+use Rattle.dsde_language.specs.Steps.{◌>>=◌, unless}
+use Rattle.dsde_language.specs.Types.{item_type, wanted}
+use Rattle.dsde_language.specs.Judge.{Scope, fixed, fresh, judge, test_of}
+use Rattle.dsde_language.specs.Blocks.{Walk, ArmWalk, inner, walked}
+use Rattle.dsde_language.specs.RuleStructures.{Enter, enter_step, enter_arm_step, item_step, item_arm_step, item_walk, end_of, through}
 
 -- the height of a value of this type
 abbrev pub height_as : Around → Ty → Expr → Scope → Result ℕ Wrong

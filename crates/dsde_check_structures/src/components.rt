@@ -1,14 +1,14 @@
 //! Components.
 
 ghost use Rattle.std.specs.Prelude.{◌≡◌, OnOk};
-ghost use Rattle.dsde_check_rules.specs.Structures.{args_of, comp_of, index_of};
-ghost use Rattle.dsde_check_scope.specs.Says.{Says, Walks};
+ghost use Rattle.dsde_language.specs.RuleStructures.{args_of, comp_of, index_of};
+ghost use Rattle.dsde_check_expressions.specs.given.check_scope.Says.{Says, Walks};
 
 use crate::values::height_as;
 use dsde_check_expressions::fit_all;
-use dsde_check_rules::WrongKind;
-use dsde_check_scope::{Around, CheckError, above};
-use dsde_check_tables::Local;
+use dsde_check_expressions::given::check_scope::{Around, CheckError, above};
+use dsde_check_expressions::given::check_tables::Local;
+use dsde_language::WrongKind;
 use dsde_names::Names;
 use dsde_syntax::{Bracket, Expr, Id};
 use dsde_values::Ty;

@@ -2,14 +2,14 @@
 
 ghost use Rattle.std.specs.Prelude.{◌≡◌, false, OnOk};
 ghost use Rattle.dsde_syntax.specs.declared.item.EndPart.TheVariants as end_part;
-ghost use Rattle.dsde_check_rules.specs.Structures.{end_at, end_of, kid_end, port_at, ports_at};
-ghost use Rattle.dsde_check_scope.specs.Says.{Says};
+ghost use Rattle.dsde_language.specs.RuleStructures.{end_at, end_of, kid_end, port_at, ports_at};
+ghost use Rattle.dsde_check_expressions.specs.given.check_scope.Says.{Says};
 
 use crate::components::index_of;
 use crate::site::Site;
-use dsde_check_rules::{EndSeen, WrongKind};
-use dsde_check_scope::{Around, CheckError, copy_type};
-use dsde_check_tables::{Local, PortEntry};
+use dsde_check_expressions::given::check_scope::{Around, CheckError, copy_type};
+use dsde_check_expressions::given::check_tables::{Local, PortEntry};
+use dsde_language::{EndSeen, WrongKind};
 use dsde_names::Names;
 use dsde_syntax::{Bracket, EndPart, Id};
 use std::alloc::Global;

@@ -1,15 +1,15 @@
 //! The models of the components of a structure, found before its items are looked at.
 
 ghost use Rattle.std.specs.Prelude.{◌==◌, map, not};
-ghost use Rattle.dsde_check_rules.specs.declared.wrong.WrongKind.TheVariants.{MixedFamily};
-ghost use Rattle.dsde_check_rules.specs.Steps.{unless};
-ghost use Rattle.dsde_check_rules.specs.Structures.{with_comp, comp_family, enter, enter_all};
-ghost use Rattle.dsde_check_scope.specs.Says.{Leaves, Says};
+ghost use Rattle.dsde_language.specs.declared.wrong.WrongKind.TheVariants.{MixedFamily};
+ghost use Rattle.dsde_language.specs.Steps.{unless};
+ghost use Rattle.dsde_language.specs.RuleStructures.{with_comp, comp_family, enter, enter_all};
+ghost use Rattle.dsde_check_expressions.specs.given.check_scope.Says.{Leaves, Says};
 ghost use Rattle.dsde_check_structures.specs.Parts.{enter_arm};
 
-use dsde_check_rules::WrongKind;
-use dsde_check_scope::{CheckError, narrow};
-use dsde_check_tables::{FamilyEntry, Known};
+use dsde_check_expressions::given::check_scope::{CheckError, narrow};
+use dsde_check_expressions::given::check_tables::{FamilyEntry, Known};
+use dsde_language::WrongKind;
 use dsde_names::Names;
 use dsde_syntax::{Id, Item, ItemArm};
 

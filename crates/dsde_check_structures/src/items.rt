@@ -2,20 +2,20 @@
 
 ghost use Rattle.std.specs.Prelude.{◌≡◌, false, length, map, take, OnOk};
 ghost use Rattle.dsde_names.specs.Table.{is_among};
-ghost use Rattle.dsde_check_rules.specs.Tables.{binding_name};
-ghost use Rattle.dsde_check_rules.specs.Judge.{fresh, judge};
-ghost use Rattle.dsde_check_rules.specs.Blocks.{arms_walk, inner, let_of, walk_all};
-ghost use Rattle.dsde_check_rules.specs.Structures.{item_walk};
-ghost use Rattle.dsde_check_scope.specs.Says.{Says, Walks};
+ghost use Rattle.dsde_language.specs.RuleTables.{binding_name};
+ghost use Rattle.dsde_language.specs.Judge.{fresh, judge};
+ghost use Rattle.dsde_language.specs.Blocks.{arms_walk, inner, let_of, walk_all};
+ghost use Rattle.dsde_language.specs.RuleStructures.{item_walk};
+ghost use Rattle.dsde_check_expressions.specs.given.check_scope.Says.{Says, Walks};
 ghost use Rattle.dsde_check_structures.specs.Parts.{arm_test, for_by, for_head, item_arm_walk, item_bound};
 
 use crate::components::comp;
 use crate::links::link;
 use crate::site::Site;
+use dsde_check_expressions::given::check_scope::{CheckError, above, bind, close, item_type};
+use dsde_check_expressions::given::check_tables::Local;
 use dsde_check_expressions::{judge, test};
-use dsde_check_rules::{BindingKind, Seen};
-use dsde_check_scope::{CheckError, above, bind, close, item_type};
-use dsde_check_tables::Local;
+use dsde_language::{BindingKind, Seen};
 use dsde_names::Names;
 use dsde_syntax::{Expr, Id, Item, ItemArm};
 use std::alloc::Global;

@@ -1,18 +1,18 @@
 //! Links.
 
 ghost use Rattle.std.specs.Prelude.{◌≡◌, ◌&&◌, OnOk};
-ghost use Rattle.dsde_check_rules.specs.declared.wrong.WrongKind.TheVariants.{BadLink};
-ghost use Rattle.dsde_check_rules.specs.Steps.{unless};
-ghost use Rattle.dsde_check_rules.specs.Structures.{link_of};
-ghost use Rattle.dsde_check_scope.specs.Says.{Says, Walks};
+ghost use Rattle.dsde_language.specs.declared.wrong.WrongKind.TheVariants.{BadLink};
+ghost use Rattle.dsde_language.specs.Steps.{unless};
+ghost use Rattle.dsde_language.specs.RuleStructures.{link_of};
+ghost use Rattle.dsde_check_expressions.specs.given.check_scope.Says.{Says, Walks};
 ghost use Rattle.dsde_check_structures.specs.Parts.{link_between, link_from};
 
 use crate::ends::end_of;
 use crate::site::Site;
 use crate::translations::through;
-use dsde_check_rules::{EndSeen, WrongKind};
-use dsde_check_scope::{CheckError, above};
-use dsde_check_tables::Local;
+use dsde_check_expressions::given::check_scope::{CheckError, above};
+use dsde_check_expressions::given::check_tables::Local;
+use dsde_language::{EndSeen, WrongKind};
 use dsde_names::Names;
 use dsde_syntax::{End, ViaPart};
 

@@ -2,8 +2,8 @@
 
 ghost use Rattle.std.specs.Prelude.{◌≡◌};
 
-use dsde_check_scope::Around;
-use dsde_check_tables::{FamilyEntry, PortEntry};
+use dsde_check_expressions::given::check_scope::Around;
+use dsde_check_expressions::given::check_tables::{FamilyEntry, PortEntry};
 use dsde_names::Names;
 use std::alloc::Global;
 use std::marker::Model;
@@ -18,8 +18,8 @@ pub(crate) struct Site<'s, 'm> {
 }
 
 impl<'s, 'm> Model for Site<'s, 'm> {
-    ghost use Rattle.dsde_check_rules.specs.declared.known.Site.{Site};
-    ghost use Rattle.dsde_check_rules.specs.contracts.known.Site as whole;
+    ghost use Rattle.dsde_language.specs.declared.known.Site.{Site};
+    ghost use Rattle.dsde_language.specs.contracts.known.Site as whole;
 
     ghost Value = { Site };
 

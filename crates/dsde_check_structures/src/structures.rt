@@ -1,15 +1,15 @@
 //! Structures.
 
 ghost use Rattle.std.specs.Prelude.{[], map};
-ghost use Rattle.dsde_check_rules.specs.Blocks.{inner};
-ghost use Rattle.dsde_check_rules.specs.Structures.{enter, enter_all, item_walk, structure_of};
-ghost use Rattle.dsde_check_scope.specs.Says.{Says};
+ghost use Rattle.dsde_language.specs.Blocks.{inner};
+ghost use Rattle.dsde_language.specs.RuleStructures.{enter, enter_all, item_walk, structure_of};
+ghost use Rattle.dsde_check_expressions.specs.given.check_scope.Says.{Says};
 
 use crate::families::enter_all;
 use crate::items::inner;
 use crate::site::Site;
-use dsde_check_scope::{Around, CheckError};
-use dsde_check_tables::{FamilyEntry, Local, PortEntry};
+use dsde_check_expressions::given::check_scope::{Around, CheckError};
+use dsde_check_expressions::given::check_tables::{FamilyEntry, Local, PortEntry};
 use dsde_names::Names;
 use dsde_syntax::Item;
 

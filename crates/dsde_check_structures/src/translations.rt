@@ -3,16 +3,18 @@
 ghost use Rattle.std.specs.Prelude.{◌≡◌, [], ◌∷◌, ◌++◌, false, IfOk, OnOk};
 ghost use Rattle.dsde_names.specs.Table.{is_among};
 ghost use Rattle.dsde_values.specs.declared.types.Ty.TheVariants as ty;
-ghost use Rattle.dsde_check_rules.specs.Tables.{binding_name};
-ghost use Rattle.dsde_check_rules.specs.Judge.{fixed, fresh};
-ghost use Rattle.dsde_check_rules.specs.Structures.{body_via, key_via, keyed_via, through, via_of};
-ghost use Rattle.dsde_check_scope.specs.Says.{Says};
+ghost use Rattle.dsde_language.specs.RuleTables.{binding_name};
+ghost use Rattle.dsde_language.specs.Judge.{fixed, fresh};
+ghost use Rattle.dsde_language.specs.RuleStructures.{body_via, key_via, keyed_via, through, via_of};
+ghost use Rattle.dsde_check_expressions.specs.given.check_scope.Says.{Says};
 
 use crate::values::height_as;
+use dsde_check_expressions::given::check_scope::{
+    Around, CheckError, bind, close, copy_type, is_same,
+};
+use dsde_check_expressions::given::check_tables::{Local, option_type};
 use dsde_check_expressions::judge;
-use dsde_check_rules::{BindingKind, WrongKind};
-use dsde_check_scope::{Around, CheckError, bind, close, copy_type, is_same};
-use dsde_check_tables::{Local, option_type};
+use dsde_language::{BindingKind, WrongKind};
 use dsde_names::Names;
 use dsde_syntax::{Expr, ViaKey, ViaPart};
 use dsde_values::{Memory, Ty};

@@ -1,12 +1,12 @@
 //! Values of a type that is wanted.
 
 ghost use Rattle.std.specs.Prelude.{◌≡◌, OnOk};
-ghost use Rattle.dsde_check_scope.specs.Says.{Says};
+ghost use Rattle.dsde_check_expressions.specs.given.check_scope.Says.{Says};
 ghost use Rattle.dsde_check_structures.specs.Parts.{height_as};
 
+use dsde_check_expressions::given::check_scope::{Around, CheckError, wanted};
+use dsde_check_expressions::given::check_tables::Local;
 use dsde_check_expressions::judge;
-use dsde_check_scope::{Around, CheckError, wanted};
-use dsde_check_tables::Local;
 use dsde_names::Names;
 use dsde_syntax::Expr;
 use dsde_values::Ty;

@@ -1,12 +1,12 @@
 //! What builtins take and give.
 
 ghost use Rattle.std.specs.Prelude.{◌≡◌, IfOk};
-ghost use Rattle.dsde_check_rules.specs.Judge.{row_of, given_type};
+ghost use Rattle.dsde_language.specs.Judge.{row_of, given_type};
 
 use crate::types::{list_type, option_type};
-use dsde_check_rules::{Gives, Part};
-use dsde_lists::Memory;
+use dsde_language::{Gives, Part};
 use dsde_syntax::Key;
+use dsde_syntax::given::lists::Memory;
 use dsde_values::Ty;
 use std::alloc::Global;
 

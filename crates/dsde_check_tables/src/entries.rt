@@ -2,8 +2,8 @@
 
 ghost use Rattle.std.specs.Prelude.{◌≡◌};
 
-use dsde_check_rules::BindingKind;
-use dsde_names::{Named, Names};
+use dsde_language::BindingKind;
+use dsde_language::given::names::{Named, Names};
 use dsde_syntax::Id;
 use dsde_values::{Seq, Ty};
 use std::marker::Model;
@@ -17,8 +17,8 @@ pub struct Local<'m> {
 }
 
 impl<'m> Model for Local<'m> {
-    ghost use Rattle.dsde_check_rules.specs.declared.seen.Binding.{Binding};
-    ghost use Rattle.dsde_check_rules.specs.contracts.seen.Binding as whole;
+    ghost use Rattle.dsde_language.specs.declared.seen.Binding.{Binding};
+    ghost use Rattle.dsde_language.specs.contracts.seen.Binding as whole;
 
     ghost Value = { Binding };
 
@@ -110,8 +110,8 @@ pub struct Callee<'m> {
 }
 
 impl<'m> Model for Callee<'m> {
-    ghost use Rattle.dsde_check_rules.specs.declared.signatures.Func.{Func};
-    ghost use Rattle.dsde_check_rules.specs.contracts.signatures.Func as whole;
+    ghost use Rattle.dsde_language.specs.declared.signatures.Func.{Func};
+    ghost use Rattle.dsde_language.specs.contracts.signatures.Func as whole;
 
     ghost Value = { Func };
 
@@ -172,8 +172,8 @@ pub struct PortEntry<'m> {
 }
 
 impl<'m> Model for PortEntry<'m> {
-    ghost use Rattle.dsde_check_rules.specs.declared.signatures.Port.{Port};
-    ghost use Rattle.dsde_check_rules.specs.contracts.signatures.Port as whole;
+    ghost use Rattle.dsde_language.specs.declared.signatures.Port.{Port};
+    ghost use Rattle.dsde_language.specs.contracts.signatures.Port as whole;
 
     ghost Value = { Port };
 
@@ -229,8 +229,8 @@ pub struct ModelEntry<'m> {
 }
 
 impl<'m> Model for ModelEntry<'m> {
-    ghost use Rattle.dsde_check_rules.specs.declared.signatures.ModelSig.{ModelSig};
-    ghost use Rattle.dsde_check_rules.specs.contracts.signatures.ModelSig as whole;
+    ghost use Rattle.dsde_language.specs.declared.signatures.ModelSig.{ModelSig};
+    ghost use Rattle.dsde_language.specs.contracts.signatures.ModelSig as whole;
 
     ghost Value = { ModelSig };
 
@@ -282,7 +282,7 @@ pub struct FamilyEntry<'m> {
 }
 
 impl<'m> Model for FamilyEntry<'m> {
-    ghost use Rattle.dsde_check_rules.specs.declared.signatures.Family.{Family};
+    ghost use Rattle.dsde_language.specs.declared.signatures.Family.{Family};
 
     ghost Value = { Family };
 
@@ -321,7 +321,7 @@ pub struct TypeEntry<'m> {
 }
 
 impl<'m> Model for TypeEntry<'m> {
-    ghost use Rattle.dsde_check_rules.specs.declared.signatures.TypeWord.{TypeWord};
+    ghost use Rattle.dsde_language.specs.declared.signatures.TypeWord.{TypeWord};
 
     ghost Value = { TypeWord };
 

@@ -2,16 +2,16 @@
 
 ghost use Rattle.std.specs.Prelude.{◌≡◌, IfOk, OnOk};
 ghost use Rattle.std.specs.Option.{option_copied};
-ghost use Rattle.dsde_check_rules.specs.Judge.{variants_at, fields_at, fields_of};
-ghost use Rattle.dsde_check_rules.specs.Tables.{by_text, declared_words, known_of, models_from, shapes_from, text_params, used_words};
-ghost use Rattle.dsde_check_rules.specs.Types.{depths_from};
-ghost use Rattle.dsde_check_rules.specs.Rules.{behind_type, behind_func};
+ghost use Rattle.dsde_language.specs.Judge.{variants_at, fields_at, fields_of};
+ghost use Rattle.dsde_language.specs.RuleTables.{by_text, declared_words, known_of, models_from, shapes_from, text_params, used_words};
+ghost use Rattle.dsde_language.specs.Types.{depths_from};
+ghost use Rattle.dsde_language.specs.Rules.{behind_type, behind_func};
 
 use crate::text::{add_depths, add_models, add_shapes, by_text, text_params};
 use crate::words::{declared_words, used_words};
 use crate::{Callee, Made, Member, ModelEntry, TypeEntry, Word};
-use dsde_lists::Memory;
-use dsde_names::Names;
+use dsde_language::given::names::Names;
+use dsde_syntax::given::lists::Memory;
 use dsde_syntax::{Decl, Id, TypeName, Typed};
 use dsde_values::{Seq, Ty};
 use std::alloc::Global;
@@ -29,8 +29,8 @@ pub struct Known<'m> {
 }
 
 impl<'m> Model for Known<'m> {
-    ghost use Rattle.dsde_check_rules.specs.declared.known.Known.{Known};
-    ghost use Rattle.dsde_check_rules.specs.contracts.known.Known as whole;
+    ghost use Rattle.dsde_language.specs.declared.known.Known.{Known};
+    ghost use Rattle.dsde_language.specs.contracts.known.Known as whole;
 
     ghost Value = { Known };
 

@@ -4,10 +4,10 @@ ghost use Rattle.std.specs.Prelude.{◌≡◌, None, Some};
 ghost use Rattle.std.specs.Option.{option_copied};
 ghost use Rattle.dsde_values.specs.Value.{fields};
 ghost use Rattle.dsde_values.specs.declared.types.Shape.TheVariants as shape;
-ghost use Rattle.dsde_check_rules.specs.Judge.{variants_in};
+ghost use Rattle.dsde_language.specs.Judge.{variants_in};
 
 use crate::{Member, Word};
-use dsde_names::Names;
+use dsde_language::given::names::Names;
 use std::marker::Model;
 
 #[derive(Drop)]

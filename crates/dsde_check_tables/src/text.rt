@@ -2,13 +2,13 @@
 
 ghost use Rattle.std.specs.Prelude.{◌≡◌, [], ◌++◌, Some, IfOk, OnOk};
 ghost use Rattle.dsde_values.specs.declared.types.Shape.TheVariants as own;
-ghost use Rattle.dsde_check_rules.specs.Types.{deepest, shape_depth, depths_from};
-ghost use Rattle.dsde_check_rules.specs.Tables.{added, field_name, port_name, model_name, with_names, numbered, text_type, by_text, text_fields, with_shape, shapes_from, text_params, text_ports, with_model, models_from};
+ghost use Rattle.dsde_language.specs.Types.{deepest, shape_depth, depths_from};
+ghost use Rattle.dsde_language.specs.RuleTables.{added, field_name, port_name, model_name, with_names, numbered, text_type, by_text, text_fields, with_shape, shapes_from, text_params, text_ports, with_model, models_from};
 
 use crate::types::{deeper, depth_of, list_type, narrow, option_type};
 use crate::{Made, Member, ModelEntry, PortEntry, TypeEntry, Word, add_name};
-use dsde_lists::Memory;
-use dsde_names::{Entry, Names};
+use dsde_language::given::names::{Entry, Names};
+use dsde_syntax::given::lists::Memory;
 use dsde_syntax::{Decl, Id, PortDecl, TypeName, Typed};
 use dsde_values::{Seq, Ty};
 use std::alloc::Global;

@@ -2,9 +2,9 @@
 
 ghost use Rattle.std.specs.Prelude.{◌≡◌, unwrap_or, slice_get, IfOk};
 ghost use Rattle.dsde_values.specs.declared.types.Ty.TheVariants as own;
-ghost use Rattle.dsde_check_rules.specs.Types.{same, deeper, depth_of};
+ghost use Rattle.dsde_language.specs.Types.{same, deeper, depth_of};
 
-use dsde_lists::{Boxed, Memory};
+use dsde_syntax::given::lists::{Boxed, Memory};
 use dsde_values::Ty;
 use std::alloc::Global;
 
@@ -37,7 +37,7 @@ pub fn option_type(alloc: Global, ty: Ty) -> Result<Ty, Memory>
 }
 
 /// Whether two types are the same.
-#[tactic(auto, unfolding(dsde_check_rules::specs::Types::same))]
+#[tactic(auto, unfolding(dsde_language::specs::Types::same))]
 pub fn is_same(ty: &Ty, other: &Ty) -> bool
     ensures { result ≡ same ty.now other.now }
 {
@@ -60,7 +60,7 @@ pub fn deeper(depth: u32) -> u32
 }
 
 /// How deep a type is, where records are as deep as these numbers say; counted up to 65.
-#[tactic(auto, unfolding(dsde_check_rules::specs::Types::depth_of))]
+#[tactic(auto, unfolding(dsde_language::specs::Types::depth_of))]
 pub fn depth_of(depths: &[u32], ty: &Ty) -> u32
     ensures { result ≡ depth_of depths.now ty.now }
 {

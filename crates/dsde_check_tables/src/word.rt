@@ -1,10 +1,10 @@
 //! Names where they stand in a text.
 
 ghost use Rattle.std.specs.Prelude.{◌≡◌, OnOk};
-ghost use Rattle.dsde_check_rules.specs.Tables.{with_name};
+ghost use Rattle.dsde_language.specs.RuleTables.{with_name};
 
-use dsde_lists::Memory;
-use dsde_names::{Named, Names};
+use dsde_language::given::names::{Named, Names};
+use dsde_syntax::given::lists::Memory;
 use std::marker::Model;
 
 /// A name where it stands in a text. Contracts see it as the name.

@@ -2,11 +2,11 @@
 
 ghost use Rattle.std.specs.Prelude.{◌≡◌, OnOk};
 ghost use Rattle.std.specs.Option.{option_copied};
-ghost use Rattle.dsde_check_rules.specs.Tables.{with_word, declared_word, declared_words, used_in, used_word, used_typed, used_ports, used_decl, used_words};
+ghost use Rattle.dsde_language.specs.RuleTables.{with_word, declared_word, declared_words, used_in, used_word, used_typed, used_ports, used_decl, used_words};
 
 use crate::TypeEntry;
-use dsde_lists::Memory;
-use dsde_names::Names;
+use dsde_language::given::names::Names;
+use dsde_syntax::given::lists::Memory;
 use dsde_syntax::{Decl, Id, PortDecl, TypeName, Typed};
 
 fn with_word<'m>(words: &mut Names<TypeEntry<'m>>, is_enum: bool, id: &'m Id) -> Result<(), Memory>

@@ -3,27 +3,27 @@ use Rattle.std.proofs.Common.{◌≡◌, ◌⊎◌, ℕ, List, Option, Some, Non
 use Rattle.std.specs.Prelude.{IfSome, IsSomeAnd}
 use Rattle.dsde_input_records.specs.Records.{Records}
 use Rattle.dsde_io.specs.Held.{Bytes}
-use Rattle.dsde_check_rules.specs.Right.{IsRight}
-use Rattle.dsde_sim_events.specs.declared.event.Finish.{Finish}
-use Rattle.dsde_sim_events.specs.declared.event.Finish.TheVariants as how
-use Rattle.dsde_run_meaning.specs.Run.{Run}
-use Rattle.dsde_run.specs.Run.{Running, records_in, run}
+use Rattle.dsde_language.specs.Right.{IsRight}
+use Rattle.dsde_sim_tree.specs.declared.event.Finish.{Finish}
+use Rattle.dsde_sim_tree.specs.declared.event.Finish.TheVariants as how
+use Rattle.dsde_sound_runs.specs.given.run_meaning.Run.{Run}
+use Rattle.dsde_run_free.specs.given.run.Run.{Running, records_in, run}
 use Rattle.dsde_run_free.specs.Free.{free_run}
 use Rattle.dsde_sound_runs.specs.Ends.{HasEnd, InputsArrive, RunsEnd}
-use Rattle.dsde_sound_orders.specs.Ends.{DrawnRunsEnd}
+use Rattle.dsde_cli.specs.Ends.{DrawnRunsEnd}
 use Rattle.dsde_cli_status.specs.declared.status.Status.{Status}
 use Rattle.dsde_cli_status.specs.declared.status.Status.TheVariants.{Done, Refused, Usage, BadInput, ModelFault, Unread, Unwritten, Memory, BadSave}
 use Rattle.dsde_cli_status.specs.declared.status.What.TheVariants as what
 use Rattle.dsde_cli_status.specs.declared.status.Why.TheVariants as why
-use Rattle.dsde_sim_turns.specs.Engine.{Engine}
-use Rattle.dsde_run_resume.specs.Resumed.{resumed}
+use Rattle.dsde_sim_tree.specs.Engine.{Engine}
+use Rattle.dsde_run_free.specs.given.run.Resumed.{resumed}
 use Rattle.dsde_cli_status.specs.declared.status.SaveFault.TheVariants as save
-use Rattle.dsde_cli_run.specs.Back.{IsMade, SaysBack}
-use Rattle.dsde_cli_run.specs.Outcome.{SaysEnd, status_of}
-use Rattle.dsde_cli_run.specs.Saved.{IsOfStored}
+use Rattle.dsde_cli.specs.Back.{IsMade, SaysBack}
+use Rattle.dsde_cli.specs.RunOutcome.{SaysEnd, status_of}
+use Rattle.dsde_cli.specs.Saved.{IsOfStored}
 use Rattle.dsde_cli.specs.Causes.{Holds, IsOfAnswer, NoModel, Runs}
 use Rattle.dsde_cli.specs.Outcome.{Completes, CompletesBack, CompletesCheck}
-use Rattle.dsde_cli_verdict.specs.Verdict.{Refuses}
+use Rattle.dsde_cli_status.specs.given.cli_verdict.Verdict.{Refuses}
 use Rattle.dsde_cli.proofs.Loads.{IsCut}
 
 -- what is accepted is right

@@ -3,23 +3,23 @@ use Rattle.std.proofs.Common.{◌≡◌, ℕ, ◌≤◌, ◌⊎◌, List, [], �
 use Rattle.std.specs.Prelude.{Option, Some, None, IfSome}
 use Rattle.dsde_io.specs.Bytes.{Gains}
 use Rattle.dsde_io.specs.Held.{Bytes}
-use Rattle.dsde_sim_events.specs.declared.event.Finish.{Finish}
-use Rattle.dsde_sim_events.specs.declared.event.Finish.TheVariants as how
+use Rattle.dsde_sim_tree.specs.declared.event.Finish.{Finish}
+use Rattle.dsde_sim_tree.specs.declared.event.Finish.TheVariants as how
 use Rattle.dsde_sound_runs.specs.Ends.{InputsArrive, RunsEnd}
-use Rattle.dsde_run.specs.Run.{Running, run}
+use Rattle.dsde_run_free.specs.given.run.Run.{Running, run}
 use Rattle.dsde_run_big.specs.Model.{big_text}
-use Rattle.dsde_run_count.specs.Counting.{IsOwnEnd}
+use Rattle.dsde_run_free.specs.given.run.Counting.{IsOwnEnd}
 use Rattle.dsde_cli_status.specs.declared.status.Status.{Status}
 use Rattle.dsde_cli_status.specs.declared.status.Status.TheVariants.{Done, Refused, Usage, BadInput, ModelFault, Unread, Unwritten, Memory, BadSave}
 use Rattle.dsde_cli_status.specs.declared.status.What.TheVariants as what
 use Rattle.dsde_cli_status.specs.declared.status.Why.TheVariants as why
-use Rattle.dsde_cli_verdict.specs.declared.refusal.Refusal.{Refusal}
-use Rattle.dsde_cli_verdict.specs.Verdict.{Refuses}
+use Rattle.dsde_cli_status.specs.given.cli_verdict.refusal_Refusal.{Refusal}
+use Rattle.dsde_cli_status.specs.given.cli_verdict.Verdict.{Refuses}
 use Rattle.dsde_cli.specs.Answer.{AnswersFront}
 use Rattle.dsde_cli.specs.Big.{CauseBig, IsOfSummary, Summarizes, big_run}
 use Rattle.dsde_cli.specs.Causes.{NoModel, NoneIn, Runs, RunsSome, Tells}
-use Rattle.dsde_cli_run.specs.Outcome.{SaysEnd, status_of}
-use Rattle.dsde_cli_run.specs.Saved.{IsOfStored}
+use Rattle.dsde_cli.specs.RunOutcome.{SaysEnd, status_of}
+use Rattle.dsde_cli.specs.Saved.{IsOfStored}
 use Rattle.dsde_cli.specs.Outcome.{Completes}
 use Rattle.dsde_cli.proofs.Completing.{cut-memory, run-completes, run-ends}
 use Rattle.dsde_cli.proofs.Loads.{OneVerdict, refusal_tells, run_cut, run_unrefused}

@@ -8,12 +8,12 @@ use Rattle.dsde_cli_status.specs.declared.status.Status.{Status}
 use Rattle.dsde_cli_status.specs.declared.status.Status.TheVariants.{Done, Refused, Usage, BadInput, ModelFault, Unread, Unwritten, Memory, BadSave}
 use Rattle.dsde_cli_status.specs.declared.status.What.TheVariants as what
 use Rattle.dsde_cli_status.specs.declared.status.Why.TheVariants as why
-use Rattle.dsde_cli_run.specs.Back.{CauseBack, IsBeforeBack, IsMade, NoSave, RestoresSome}
-use Rattle.dsde_cli_run.specs.Loads.{Under}
-use Rattle.dsde_cli_run.specs.lemmas.Later.{back-later}
-use Rattle.dsde_cli_run.specs.Outcome.{IsOfRun}
-use Rattle.dsde_cli_run.specs.Saved.{IsOfStored}
-use Rattle.dsde_run.specs.Run.{Running}
+use Rattle.dsde_cli.specs.Back.{CauseBack, IsBeforeBack, IsMade, NoSave, RestoresSome}
+use Rattle.dsde_cli.specs.Loads.{Under}
+use Rattle.dsde_cli.specs.lemmas.Later.{back-later}
+use Rattle.dsde_cli.specs.RunOutcome.{IsOfRun}
+use Rattle.dsde_cli.specs.Saved.{IsOfStored}
+use Rattle.dsde_run_free.specs.given.run.Run.{Running}
 use Rattle.dsde_cli.specs.Causes.{CauseTakenUp, Holds, IsBeforeRun, Runs, RunsSome}
 
 no-save-later : (program : Model) (file : List ℕ) (held : Option Bytes) (ShelfFails Fails : Type 0) (status : Status) → (ShelfFails → Fails) → NoSave program file held ShelfFails status → NoSave program file held Fails status

@@ -4,14 +4,14 @@ use Rattle.std.specs.Prelude.{Option, Some, None, ⊤, IfSome, IfOk, IsSomeAnd}
 use Rattle.std.proofs.lemmas.List.{append-nil}
 use Rattle.dsde_syntax.specs.declared.decl.Model.{Model}
 use Rattle.dsde_input_records.specs.Records.{Records}
-use Rattle.dsde_run_meaning.specs.Run.{Run}
+use Rattle.dsde_sound_runs.specs.given.run_meaning.Run.{Run}
 use Rattle.dsde_io.specs.Held.{Bytes}
-use Rattle.dsde_trace.specs.declared.pick.Pick.{Pick}
-use Rattle.dsde_run.specs.Run.{Running, records_in}
-use Rattle.dsde_cli_verdict.specs.declared.refusal.Refusal.{Refusal}
-use Rattle.dsde_cli_verdict.specs.declared.refusal.ReadModel.{ReadModel}
-use Rattle.dsde_cli_verdict.specs.declared.refusal.ReadModel.TheVariants as read_model
-use Rattle.dsde_cli_verdict.specs.Verdict.{Accepts, Refuses, IsVerdict}
+use Rattle.dsde_cli_status.specs.given.trace.pick_Pick.{Pick}
+use Rattle.dsde_run_free.specs.given.run.Run.{Running, records_in}
+use Rattle.dsde_cli_status.specs.given.cli_verdict.refusal_Refusal.{Refusal}
+use Rattle.dsde_cli_status.specs.given.cli_verdict.refusal_ReadModel.{ReadModel}
+use Rattle.dsde_cli_status.specs.given.cli_verdict.refusal_ReadModel_TheVariants as read_model
+use Rattle.dsde_cli_status.specs.given.cli_verdict.Verdict.{Accepts, Refuses, IsVerdict}
 use Rattle.dsde_cli_status.specs.declared.status.Status.{Status}
 use Rattle.dsde_cli_status.specs.declared.status.Status.TheVariants.{Done, Refused, Usage, BadInput, ModelFault, Unread, Unwritten, Memory, BadSave}
 use Rattle.dsde_cli_status.specs.declared.status.What.TheVariants as what
@@ -20,14 +20,14 @@ use Rattle.dsde_cli.specs.Answer.{Answers}
 use Rattle.dsde_cli.specs.declared.load.Runnable.{Runnable}
 use Rattle.dsde_cli.specs.Loaded.{own_of}
 use Rattle.dsde_cli.specs.Causes.{AcceptsSome, Runs, RunsSome, Holds, HoldsModel, HoldsNone, NoModel, Tells}
-use Rattle.dsde_run_resume.specs.Resumed.{records_for, resumed_on}
-use Rattle.dsde_sim_turns.specs.Engine.{Engine}
+use Rattle.dsde_run_free.specs.given.run.Resumed.{records_for, resumed_on}
+use Rattle.dsde_sim_tree.specs.Engine.{Engine}
 use Rattle.dsde_cli_status.specs.declared.status.SaveFault.{SaveFault}
-use Rattle.dsde_cli_run.specs.Back.{ComesBack, SaysBack, TellsSave}
-use Rattle.dsde_cli_run.specs.Loads.{Has, Under}
-use Rattle.dsde_cli_run.specs.Saved.{Leaves}
-use Rattle.dsde_cli_run.specs.Outcome.{Comes}
-use Rattle.dsde_cli_run.specs.lemmas.Fronts.{front-none}
+use Rattle.dsde_cli.specs.Back.{ComesBack, SaysBack, TellsSave}
+use Rattle.dsde_cli.specs.Loads.{Has, Under}
+use Rattle.dsde_cli.specs.Saved.{Leaves}
+use Rattle.dsde_cli.specs.RunOutcome.{Comes}
+use Rattle.dsde_cli.specs.lemmas.Fronts.{front-none}
 
 -- no text has two verdicts
 abbrev pub OneVerdict : Type 0

@@ -9,15 +9,15 @@ use Rattle.dsde_cli_command.specs.Commands.{BigCommand, CheckCommand, FreeComman
 use Rattle.dsde_cli.specs.Answer.{Answers, AnswersFront}
 use Rattle.dsde_cli.specs.Causes.{Cause, CauseResume}
 use Rattle.dsde_cli_status.specs.declared.status.SaveFault.{SaveFault}
-use Rattle.dsde_run_meaning.specs.Run.{Run}
-use Rattle.dsde_run.specs.Run.{Running, records_in}
-use Rattle.dsde_run_resume.specs.Resumed.{records_for, resumed_on}
-use Rattle.dsde_sim_turns.specs.Engine.{Engine}
-use Rattle.dsde_trace.specs.declared.pick.Pick.{Pick}
-use Rattle.dsde_cli_run.specs.Back.{ComesBack, SaysBack, TellsSave}
-use Rattle.dsde_cli_run.specs.Outcome.{WritesFront, SaysEnd, Comes, ComesOn}
-use Rattle.dsde_cli_run.specs.Saved.{Leaves}
-use Rattle.dsde_cli_run.specs.lemmas.Fronts.{front-none, front-whole}
+use Rattle.dsde_sound_runs.specs.given.run_meaning.Run.{Run}
+use Rattle.dsde_run_free.specs.given.run.Run.{Running, records_in}
+use Rattle.dsde_run_free.specs.given.run.Resumed.{records_for, resumed_on}
+use Rattle.dsde_sim_tree.specs.Engine.{Engine}
+use Rattle.dsde_cli_status.specs.given.trace.pick_Pick.{Pick}
+use Rattle.dsde_cli.specs.Back.{ComesBack, SaysBack, TellsSave}
+use Rattle.dsde_cli.specs.RunOutcome.{WritesFront, SaysEnd, Comes, ComesOn}
+use Rattle.dsde_cli.specs.Saved.{Leaves}
+use Rattle.dsde_cli.specs.lemmas.Fronts.{front-none, front-whole}
 use Rattle.dsde_cli_status.specs.declared.status.SaveFault.TheVariants as save
 use Rattle.dsde_cli_status.specs.declared.status.Status.{Status}
 use Rattle.dsde_cli_status.specs.declared.status.Status.TheVariants.{Done, Refused, Usage, BadInput, ModelFault, Unread, Unwritten, Memory, BadSave}

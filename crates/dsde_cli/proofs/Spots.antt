@@ -9,9 +9,9 @@ use Rattle.dsde_syntax.specs.declared.decl.Model.{Model}
 use Rattle.dsde_syntax.specs.declared.token.Token.{Token}
 use Rattle.dsde_lexer.specs.Lines.{place_of}
 use Rattle.dsde_lexer.specs.Tokens.{tokens}
-use Rattle.dsde_run_meaning.specs.Run.{Spots}
-use Rattle.dsde_run.specs.Run.{Running, running}
-use Rattle.dsde_cli_verdict.specs.Verdict.{Accepts}
+use Rattle.dsde_sound_runs.specs.given.run_meaning.Run.{Spots}
+use Rattle.dsde_run_free.specs.given.run.Run.{Running, running}
+use Rattle.dsde_cli_status.specs.given.cli_verdict.Verdict.{Accepts}
 use Rattle.dsde_cli.specs.Causes.{Runs, spots_in, spots_of}
 
 pub same_spots : (bytes : List ℕ) (cut : List Token) (spots : Spots) → tokens bytes ≡ Ok cut → length spots ≡ length cut + 1 →

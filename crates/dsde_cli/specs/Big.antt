@@ -1,13 +1,13 @@
 -- What a run of the large model writes, and how it ends.
 use Rattle.std.specs.Prelude.{ℕ, ◌≡◌, ⊤, List, [], ◌++◌, Option, Some}
-use Rattle.dsde_run_meaning.specs.Run.{Run}
-use Rattle.dsde_run.specs.Run.{Running, records_in, run}
+use Rattle.dsde_sound_runs.specs.given.run_meaning.Run.{Run}
+use Rattle.dsde_run_free.specs.given.run.Run.{Running, records_in, run}
 use Rattle.dsde_run_big.specs.Model.{big_text}
 use Rattle.dsde_cli_command.specs.Commands.{AsksBig}
 use Rattle.dsde_cli_status.specs.declared.status.Status.{Status}
 use Rattle.dsde_cli_status.specs.declared.status.Status.TheVariants.{Done, Refused, ModelFault, Unwritten, Memory}
 use Rattle.dsde_cli_status.specs.declared.status.What.TheVariants as what
-use Rattle.dsde_cli_verdict.specs.Verdict.{Refuses}
+use Rattle.dsde_cli_status.specs.given.cli_verdict.Verdict.{Refuses}
 use Rattle.dsde_cli.specs.Answer.{AnswersFront}
 use Rattle.dsde_cli.specs.Causes.{Runs, RunsSome}
 

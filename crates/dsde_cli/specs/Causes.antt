@@ -6,16 +6,16 @@ use Rattle.dsde_syntax.specs.declared.token.Token.{Token}
 use Rattle.dsde_lexer.specs.declared.lexer.LexError.{LexError}
 use Rattle.dsde_lexer.specs.Lines.{place_of}
 use Rattle.dsde_lexer.specs.Tokens.{tokens}
-use Rattle.dsde_run_meaning.specs.Run.{Spots}
-use Rattle.dsde_run.specs.Run.{Running}
+use Rattle.dsde_sound_runs.specs.given.run_meaning.Run.{Spots}
+use Rattle.dsde_run_free.specs.given.run.Run.{Running}
 use Rattle.dsde_io.specs.declared.shelf.ShelfEnd.{ShelfEnd}
 use Rattle.dsde_io.specs.declared.shelf.ShelfEnd.TheVariants as shelf_end
 use Rattle.dsde_io.specs.Held.{Bytes}
-use Rattle.dsde_cli_verdict.specs.declared.refusal.Refusal.{Refusal}
-use Rattle.dsde_cli_verdict.specs.Verdict.{Accepts, Refuses}
-use Rattle.dsde_cli_run.specs.Back.{CauseBack, IsBeforeBack}
-use Rattle.dsde_cli_run.specs.Loads.{CauseUnread, Has, Under}
-use Rattle.dsde_cli_run.specs.Saved.{IsOfStored}
+use Rattle.dsde_cli_status.specs.given.cli_verdict.refusal_Refusal.{Refusal}
+use Rattle.dsde_cli_status.specs.given.cli_verdict.Verdict.{Accepts, Refuses}
+use Rattle.dsde_cli.specs.Back.{CauseBack, IsBeforeBack}
+use Rattle.dsde_cli.specs.Loads.{CauseUnread, Has, Under}
+use Rattle.dsde_cli.specs.Saved.{IsOfStored}
 use Rattle.dsde_cli_status.specs.declared.status.Status.{Status}
 use Rattle.dsde_cli_status.specs.declared.status.Status.TheVariants.{Done, Refused, Usage, Unread, Unwritten, Memory}
 use Rattle.dsde_cli_status.specs.declared.status.What.TheVariants as what

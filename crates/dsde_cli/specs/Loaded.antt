@@ -2,16 +2,16 @@
 use Rattle.std.specs.Prelude.{ℕ, List, Option, Some, None}
 use Rattle.dsde_io.specs.Held.{Bytes}
 use Rattle.dsde_input_records.specs.Records.{Records}
-use Rattle.dsde_run_meaning.specs.Run.{Run}
-use Rattle.dsde_sim_turns.specs.Engine.{Engine}
-use Rattle.dsde_run.specs.Run.{Running, running}
+use Rattle.dsde_sound_runs.specs.given.run_meaning.Run.{Run}
+use Rattle.dsde_sim_tree.specs.Engine.{Engine}
+use Rattle.dsde_run_free.specs.given.run.Run.{Running, running}
 use Rattle.dsde_cli.specs.declared.load.Runnable.{Runnable}
 use Rattle.dsde_cli.specs.Causes.{Holds}
 use Rattle.dsde_cli_command.specs.Commands.{Asked, AsksFree, AsksResume, Task, command_of, checks, runs, resumes, counts, draws}
-use Rattle.dsde_cli_run.specs.Asked.{drawn_on, pick_of, tells_on}
-use Rattle.dsde_cli_run.specs.Back.{Restores}
-use Rattle.dsde_cli_run.specs.Loads.{Has}
-use Rattle.dsde_trace.specs.declared.pick.Pick.{Pick}
+use Rattle.dsde_cli.specs.Asked.{drawn_on, pick_of, tells_on}
+use Rattle.dsde_cli.specs.Back.{Restores}
+use Rattle.dsde_cli.specs.Loads.{Has}
+use Rattle.dsde_cli_status.specs.given.trace.pick_Pick.{Pick}
 
 -- what runs, of what was loaded
 abbrev pub own_of : Runnable → Running

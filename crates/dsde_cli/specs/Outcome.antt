@@ -1,12 +1,12 @@
 -- How calls end whose models are accepted, where no device fails.
 use Rattle.std.specs.Prelude.{ℕ, ◌≡◌, ◌⊎◌, List, Option, Some, IfSome}
 use Rattle.dsde_input_records.specs.Records.{Records}
-use Rattle.dsde_sim_events.specs.declared.event.Finish.{Finish}
-use Rattle.dsde_sim_turns.specs.Engine.{Engine}
-use Rattle.dsde_run_meaning.specs.Run.{Run}
-use Rattle.dsde_run.specs.Run.{Running, records_in}
-use Rattle.dsde_run_resume.specs.Resumed.{HasFew, resumed}
-use Rattle.dsde_cli_run.specs.Outcome.{status_of}
+use Rattle.dsde_sim_tree.specs.declared.event.Finish.{Finish}
+use Rattle.dsde_sim_tree.specs.Engine.{Engine}
+use Rattle.dsde_sound_runs.specs.given.run_meaning.Run.{Run}
+use Rattle.dsde_run_free.specs.given.run.Run.{Running, records_in}
+use Rattle.dsde_run_free.specs.given.run.Resumed.{HasFew, resumed}
+use Rattle.dsde_cli.specs.RunOutcome.{status_of}
 use Rattle.dsde_cli_status.specs.declared.status.SaveFault.TheVariants.{FewRecords}
 use Rattle.dsde_cli_status.specs.declared.status.Status.{Status}
 use Rattle.dsde_cli_status.specs.declared.status.Status.TheVariants.{Done, Memory, BadSave}

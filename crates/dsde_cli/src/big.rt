@@ -3,27 +3,26 @@
 
 ghost use Rattle.std.specs.Prelude.{◌≡◌, ◌≤◌, ℕ, [], Some, IfOk, IfErr, IfSome};
 ghost use Rattle.dsde_io.specs.Fault.{Rose};
-ghost use Rattle.dsde_check_rules.specs.Right.{IsRight};
-ghost use Rattle.dsde_run.specs.Run.{Running, run};
+ghost use Rattle.dsde_language.specs.Right.{IsRight};
+ghost use Rattle.dsde_run_free.specs.given.run.Run.{Running, run};
 ghost use Rattle.dsde_run_big.specs.Model.{big_text};
-ghost use Rattle.dsde_run_count.specs.Counting.{IsOwnEnd, summary_text};
+ghost use Rattle.dsde_run_free.specs.given.run.Counting.{IsOwnEnd, summary_text};
 ghost use Rattle.dsde_cli.specs.Big.{CauseBig, Summarizes, IsOfSummary, big_run};
 ghost use Rattle.dsde_cli.specs.Causes.{IsBeforeRun, NoneIn, Runs, Tells};
 ghost use Rattle.dsde_cli.specs.Loaded.{own_of};
 ghost use Rattle.dsde_cli.specs.Outcome.{Completes};
-ghost use Rattle.dsde_cli_run.specs.Outcome.{SaysEnd};
-ghost use Rattle.dsde_cli_verdict.specs.declared.refusal.Refusal.{Refusal};
-ghost use Rattle.dsde_cli_verdict.specs.Verdict.{Refuses};
+ghost use Rattle.dsde_cli.specs.RunOutcome.{SaysEnd};
+ghost use Rattle.dsde_cli_status.specs.given.cli_verdict.refusal_Refusal.{Refusal};
+ghost use Rattle.dsde_cli_status.specs.given.cli_verdict.Verdict.{Refuses};
 
 use crate::load::{Runnable, read_runnable};
-use dsde_cli_run::status_by;
+use crate::status_by;
+use dsde_cli_status::given::cli_verdict::one_verdict;
+use dsde_cli_status::given::program::resolve;
 use dsde_cli_status::{Status, What};
-use dsde_cli_verdict::one_verdict;
 use dsde_io::{Sink, SinkEnd, write_all};
-use dsde_program::resolve;
-use dsde_run::{Running, big_model};
 use dsde_run_big::large_models_are_short;
-use dsde_run_count::{Summarized, summarize};
+use dsde_run_free::given::run::{Running, Summarized, big_model, summarize};
 use dsde_sound_runs::{inputs_arrive, runs_end};
 use std::alloc::Global;
 

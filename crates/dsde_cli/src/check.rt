@@ -6,13 +6,13 @@ ghost use Rattle.dsde_syntax.specs.declared.decl.Model.{Model};
 ghost use Rattle.dsde_cli.specs.Answer.{Answers, answer_of};
 ghost use Rattle.dsde_cli.specs.Causes.{CauseCheck, HoldsModel, HoldsNoModel, IsBeforeRun, IsOfAnswer, Tells};
 ghost use Rattle.dsde_cli.specs.Outcome.{CompletesCheck};
-ghost use Rattle.dsde_cli_run.specs.Loads.{Has};
-ghost use Rattle.dsde_cli_verdict.specs.declared.refusal.Refusal.{Refusal};
-ghost use Rattle.dsde_cli_verdict.specs.Verdict.{Refuses};
+ghost use Rattle.dsde_cli.specs.Loads.{Has};
+ghost use Rattle.dsde_cli_status.specs.given.cli_verdict.refusal_Refusal.{Refusal};
+ghost use Rattle.dsde_cli_status.specs.given.cli_verdict.Verdict.{Refuses};
 
 use crate::load::load_accepted;
+use dsde_cli_status::given::cli_verdict::one_verdict;
 use dsde_cli_status::{Status, What};
-use dsde_cli_verdict::one_verdict;
 use dsde_io::{Shelf, Sink, SinkEnd, write_all};
 use dsde_syntax::{Memory, Model, print_model};
 use dsde_values::Text;

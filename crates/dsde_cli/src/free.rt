@@ -2,27 +2,26 @@
 
 ghost use Rattle.std.specs.Prelude.{◌≡◌, ◌≤◌, ℕ, [], None, IfSome};
 ghost use Rattle.dsde_io.specs.Fault.{Rose};
-ghost use Rattle.dsde_check_rules.specs.Right.{IsRight};
-ghost use Rattle.dsde_run.specs.Reading.{Told, TakesWanted};
-ghost use Rattle.dsde_run.specs.Run.{Running, records_in};
-ghost use Rattle.dsde_trace.specs.declared.pick.Pick.TheVariants.{All};
+ghost use Rattle.dsde_language.specs.Right.{IsRight};
+ghost use Rattle.dsde_run_free.specs.given.run.Reading.{Told, TakesWanted};
+ghost use Rattle.dsde_run_free.specs.given.run.Run.{Running, records_in};
+ghost use Rattle.dsde_cli_status.specs.given.trace.pick_Pick_TheVariants.{All};
 ghost use Rattle.dsde_cli.specs.Causes.{Cause, Holds, HoldsNone, IsBeforeRun, Tells};
-ghost use Rattle.dsde_cli_run.specs.Asked.{drawn_on};
-ghost use Rattle.dsde_cli_run.specs.Loads.{Has};
-ghost use Rattle.dsde_cli_run.specs.Outcome.{Comes, IsOfRun, SaysEnd};
-ghost use Rattle.dsde_cli_verdict.specs.declared.refusal.Refusal.{Refusal};
-ghost use Rattle.dsde_cli_verdict.specs.Verdict.{Refuses};
+ghost use Rattle.dsde_cli.specs.Asked.{drawn_on};
+ghost use Rattle.dsde_cli.specs.Loads.{Has};
+ghost use Rattle.dsde_cli.specs.RunOutcome.{Comes, IsOfRun, SaysEnd};
+ghost use Rattle.dsde_cli_status.specs.given.cli_verdict.refusal_Refusal.{Refusal};
+ghost use Rattle.dsde_cli_status.specs.given.cli_verdict.Verdict.{Refuses};
 ghost use Rattle.dsde_cli.specs.Loaded.{own_of};
 ghost use Rattle.dsde_cli.specs.Outcome.{Completes};
 
 use crate::load::{Runnable, load_runnable};
-use dsde_cli_run::run_drawn;
+use crate::{drawn_runs_end, run_drawn};
 use dsde_cli_status::Status;
-use dsde_cli_verdict::one_verdict;
+use dsde_cli_status::given::cli_verdict::one_verdict;
+use dsde_cli_status::given::program::resolve;
 use dsde_io::{Shelf, Sink, Source};
-use dsde_program::resolve;
-use dsde_run::Running;
-use dsde_sound_orders::drawn_runs_end;
+use dsde_run_free::given::run::Running;
 use dsde_sound_runs::inputs_arrive;
 use std::alloc::Global;
 

@@ -1,8 +1,8 @@
 //! What two commands come to, one after the other. The law is a call that does nothing.
 
-ghost use Rattle.dsde_cli.specs.Cut.{CutLaw};
+ghost use Rattle.dsde_cli.specs.CliCut.{CutLaw};
 
-use dsde_run_joined::stored_runs_are_taken_up;
+use crate::stored_runs_are_taken_up;
 
 /// A law: `run MODEL --turns N --save FILE` and behind it `resume MODEL FILE --turns M` on the same input, with the
 /// same selection of lines, write together what `run MODEL --turns K` writes, for K = N + M, up to the last line of

@@ -2,16 +2,16 @@
 
 ghost use Rattle.std.specs.Prelude.{◌≡◌, ◌≤◌, Some, IfOk, IfErr, IfSome};
 ghost use Rattle.dsde_io.specs.Fault.{Rose};
-ghost use Rattle.dsde_check_rules.specs.Right.{IsRight};
-ghost use Rattle.dsde_run.specs.Run.{Running};
+ghost use Rattle.dsde_language.specs.Right.{IsRight};
+ghost use Rattle.dsde_run_free.specs.given.run.Run.{Running};
 ghost use Rattle.dsde_syntax.specs.declared.decl.Model.{Model};
-ghost use Rattle.dsde_cli_verdict.specs.Verdict.{Accepts, Refuses};
+ghost use Rattle.dsde_cli_status.specs.given.cli_verdict.Verdict.{Accepts, Refuses};
 ghost use Rattle.dsde_cli.specs.Causes.{AcceptsSome, Holds, HoldsModel, NoModel, NoneIn, Runs, RunsSome, spots_of, unread_model};
-ghost use Rattle.dsde_cli_run.specs.Loads.{Under};
+ghost use Rattle.dsde_cli.specs.Loads.{Under};
 ghost use Rattle.dsde_cli.specs.Loaded.{own_of};
 
+use dsde_cli_status::given::cli_verdict::{ReadModel, read_model};
 use dsde_cli_status::{Status, What, Why};
-use dsde_cli_verdict::{ReadModel, read_model};
 use dsde_io::{Shelf, ShelfEnd};
 use dsde_lexer::{Places, lex};
 use dsde_syntax::Model;

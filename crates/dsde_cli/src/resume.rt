@@ -3,32 +3,32 @@
 
 ghost use Rattle.std.specs.Prelude.{◌≡◌, ◌≤◌, ℕ, [], IfSome};
 ghost use Rattle.dsde_io.specs.Fault.{Rose};
-ghost use Rattle.dsde_check_rules.specs.Right.{IsRight};
-ghost use Rattle.dsde_run.specs.Reading.{Told, TakesWanted};
-ghost use Rattle.dsde_run.specs.Run.{Running};
-ghost use Rattle.dsde_run_resume.specs.Resumed.{records_for, resumed, resumed_on};
-ghost use Rattle.dsde_run_saved.specs.Saved.{image_left};
-ghost use Rattle.dsde_sim_turns.specs.Engine.{Engine};
+ghost use Rattle.dsde_language.specs.Right.{IsRight};
+ghost use Rattle.dsde_run_free.specs.given.run.Reading.{Told, TakesWanted};
+ghost use Rattle.dsde_run_free.specs.given.run.Run.{Running};
+ghost use Rattle.dsde_run_free.specs.given.run.Resumed.{records_for, resumed, resumed_on};
+ghost use Rattle.dsde_run_free.specs.given.run.SavedRuns.{image_left};
+ghost use Rattle.dsde_sim_tree.specs.Engine.{Engine};
 ghost use Rattle.dsde_cli.specs.Causes.{CauseResume, Holds, HoldsNone, IsBeforeRun, Tells};
 ghost use Rattle.dsde_cli_command.specs.Commands.{run_asked};
-ghost use Rattle.dsde_cli_run.specs.Asked.{pick_of};
-ghost use Rattle.dsde_cli_run.specs.Back.{CauseBack, ComesBack, IsBeforeBack, IsMade, IsRefusedFor, NoneSaved, Restores, SaysBack, TellsSave};
-ghost use Rattle.dsde_cli_run.specs.Loads.{Has};
-ghost use Rattle.dsde_cli_run.specs.Saved.{Leaves, Stores};
+ghost use Rattle.dsde_cli.specs.Asked.{pick_of};
+ghost use Rattle.dsde_cli.specs.Back.{CauseBack, ComesBack, IsBeforeBack, IsMade, IsRefusedFor, NoneSaved, Restores, SaysBack, TellsSave};
+ghost use Rattle.dsde_cli.specs.Loads.{Has};
+ghost use Rattle.dsde_cli.specs.Saved.{Leaves, Stores};
 ghost use Rattle.dsde_cli_status.specs.declared.status.SaveFault.{SaveFault};
-ghost use Rattle.dsde_cli_verdict.specs.declared.refusal.Refusal.{Refusal};
-ghost use Rattle.dsde_cli_verdict.specs.Verdict.{Refuses};
+ghost use Rattle.dsde_cli_status.specs.given.cli_verdict.refusal_Refusal.{Refusal};
+ghost use Rattle.dsde_cli_status.specs.given.cli_verdict.Verdict.{Refuses};
 ghost use Rattle.dsde_cli.specs.Loaded.{own_of};
 ghost use Rattle.dsde_cli.specs.Outcome.{CompletesBack};
 
 use crate::load::{Runnable, load_runnable};
+use crate::resume_and_store;
 use dsde_cli_command::RunWords;
-use dsde_cli_run::resume_and_store;
+use dsde_cli_status::given::cli_verdict::one_verdict;
+use dsde_cli_status::given::program::resolve;
 use dsde_cli_status::{SaveFault, Status};
-use dsde_cli_verdict::one_verdict;
 use dsde_io::{Shelf, Sink, Source};
-use dsde_program::resolve;
-use dsde_run::Running;
+use dsde_run_free::given::run::Running;
 use std::alloc::Global;
 
 /// Takes a run of the model of a name up again with the image under another, as the words ask for, and stores its

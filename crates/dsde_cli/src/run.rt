@@ -3,29 +3,29 @@
 
 ghost use Rattle.std.specs.Prelude.{◌≡◌, ◌≤◌, ℕ, [], IfSome};
 ghost use Rattle.dsde_io.specs.Fault.{Rose};
-ghost use Rattle.dsde_check_rules.specs.Right.{IsRight};
-ghost use Rattle.dsde_run.specs.Reading.{Told, TakesWanted};
-ghost use Rattle.dsde_run.specs.Run.{Running, records_in};
-ghost use Rattle.dsde_run_saved.specs.Saved.{image_left};
+ghost use Rattle.dsde_language.specs.Right.{IsRight};
+ghost use Rattle.dsde_run_free.specs.given.run.Reading.{Told, TakesWanted};
+ghost use Rattle.dsde_run_free.specs.given.run.Run.{Running, records_in};
+ghost use Rattle.dsde_run_free.specs.given.run.SavedRuns.{image_left};
 ghost use Rattle.dsde_cli.specs.Causes.{Cause, Holds, HoldsNone, IsBeforeRun, Tells};
 ghost use Rattle.dsde_cli_command.specs.Commands.{run_asked};
-ghost use Rattle.dsde_cli_run.specs.Asked.{pick_of, tells_on};
-ghost use Rattle.dsde_cli_run.specs.Loads.{Has};
-ghost use Rattle.dsde_cli_run.specs.Outcome.{Comes, SaysEnd};
-ghost use Rattle.dsde_cli_run.specs.Saved.{IsOfStored, Leaves, Stores};
-ghost use Rattle.dsde_cli_verdict.specs.declared.refusal.Refusal.{Refusal};
-ghost use Rattle.dsde_cli_verdict.specs.Verdict.{Refuses};
+ghost use Rattle.dsde_cli.specs.Asked.{pick_of, tells_on};
+ghost use Rattle.dsde_cli.specs.Loads.{Has};
+ghost use Rattle.dsde_cli.specs.RunOutcome.{Comes, SaysEnd};
+ghost use Rattle.dsde_cli.specs.Saved.{IsOfStored, Leaves, Stores};
+ghost use Rattle.dsde_cli_status.specs.given.cli_verdict.refusal_Refusal.{Refusal};
+ghost use Rattle.dsde_cli_status.specs.given.cli_verdict.Verdict.{Refuses};
 ghost use Rattle.dsde_cli.specs.Loaded.{own_of};
 ghost use Rattle.dsde_cli.specs.Outcome.{Completes};
 
 use crate::load::{Runnable, load_runnable};
+use crate::run_and_store;
 use dsde_cli_command::RunWords;
-use dsde_cli_run::run_and_store;
 use dsde_cli_status::Status;
-use dsde_cli_verdict::one_verdict;
+use dsde_cli_status::given::cli_verdict::one_verdict;
+use dsde_cli_status::given::program::resolve;
 use dsde_io::{Shelf, Sink, Source};
-use dsde_program::resolve;
-use dsde_run::Running;
+use dsde_run_free::given::run::Running;
 use dsde_sound_runs::{inputs_arrive, runs_end};
 use std::alloc::Global;
 

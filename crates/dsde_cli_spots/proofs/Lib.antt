@@ -1,1 +1,14 @@
+mod Blocks
+mod Decls
+mod Ending
+mod Exprs
+mod Items
+mod Means
+mod Opens
+mod Operators
+mod Parts
 mod Places
+mod Runs
+mod Spans
+mod Steps
+mod Systems

@@ -9,9 +9,9 @@ use Rattle.dsde_syntax.specs.declared.decl.Model.{Model}
 use Rattle.dsde_syntax.specs.declared.token.Token.{Token}
 use Rattle.dsde_syntax.specs.Grammar.{tokens_of}
 use Rattle.dsde_lexer.specs.Lines.{line_of, column_of, offset_of, place_of, ends_line, is_in_line}
-use Rattle.dsde_sim_events.specs.declared.fault.Fault.{Fault}
+use Rattle.dsde_sim_tree.specs.declared.fault.Fault.{Fault}
 use Rattle.dsde_run_meaning.specs.Run.{spot_at}
-use Rattle.dsde_run_spots.specs.Spotted as runs
+use Rattle.dsde_cli_spots.specs.SpottedRuns as runs
 use Rattle.dsde_cli_verdict.specs.declared.refusal.Refusal.TheVariants as refusal
 use Rattle.dsde_cli_verdict.specs.Verdict.{place_at, toks_of}
 use Rattle.dsde_cli_spots.specs.Spotted.{FaultsAreAtTokens, IsLine, RefusalsHaveLines, spots_of}

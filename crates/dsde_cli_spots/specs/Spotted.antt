@@ -6,8 +6,8 @@ use Rattle.dsde_syntax.specs.declared.token.Token.{Token}
 use Rattle.dsde_lexer.specs.Lines.{place_of}
 use Rattle.dsde_lexer.specs.Tokens.{tokens}
 use Rattle.dsde_input_records.specs.Records.{Records}
-use Rattle.dsde_sim_events.specs.declared.event.Finish.TheVariants as how
-use Rattle.dsde_sim_events.specs.declared.fault.Fault.{Fault}
+use Rattle.dsde_sim_tree.specs.declared.event.Finish.TheVariants as how
+use Rattle.dsde_sim_tree.specs.declared.fault.Fault.{Fault}
 use Rattle.dsde_system.specs.Program.{system}
 use Rattle.dsde_run_meaning.specs.Run.{Spots, run}
 use Rattle.dsde_cli_verdict.specs.declared.refusal.Refusal.{Refusal}

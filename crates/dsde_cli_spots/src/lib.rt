@@ -1,7 +1,11 @@
-//! The lines and columns that notes tell are those of the text, so none says `0:0`. Laws over
-//! definitions; no code.
+//! A fault in which a run ends is told at the line and the column of a token of the model's text.
+//! Laws over definitions; no code.
 #![tactic(auto)]
 
-mod laws;
+mod model_laws;
+mod run_laws;
+mod sound_laws;
 
-pub use laws::{faults_are_told_at_tokens, refusals_have_lines};
+pub use model_laws::{faults_are_told_at_tokens, refusals_have_lines};
+pub use run_laws::faults_are_at_tokens;
+pub use sound_laws::faults_are_placed;

@@ -1,8 +1,8 @@
 -- What the program tells of how it ended: its exit status, and one line on standard error.
 use Rattle.std.specs.Prelude.{◌≡◌, ℕ, ◌⊎◌, List, [], ◌++◌, take, Option, Some, codes, decimal}
 use Rattle.dsde_io.specs.Bytes.{Gains, GainsFront}
-use Rattle.dsde_check_rules.specs.declared.wrong.WrongKind.{WrongKind}
-use Rattle.dsde_check_rules.specs.declared.wrong.WrongKind.TheVariants as wrong
+use Rattle.dsde_language.specs.declared.wrong.WrongKind.{WrongKind}
+use Rattle.dsde_language.specs.declared.wrong.WrongKind.TheVariants as wrong
 use Rattle.dsde_trace.specs.Text.{input_text, fault_text}
 use Rattle.dsde_values.specs.Path.{path_text}
 use Rattle.dsde_cli_verdict.specs.declared.refusal.Refusal.{Refusal}

@@ -1,6 +1,7 @@
 //! How the commands of the program end: the status, its exit number, and its line on standard error.
 #![tactic(auto)]
 
+pub mod given;
 mod note;
 mod status;
 

@@ -6,11 +6,11 @@ ghost use Rattle.dsde_trace.specs.Text.{fault_text, input_text};
 ghost use Rattle.dsde_cli_status.specs.Note.{Noted, WritesNoteFront, note_of, refusal_text, save_text, usage_text, what_text, why_text, wrong_text};
 
 use crate::{SaveFault, Status, What, Why};
-use dsde_check_rules::WrongKind;
 use dsde_cli_verdict::Refusal;
 use dsde_io::{Sink, SinkEnd, write_all};
+use dsde_language::WrongKind;
 use dsde_lists::append_decimal;
-use dsde_sim_events::{Fault, InputKind};
+use dsde_sim_tree::{Fault, InputKind};
 use dsde_trace::{input_text, write_fault};
 use dsde_values::{Memory, Text, write_path};
 use std::alloc::Global;

@@ -1,7 +1,7 @@
 //! How a call ends.
 
 use dsde_cli_verdict::Refusal;
-use dsde_sim_events::{Fault, InputKind};
+use dsde_sim_tree::{Fault, InputKind};
 use dsde_values::Path;
 
 /// How a command ends.

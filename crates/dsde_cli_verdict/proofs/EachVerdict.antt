@@ -17,8 +17,8 @@ use Rattle.dsde_parser_grammar.specs.Begins.{IsGrammatical, IsFirstWrong}
 use Rattle.dsde_parser_grammar.specs.Steps.{start, stop}
 use Rattle.dsde_parser.specs.declared.depth.Open.{Open}
 use Rattle.dsde_parser.specs.Depth.{open_after, IsWithin, IsShallow, IsFirstDeep}
-use Rattle.dsde_check_rules.specs.declared.wrong.Wrong.{Wrong}
-use Rattle.dsde_check_rules.specs.Rules.{first_wrong}
+use Rattle.dsde_language.specs.declared.wrong.Wrong.{Wrong}
+use Rattle.dsde_language.specs.Rules.{first_wrong}
 use Rattle.dsde_cli_verdict.specs.declared.refusal.Refusal.{Refusal}
 use Rattle.dsde_cli_verdict.specs.declared.refusal.Refusal.TheVariants as refusal
 use Rattle.dsde_cli_verdict.specs.declared.refusal.ReadModel.{ReadModel}

@@ -11,8 +11,8 @@ use Rattle.dsde_lexer.specs.Tokens.{tokens}
 use Rattle.dsde_parser_expressions.specs.declared.parser.ParseError.TheVariants as parse_error
 use Rattle.dsde_parser.specs.Depth.{IsShallow}
 use Rattle.dsde_parser.specs.Refusal.{IsRefused}
-use Rattle.dsde_check_rules.specs.declared.wrong.WrongKind.{WrongKind}
-use Rattle.dsde_check_rules.specs.Rules.{first_wrong}
+use Rattle.dsde_language.specs.declared.wrong.WrongKind.{WrongKind}
+use Rattle.dsde_language.specs.Rules.{first_wrong}
 use Rattle.dsde_cli_verdict.specs.declared.refusal.Refusal.{Refusal}
 use Rattle.dsde_cli_verdict.specs.declared.refusal.Refusal.TheVariants as refusal
 use Rattle.dsde_cli_verdict.specs.declared.refusal.ReadModel.{ReadModel}

@@ -1,6 +1,6 @@
 //! Why a text is refused.
 
-use dsde_check_rules::WrongKind;
+use dsde_language::WrongKind;
 use dsde_lists::Memory;
 
 /// Why a model is refused.

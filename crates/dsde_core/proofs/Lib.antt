@@ -1,3 +1,7 @@
+mod EngineResting
+mod EngineTurning
+mod Living
+mod Phases
+mod Planted
 mod Resting
 mod Starting
-mod Turning

@@ -1,46 +1,44 @@
--- An engine between two turns.
-use Rattle.std.proofs.Common.{◌≡◌, ◌∙◌, ℕ, ◌≤◌, min, Bool, true, false, Option, Some, None, IfSome, is_some, refl, sym, ap, arith}
+-- A flat state between turns.
+use Rattle.std.proofs.Common.{◌≡◌, ◌∙◌, ℕ, ◌+◌, ◌*◌, ◌≤◌, length, Option, sym, ap, subst, arith}
+use Rattle.std.specs.FinMap as map
 use Rattle.dsde_syntax.specs.declared.decl.Model.{Model}
-use Rattle.dsde_values.specs.declared.arrival.Arrival.{Arrival}
-use Rattle.dsde_values.specs.declared.when.When.{When}
-use Rattle.dsde_values.specs.declared.when.When.TheVariants.{At}
-use Rattle.dsde_declared.specs.declared.ids.ModelId.{ModelId}
-use Rattle.dsde_formalism.specs.System.{Chosen}
+use Rattle.std.specs.Option.{option_map}
+use Rattle.dsde_bank.specs.declared.handle.Handle.{Handle}
+use Rattle.dsde_routes_wiring.specs.declared.wiring.Wiring.{Wiring}
+use Rattle.dsde_queue.specs.Queue.{first_of, time_of, Queue}
 use Rattle.dsde_sim_tree.specs.declared.sim.Sim.{Sim}
-use Rattle.dsde_sim_tree.specs.Tree.{args_of, model_of}
-use Rattle.dsde_sim_turns.specs.Turn.{turn_time}
-use Rattle.dsde_sim_working.specs.Working.{StandsAt, StandsIf}
-use Rattle.dsde_core_flat.specs.Scheduled.{when_of}
-use Rattle.dsde_core_steps.specs.declared.flat.Flat.{Flat}
-use Rattle.dsde_core_steps.specs.Flat.{tree_of}
-use Rattle.dsde_core_steps.specs.Resting.{Rests}
-use Rattle.dsde_core.specs.Standing.{tree_if, RestsIf}
+use Rattle.dsde_sim_tree.specs.Tree.{next_time, parts}
+use Rattle.dsde_sim_tree.specs.declared.step.TheConstants.{MOST_PARTS}
+use Rattle.dsde_core_moving.specs.given.core_flat.Scheduled.{when_of, IsScheduled}
+use Rattle.dsde_core_moving.specs.given.core_flat.Stands.{StandsFor}
+use Rattle.dsde_core_moving.specs.given.core_flat.lemmas_Live.{live-count}
+use Rattle.dsde_core_moving.specs.given.core_flat.lemmas_Fitting.{tree-named}
+use Rattle.dsde_core_moving.specs.given.core_flat.lemmas_Meeting.{tree-names}
+use Rattle.dsde_core_moving.specs.given.core_moves.flat_Flat.{Flat}
+use Rattle.dsde_core_moving.specs.given.core_moves.Flat.{tree_of, Stands}
+use Rattle.dsde_core_moving.specs.given.core_moves.Movers.{with_queue}
+use Rattle.dsde_core_moving.specs.given.core_moves.Resting.{Rests}
 
-pub its-tree : (spent : Bool) (flat : Flat) → is_some (tree_if spent flat) ≡ true → tree_if spent flat ≡ Some (tree_of flat)
-its-tree true flat is = absurd (let wrong : false ≡ true = is in cc)
-its-tree false flat is = refl
+module _ (model : Model) (flat : Flat) (stands : Stands model flat) where
+  -- as many parts are alive as the tree has
+  pub live-is : map.len flat.grove.parts ≡ parts (tree_of flat)
+  live-is = live-count flat.grove flat.root flat.wiring (tree_of flat) stands.stands (tree-names (tree_of flat) (tree-named model (tree_of flat) stands.fits))
 
-pub its-rests : (spent : Bool) (model : Model) (flat : Flat) → is_some (tree_if spent flat) ≡ true → RestsIf spent model flat → Rests model flat
-its-rests true model flat is rests = absurd (let wrong : false ≡ true = is in cc)
-its-rests false model flat is rests = rests
+  -- it stands with any schedule
+  pub stands-with : (queue : Queue) → Stands model (with_queue flat queue)
+  stands-with queue = record { stands = stands.stands; fits = stands.fits; tree = stands.tree; rows = stands.rows }
 
--- its tree, if there is one, is one of the program
-pub its-tree-stands : (spent : Bool) (model : Model) (flat : Flat) → RestsIf spent model flat → StandsIf model (tree_if spent flat)
-its-tree-stands true model flat rests = tt
-its-tree-stands false model flat rests = record { fits = rests.stands.fits; within = rests.within }
-
--- a turn is not after the next event
-pub not-after : (first : Option ℕ) (next : When) (head : Option Arrival) (time : ℕ) → when_of first ≡ next → turn_time next head ≡ Some time → IfSome first (λ due. time ≤ due)
-not-after None next head time is at = tt
-not-after (Some due) next None time is at = let same : due ≡ time = (let e : turn_time (At due) None ≡ Some time = ap (λ (w : When). turn_time w None) is ∙ at in cc) in omega (arith, same)
-not-after (Some due) next (Some head) time is at =
-    let same : min due head.time ≡ time = (let e : turn_time (At due) (Some head) ≡ Some time = ap (λ (w : When). turn_time w (Some head)) is ∙ at in cc) in
-    omega (arith, same)
-
--- a turn leaves the model of the root
-pub same-root : (model : Model) (before after : Sim) (turn time taken later_turn later later_taken : ℕ) → StandsAt model (record { tree = Some before; turn = turn; time = time; taken = taken }) →
-    StandsAt model (record { tree = Some after; turn = later_turn; time = later; taken = later_taken }) → (number : ModelId) → model_of before ≡ number → model_of after ≡ number
-same-root model before after turn time taken later_turn later later_taken stands stands_later number is =
-    let e = sym stands_later.stands.top ∙ stands.stands.top in
-    let same : (let one : Chosen = record { model = model_of after; args = args_of after } in one) ≡ (let other : Chosen = record { model = model_of before; args = args_of before } in other) = cc in
-    ap (λ (chosen : Chosen). chosen.model) same ∙ is
+-- it rests with the schedule that is left
+pub rests-with : (model : Model) (flat mid : Flat) (queue : Queue) (result : Option ℕ) → mid ≡ with_queue flat mid.queue → Stands model flat → parts (tree_of flat) ≤ MOST_PARTS → IsScheduled mid.grove queue.pairs →
+    ((top : Handle) (wiring : Option Wiring) (tree : Sim) → StandsFor mid.grove top wiring tree → next_time tree ≡ when_of result) → option_map time_of (first_of queue.pairs) ≡ result →
+    length queue.pairs ≤ length mid.queue.pairs → length mid.queue.pairs ≤ 2 * map.len mid.grove.parts + 64 → Rests model (with_queue mid queue)
+rests-with model flat mid queue result same stands within scheduled time least shorter few =
+    let here : Stands model (with_queue mid queue) = subst (λ (f : Flat). Stands model (with_queue f queue)) (sym same) (stands-with model flat stands queue) in
+    let live = live-is model (with_queue mid queue) here in
+    record {
+      stands = here;
+      within = subst (λ (f : Flat). parts (tree_of f) ≤ MOST_PARTS) (sym same) within;
+      scheduled = scheduled;
+      next = ap when_of least ∙ sym (time mid.root mid.wiring (tree_of (with_queue mid queue)) here.stands);
+      few = omega (arith, shorter, few, live);
+    }

@@ -2,16 +2,16 @@
 use Rattle.std.proofs.Common.{◌≡◌, List, [], Result, Ok, Err, IfErr, subst, sym}
 use Rattle.dsde_values.specs.declared.value.Value.{Value}
 use Rattle.dsde_values.specs.Path.{root}
-use Rattle.dsde_declared.specs.declared.ids.ModelId.{ModelId}
-use Rattle.dsde_formalism.specs.System.{Chosen, System}
-use Rattle.dsde_sim_events.specs.declared.event.Event.{Event}
-use Rattle.dsde_sim_events.specs.declared.fault.TurnEnd.{TurnEnd}
-use Rattle.dsde_sim_events.specs.declared.fault.TurnEnd.TheVariants.{Memory}
-use Rattle.dsde_sim_events.specs.Told.{at, told, Tells, Told, ◌then◌}
-use Rattle.dsde_sim_telling.specs.lemmas.GoingOn.{goes-begin, goes-end, goes-memory, goes-ok, goes-step, GoesOn}
+use Rattle.dsde_language.specs.declared.ids.ModelId.{ModelId}
+use Rattle.dsde_sim_tree.specs.given.formalism.System.{Chosen, System}
+use Rattle.dsde_sim_tree.specs.declared.event.Event.{Event}
+use Rattle.dsde_sim_tree.specs.declared.fault.TurnEnd.{TurnEnd}
+use Rattle.dsde_sim_tree.specs.declared.fault.TurnEnd.TheVariants.{Memory}
+use Rattle.dsde_sim_tree.specs.Told.{at, told, Tells, Told, ◌then◌}
+use Rattle.dsde_core_moving.specs.given.sim_telling.lemmas_GoingOn.{goes-begin, goes-end, goes-memory, goes-ok, goes-step, GoesOn}
 use Rattle.dsde_sim_tree.specs.declared.sim.Sim.{Sim}
-use Rattle.dsde_sim_turns.specs.Engine.{begun, Engine}
-use Rattle.dsde_sim_turns.specs.Turn.{start, started_tree}
+use Rattle.dsde_sim_tree.specs.Engine.{begun, Engine}
+use Rattle.dsde_sim_tree.specs.Turn.{start, started_tree}
 
 module _ (own : System) (model : ModelId) (args : List Value) (old : List Event) (comes : at root own.top ≡ Ok (record { model = model; args = args })) where
   abbrev step : Told Sim

@@ -1,1 +1,4 @@
+pub mod Live
 pub mod Standing
+pub mod Turned
+pub mod given

@@ -3,30 +3,26 @@
 ghost use Rattle.std.specs.Prelude.{◌≡◌, ◌+◌, ◌<◌, ◌≤◌, ◌^◌, Some, Ok, Err, is_some, is_none, is_err, true, IfOk, IfErr, IfSome, OnOk, drop, length};
 ghost use Rattle.std.specs.Option.{option_copied};
 ghost use Rattle.dsde_values.specs.When.{IsMoment};
-ghost use Rattle.dsde_declared.specs.declared.ids.ModelId.{ModelId};
-ghost use Rattle.dsde_declared.specs.Models.{top_number};
-ghost use Rattle.dsde_sim_events.specs.Told.{Tells};
-ghost use Rattle.dsde_system.specs.Program.{system};
-ghost use Rattle.dsde_sim_turns.specs.Engine.{next_of};
-ghost use Rattle.dsde_sim_turns.specs.Turn.{start, advance, turn_time};
-ghost use Rattle.dsde_sim_stands.specs.Stands.{StandsTree};
-ghost use Rattle.dsde_sim_delivery.specs.Delivered.{IsTurnDelivered};
-ghost use Rattle.dsde_sim_working.specs.Working.{HeadComes, IsRoot, Stands, StandsAt, StandsIf, working};
+ghost use Rattle.dsde_language.specs.declared.ids.ModelId.{ModelId};
+ghost use Rattle.dsde_language.specs.DeclaredModels.{top_number};
+ghost use Rattle.dsde_sim_tree.specs.Told.{Tells};
+ghost use Rattle.dsde_core_outputs.specs.given.system.Program.{system};
+ghost use Rattle.dsde_sim_tree.specs.Engine.{next_of};
+ghost use Rattle.dsde_sim_tree.specs.Turn.{start, advance, turn_time};
+ghost use Rattle.dsde_core_moving.specs.given.sim_movers.Stands.{StandsTree};
+ghost use Rattle.dsde_core_moving.specs.given.sim_movers.Delivered.{IsTurnDelivered};
+ghost use Rattle.dsde_core_outputs.specs.given.sim_working.Working.{HeadComes, IsRoot, Stands, StandsAt, StandsIf, working};
+ghost use Rattle.dsde_core.specs.Standing.{HasFewPairs};
 
+use crate::{flat_of, tree_of, turn};
 use dsde_base::Steps;
-use dsde_core_laws::paths_are_short;
-use dsde_core_planting::flat_of;
-use dsde_core_steps::Flat;
-use dsde_core_trees::tree_of;
-use dsde_core_turn::turn;
-use dsde_program::Program;
-use dsde_sim_delivery::advances_are_delivered;
-use dsde_sim_events::{Event, TurnEnd};
-use dsde_sim_stands::trees_stand;
-use dsde_sim_tree::Sim;
-use dsde_sim_turns::Step;
-use dsde_sim_working::{chosen, is_taken, items_at, started, turn_time};
-use dsde_sound_forward::programs_lead_on;
+use dsde_core_moving::given::core_flat::paths_are_short;
+use dsde_core_moving::given::core_moves::Flat;
+use dsde_core_moving::given::program::Program;
+use dsde_core_moving::given::sim_movers::{advances_are_delivered, trees_stand};
+use dsde_core_outputs::given::sim_working::{chosen, is_taken, items_at, started, turn_time};
+use dsde_core_outputs::given::sound_forward::programs_lead_on;
+use dsde_sim_tree::{Event, Sim, Step, TurnEnd};
 use dsde_values::{Arrival, Memory, Seq, When};
 use std::alloc::Global;
 use std::marker::Model;
@@ -46,8 +42,8 @@ pub struct Core<'p> {
 }
 
 impl<'p> Model for Core<'p> {
-    ghost use Rattle.std.specs.Prelude.{◌≤◌};
-    ghost use Rattle.dsde_sim_working.specs.Working.{StandsAt};
+    ghost use Rattle.std.specs.Prelude.{◌≤◌, length};
+    ghost use Rattle.dsde_core_outputs.specs.given.sim_working.Working.{StandsAt};
     ghost use Rattle.dsde_core.specs.Standing.{Standing, RestsIf, tree_if};
     ghost use Rattle.dsde_syntax.specs.contracts.decl.Model as model;
     ghost use Rattle.dsde_sim_tree.specs.contracts.sim.Sim as sim;
@@ -61,6 +57,7 @@ impl<'p> Model for Core<'p> {
       program = core.program.now;
       engine = record { tree = tree_if core.spent core.flat; turn = core.turn; time = core.time; taken = core.taken };
       born = core.flat.grove.next_birth;
+      queued = length core.flat.queue.pairs;
     } };
 
     ghost invariant = { λ core. RestsIf core.spent core.program.now core.flat × (core.taken ≤ core.turn) × StandsAt core.program.now (record {
@@ -73,7 +70,8 @@ impl<'p> Model for Core<'p> {
 
 impl<'p> Core<'p> {
     /// Starts the program at time 0, and tells it. After a fault the events before it were told,
-    /// and without memory some of the events, from their front. Each part of its tree is born once.
+    /// and without memory some of the events, from their front. Each part of its tree is born once, and
+    /// its schedule has at most twice as many pairs as parts are alive, and 64.
     pub fn start(
         alloc: Global,
         program: &'p Program<'p>,
@@ -84,6 +82,7 @@ impl<'p> Core<'p> {
         ensures err { IfErr result (λ end. Tells (start (system program.now)) events.old events.new (Err end)) }
         ensures root { IfOk result (λ core. IsRoot (top_number program.now) core.engine) }
         ensures born { IfOk result (λ core. core.born ≤ 131072) }
+        ensures few { IfOk result (λ core. HasFewPairs core) }
     {
         trees_stand();
         programs_lead_on();
@@ -103,7 +102,8 @@ impl<'p> Core<'p> {
 
     /// The engine of a program with this tree, after so many turns, the last of them at this time, and
     /// so many records of the input taken: the tree is one of the program and stands at the time. Each
-    /// part of the tree is born once. `Memory` where there is none.
+    /// part of the tree is born once, and the schedule has no more pairs than after a start. `Memory`
+    /// where there is none.
     pub fn from_tree(
         alloc: Global,
         program: &'p Program<'p>,
@@ -119,6 +119,7 @@ impl<'p> Core<'p> {
         requires taken { taken ≤ turn }
         ensures engine { IfOk result (λ core. working core.program core.engine ≡ working program.now (record { tree = Some tree; turn = turn; time = time; taken = taken })) }
         ensures born { IfOk result (λ core. core.born ≤ 131072) }
+        ensures few { IfOk result (λ core. HasFewPairs core) }
     {
         let flat = flat_of(alloc, tree)?;
         Ok(Core {
@@ -159,8 +160,9 @@ impl<'p> Core<'p> {
     /// What it tells of the turn reaches only parts of the tree before it and none that it added,
     /// and each component and each executive receives what the links of that tree carry to it.
     ///
-    /// Fewer than 2^63 + 2^62 parts were born before, and at most 2^33 are born in it. Looks at parts and
-    /// changes of rows are counted.
+    /// Fewer than 2^63 + 2^62 parts were born before, and at most 2^33 are born in it. Behind it the
+    /// schedule has at most twice as many pairs as parts are alive, and 64. Looks at parts and changes of
+    /// rows are counted.
     pub fn advance<L: Ledger, M: Ledger>(
         &mut self,
         head: Option<&Arrival>,
@@ -180,6 +182,7 @@ impl<'p> Core<'p> {
         ensures root { (number : ModelId) → IsRoot number self.old.engine → IfOk result (λ step. IsRoot number self.new.engine) }
         ensures spent { is_none self.new.engine.tree ≡ is_err result }
         ensures births { OnOk result (self.new.born ≤ self.old.born + 2 ^ 33) }
+        ensures few { OnOk result (HasFewPairs self.new) }
     {
         advances_are_delivered();
         trees_stand();

@@ -1,0 +1,10 @@
+mod Deep
+mod DueOnes
+mod Members
+mod Planting
+mod Rising
+mod SameList
+mod Seats
+mod Stale
+mod Taking
+mod Walking

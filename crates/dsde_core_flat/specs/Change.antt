@@ -4,9 +4,9 @@ use Rattle.std.specs.List.{flat_map}
 use Rattle.dsde_bank.specs.declared.handle.Handle.{Handle}
 use Rattle.dsde_values.specs.declared.name.Name.{Name}
 use Rattle.dsde_values.specs.declared.path.Path.{Path}
-use Rattle.dsde_sim_events.specs.Told.{below, to_boss}
-use Rattle.dsde_structure.specs.Gather.{is_same_name}
-use Rattle.dsde_structure.specs.declared.plan.Link.{Link}
+use Rattle.dsde_sim_tree.specs.Told.{below, to_boss}
+use Rattle.dsde_routes_wiring.specs.given.structure.Gather.{is_same_name}
+use Rattle.dsde_routes_wiring.specs.given.structure.plan_Link.{Link}
 use Rattle.dsde_sim_tree.specs.declared.sim.Kid.{Kid}
 use Rattle.dsde_sim_tree.specs.declared.sim.Net.{Net}
 use Rattle.dsde_sim_tree.specs.declared.sim.Sim.{Sim}

@@ -6,7 +6,7 @@ use Rattle.std.specs.FinMap as map
 use Rattle.dsde_bank.specs.declared.handle.Handle.{Handle}
 use Rattle.dsde_values.specs.declared.name.Name.{Name}
 use Rattle.dsde_values.specs.declared.path.Path.{Path}
-use Rattle.dsde_sim_events.specs.Told.{below}
+use Rattle.dsde_sim_tree.specs.Told.{below}
 use Rattle.dsde_grove.specs.Grove as grove
 use Rattle.dsde_grove.specs.Grove.{Grove, IsTree, spot, value_of}
 use Rattle.dsde_sim_tree.specs.declared.sim.Kid.{Kid}

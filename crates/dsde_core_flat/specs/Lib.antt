@@ -1,9 +1,11 @@
-pub mod Shown
-pub mod Places
-pub mod Stands
 pub mod Change
-pub mod Named
+pub mod Due
 pub mod Grafts
-pub mod Scheduled
 pub mod Handles
+pub mod Named
+pub mod Places
+pub mod Scheduled
+pub mod Shown
+pub mod Stands
 pub mod lemmas
+pub mod given

@@ -3,7 +3,7 @@ use Rattle.std.specs.Prelude.{◌≢◌, List, [], ◌∷◌}
 use Rattle.std.proofs.Common.{inl, inr}
 use Rattle.std.specs.List.{AllByRecursion}
 use Rattle.dsde_values.specs.Path.{EXEC}
-use Rattle.dsde_structure.specs.declared.plan.Entry.{Entry}
+use Rattle.dsde_routes_wiring.specs.given.structure.plan_Entry.{Entry}
 use Rattle.dsde_sim_tree.specs.declared.sim.Kid.{Kid}
 use Rattle.dsde_sim_tree.specs.declared.sim.Sim.{Sim}
 use Rattle.dsde_sim_tree.specs.declared.sim.Sim.TheViews.{out-Kid}

@@ -3,8 +3,8 @@ use Rattle.std.specs.Prelude.{false, List, [], Option, Some, None}
 use Rattle.dsde_bank.specs.declared.handle.Handle.{Handle}
 use Rattle.dsde_values.specs.declared.value.Value.{Value}
 use Rattle.dsde_values.specs.declared.when.When.TheVariants.{Never}
-use Rattle.dsde_declared.specs.declared.ids.ModelId.{ModelId}
-use Rattle.dsde_formalism.specs.declared.leaf.Leaf.{Leaf}
+use Rattle.dsde_language.specs.declared.ids.ModelId.{ModelId}
+use Rattle.dsde_sim_tree.specs.given.formalism.leaf_Leaf.{Leaf}
 use Rattle.dsde_sim_tree.specs.declared.sim.Kid.{Kid}
 use Rattle.dsde_sim_tree.specs.declared.sim.Net.{Net}
 use Rattle.dsde_sim_tree.specs.declared.sim.Sim.{Sim}

@@ -13,7 +13,7 @@ use Rattle.dsde_sim_tree.specs.declared.sim.TheConstants.{DEEPEST}
 use Rattle.dsde_core_flat.specs.declared.spot.Spot.{Spot}
 use Rattle.dsde_core_flat.specs.declared.spot.Spot.TheVariants as variant
 use Rattle.dsde_routes_wiring.specs.declared.wiring.Wiring.{Wiring}
-use Rattle.dsde_sim_events.specs.Told.{to_boss}
+use Rattle.dsde_sim_tree.specs.Told.{to_boss}
 use Rattle.dsde_routes_wiring.specs.declared.wiring.WiredKid.{WiredKid}
 use Rattle.dsde_core_flat.specs.Shown.{part_under}
 use Rattle.dsde_core_flat.specs.Handles.{AreThemselves, KidsAreThemselves}

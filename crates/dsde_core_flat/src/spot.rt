@@ -1,7 +1,7 @@
 //! What the grove holds of a part.
 
-use dsde_declared::ModelId;
-use dsde_formalism::Leaf;
+use dsde_language::ModelId;
+use dsde_sim_tree::given::formalism::Leaf;
 use dsde_values::Values;
 
 /// An atomic component or an executive, or a network without what is beneath it.

@@ -8,19 +8,19 @@ use Rattle.std.proofs.Math.Seq.{take-append_seam}
 use Rattle.dsde_bank.specs.declared.handle.Handle.{Handle}
 use Rattle.dsde_values.specs.declared.name.Name.{Name}
 use Rattle.dsde_values.specs.declared.path.Path.{Path}
-use Rattle.dsde_structure.specs.declared.plan.Entry.{Entry}
-use Rattle.dsde_structure.specs.Gather.{is_same_name}
-use Rattle.dsde_sim_events.specs.declared.event.Event.{Event}
-use Rattle.dsde_sim_events.specs.declared.event.Event.TheVariants.{Drop}
+use Rattle.dsde_routes_wiring.specs.given.structure.plan_Entry.{Entry}
+use Rattle.dsde_routes_wiring.specs.given.structure.Gather.{is_same_name}
+use Rattle.dsde_sim_tree.specs.declared.event.Event.{Event}
+use Rattle.dsde_sim_tree.specs.declared.event.Event.TheVariants.{Drop}
 use Rattle.dsde_values.specs.Path.{EXEC}
-use Rattle.dsde_sim_events.specs.Told.{IsCut, below, to_boss}
-use Rattle.dsde_grove.specs.Grove as grove
-use Rattle.dsde_grove.specs.Grove.{Grove, IsTree, DropsSubtree, spot, value_of}
+use Rattle.dsde_sim_tree.specs.Told.{IsCut, below, to_boss}
+use Rattle.dsde_core_flat.specs.given.grove.Grove as grove
+use Rattle.dsde_core_flat.specs.given.grove.Grove.{Grove, IsTree, DropsSubtree, spot, value_of}
 use Rattle.dsde_sim_tree.specs.declared.sim.Kid.{Kid}
 use Rattle.dsde_sim_tree.specs.declared.sim.Sim.TheViews.{out-Kid}
 use Rattle.dsde_sim_tree.specs.declared.sim.Sim.{Sim}
 use Rattle.dsde_sim_tree.specs.lemmas.Trees.{each_tree}
-use Rattle.dsde_sim_stands.specs.lemmas.Opened.{parts-Leaf, parts-Net, parts-kid}
+use Rattle.dsde_core_flat.specs.given.sim_movers.lemmas_Opened.{parts-Leaf, parts-Net, parts-kid}
 use Rattle.dsde_sim_tree.specs.Tree.{parts, parts_of_kid, parts_of_kids, entry_of}
 use Rattle.dsde_sim_tree.specs.Move.{drop_of}
 use Rattle.dsde_core_flat.specs.declared.spot.Spot.{Spot}

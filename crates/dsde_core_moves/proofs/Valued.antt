@@ -2,9 +2,9 @@
 use Rattle.std.proofs.Common.{◌≡◌, false, true, Option, Some, None, IsSome, refl, ap, subst}
 use Rattle.std.specs.Option.{option_map}
 use Rattle.dsde_bank.specs.declared.handle.Handle.{Handle}
-use Rattle.dsde_formalism.specs.declared.leaf.Leaf.{Leaf}
-use Rattle.dsde_grove.specs.Grove as grove
-use Rattle.dsde_grove.specs.Grove.{Grove, spot, value_of, with_value}
+use Rattle.dsde_sim_tree.specs.given.formalism.leaf_Leaf.{Leaf}
+use Rattle.dsde_core_flat.specs.given.grove.Grove as grove
+use Rattle.dsde_core_flat.specs.given.grove.Grove.{Grove, spot, value_of, with_value}
 use Rattle.dsde_core_flat.specs.declared.spot.Spot.{Spot}
 use Rattle.dsde_core_flat.specs.declared.spot.Spot.TheVariants as variant
 use Rattle.dsde_core_flat.specs.lemmas.Moves.{moved-value}

@@ -1,6 +1,6 @@
 -- Components that pass tests, and the others.
 use Rattle.std.specs.Prelude.{Bool, true, false, List, [], ◌∷◌, map}
-use Rattle.dsde_grove.specs.Grove.{Grove, value_of}
+use Rattle.dsde_core_flat.specs.given.grove.Grove.{Grove, value_of}
 use Rattle.dsde_sim_tree.specs.declared.sim.Kid.{Kid}
 use Rattle.dsde_routes_wiring.specs.declared.wiring.WiredKid.{WiredKid}
 use Rattle.dsde_core_flat.specs.declared.spot.Spot.{Spot}

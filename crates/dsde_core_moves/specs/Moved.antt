@@ -1,10 +1,10 @@
 -- What a move does to a grove.
 use Rattle.std.specs.Prelude.{◌≡◌, [], Result, Ok, Err}
 use Rattle.dsde_bank.specs.declared.handle.Handle.{Handle}
-use Rattle.dsde_formalism.specs.declared.leaf.Leaf.{Leaf}
-use Rattle.dsde_sim_events.specs.declared.fault.TurnEnd.{TurnEnd}
-use Rattle.dsde_sim_events.specs.Told.{Told, told}
-use Rattle.dsde_grove.specs.Grove.{Grove, with_value}
+use Rattle.dsde_sim_tree.specs.given.formalism.leaf_Leaf.{Leaf}
+use Rattle.dsde_sim_tree.specs.declared.fault.TurnEnd.{TurnEnd}
+use Rattle.dsde_sim_tree.specs.Told.{Told, told}
+use Rattle.dsde_core_flat.specs.given.grove.Grove.{Grove, with_value}
 use Rattle.dsde_core_flat.specs.declared.spot.Spot.{Spot}
 use Rattle.dsde_core_flat.specs.declared.spot.Spot.TheVariants as variant
 

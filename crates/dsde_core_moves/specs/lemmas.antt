@@ -1,3 +1,3 @@
 -- Lemmas that the crates above cite.
-pub mod Seen
 pub mod Meets
+pub mod Seen

@@ -4,9 +4,9 @@ ghost use Rattle.std.specs.Prelude.{◌≡◌, ◌+◌, ◌*◌, ◌^◌, ◌<�
 ghost use Rattle.std.specs.List.{AllByRecursion};
 ghost use Rattle.std.specs.FinMap as finmap;
 ghost use Rattle.dsde_bank.specs.declared.handle.Handle.{Handle};
-ghost use Rattle.dsde_sim_events.specs.Told.{IsCut, below};
-ghost use Rattle.dsde_sim_events.specs.declared.event.Event.TheVariants as event;
-ghost use Rattle.dsde_grove.specs.Grove.{spot, value_of, IsTree, DropsSubtree};
+ghost use Rattle.dsde_sim_tree.specs.Told.{IsCut, below};
+ghost use Rattle.dsde_sim_tree.specs.declared.event.Event.TheVariants as event;
+ghost use Rattle.dsde_core_flat.specs.given.grove.Grove.{spot, value_of, IsTree, DropsSubtree};
 ghost use Rattle.dsde_sim_tree.specs.Tree.{parts_of_kids, entry_of};
 ghost use Rattle.dsde_sim_tree.specs.Move.{drop_of};
 ghost use Rattle.dsde_routes_wiring.specs.declared.wiring.WiredKid.TheViews.{out-Wiring, out-WiredKid};
@@ -17,11 +17,11 @@ ghost use Rattle.dsde_core_moves.specs.Chosen.{chosen, lost, shown};
 
 use dsde_base::Steps;
 use dsde_core_flat::Spot;
-use dsde_grove::Grove;
+use dsde_core_flat::given::grove::Grove;
 use dsde_lists::Memory;
 use dsde_routes_wiring::{WiredKid, Wiring};
-use dsde_sim_events::Event;
-use dsde_sim_telling::tell_drop;
+use dsde_sim_changing::given::sim_telling::tell_drop;
+use dsde_sim_tree::Event;
 use dsde_values::{Path, Seq};
 use std::alloc::Global;
 use std::sync::ledger::Ledger;

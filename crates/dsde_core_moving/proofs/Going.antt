@@ -7,32 +7,32 @@ use Rattle.dsde_syntax.specs.declared.decl.Model.{Model}
 use Rattle.dsde_values.specs.declared.arrival.Item.{Item}
 use Rattle.dsde_values.specs.declared.path.Path.{Path}
 use Rattle.dsde_values.specs.Path.{root}
-use Rattle.dsde_formalism.specs.declared.leaf.Leaf.{Leaf}
-use Rattle.dsde_formalism.specs.System.{Ports, System}
-use Rattle.dsde_system.specs.Fitting.{FitsInputs}
-use Rattle.dsde_system.specs.Program.{system}
-use Rattle.dsde_sim_events.specs.declared.event.Event.{Event}
-use Rattle.dsde_sim_events.specs.declared.fault.TurnEnd.{TurnEnd}
-use Rattle.dsde_sim_events.specs.Told.{Told, Tells, ◌then◌}
-use Rattle.dsde_sim_telling.specs.lemmas.GoingOn.{GoesOn, goes-begin, goes-end, goes-step, goes-stops}
+use Rattle.dsde_sim_tree.specs.given.formalism.leaf_Leaf.{Leaf}
+use Rattle.dsde_sim_tree.specs.given.formalism.System.{Ports, System}
+use Rattle.dsde_sim_starting.specs.given.system.Fitting.{FitsInputs}
+use Rattle.dsde_sim_starting.specs.given.system.Program.{system}
+use Rattle.dsde_sim_tree.specs.declared.event.Event.{Event}
+use Rattle.dsde_sim_tree.specs.declared.fault.TurnEnd.{TurnEnd}
+use Rattle.dsde_sim_tree.specs.Told.{Told, Tells, ◌then◌}
+use Rattle.dsde_sim_starting.specs.given.sim_telling.lemmas_GoingOn.{GoesOn, goes-begin, goes-end, goes-step, goes-stops}
 use Rattle.dsde_sim_tree.specs.declared.sim.Sim.{Sim}
 use Rattle.dsde_sim_tree.specs.Output.{by_port}
 use Rattle.dsde_sim_tree.specs.Move.{ins_of}
 use Rattle.dsde_sim_tree.specs.Tree.{parts}
-use Rattle.dsde_sim_turns.specs.declared.step.TheConstants.{MOST_PARTS}
-use Rattle.dsde_sim_delivery.specs.Deliveries.{Delivery, deliveries}
+use Rattle.dsde_sim_tree.specs.declared.step.TheConstants.{MOST_PARTS}
+use Rattle.dsde_sim_movers.specs.Deliveries.{Delivery, deliveries}
 use Rattle.dsde_sim_movers.specs.Movers.{is_called, is_mover, leaf_at, move_each, move_one, movers, seat_behind}
 use Rattle.dsde_sim_movers.specs.Names.{IsNamed}
 use Rattle.dsde_sim_movers.specs.Turns.{turn_movers}
 use Rattle.dsde_sim_movers.specs.lemmas.Steps.{same-ok, split-then}
-use Rattle.dsde_sim_orders.specs.Orders.{is_above, IsLawful}
-use Rattle.dsde_core_flat.specs.Scheduled.{IsScheduled, IsScheduledBut}
-use Rattle.dsde_core_flat.specs.lemmas.Waiting.{all-moved}
-use Rattle.dsde_core_laws.specs.lemmas.Fitting.{tree-named}
-use Rattle.dsde_core_steps.specs.declared.flat.Flat.{Flat}
-use Rattle.dsde_core_steps.specs.declared.flat.Mover.{Mover}
-use Rattle.dsde_core_steps.specs.Flat.{delivery_of, leaf_of, tree_of, IsThere, Stands}
-use Rattle.dsde_core_movers.specs.Movers.{handle_of, AreMovers, FitsMover, Spares}
+use Rattle.dsde_sim_movers.specs.Orders.{is_above, IsLawful}
+use Rattle.dsde_core_moves.specs.given.core_flat.Scheduled.{IsScheduled, IsScheduledBut}
+use Rattle.dsde_core_moves.specs.given.core_flat.lemmas_Waiting.{all-moved}
+use Rattle.dsde_core_moves.specs.given.core_flat.lemmas_Fitting.{tree-named}
+use Rattle.dsde_core_moves.specs.declared.flat.Flat.{Flat}
+use Rattle.dsde_core_moves.specs.declared.flat.Mover.{Mover}
+use Rattle.dsde_core_moves.specs.Flat.{delivery_of, leaf_of, tree_of, IsThere, Stands}
+use Rattle.dsde_core_moves.specs.Movers.{handle_of, AreMovers, FitsMover, Spares}
 use Rattle.dsde_core_moving.specs.Moving.{most_births, IsCalled}
 use Rattle.dsde_core_moving.proofs.Held.{held-is}
 

@@ -7,7 +7,7 @@ use Rattle.dsde_values.specs.declared.name.Name.{Name}
 use Rattle.dsde_values.specs.declared.path.Path.{Path}
 use Rattle.dsde_values.specs.Path.{root, EXEC}
 use Rattle.dsde_syntax.specs.declared.decl.Model.{Model}
-use Rattle.dsde_formalism.specs.declared.leaf.Leaf.{Leaf}
+use Rattle.dsde_sim_tree.specs.given.formalism.leaf_Leaf.{Leaf}
 use Rattle.dsde_structure.specs.Gather.{is_same_name}
 use Rattle.dsde_grove.specs.Grove.{value_of}
 use Rattle.dsde_sim_tree.specs.declared.sim.Kid.{Kid}
@@ -25,21 +25,21 @@ use Rattle.dsde_sim_movers.specs.lemmas.Spotting.{spots-at}
 use Rattle.dsde_sim_starting.specs.Fitting.{FitsSpot, FitsTree}
 use Rattle.dsde_sim_starting.specs.lemmas.Fits.{leaf-tree}
 use Rattle.dsde_routes_wiring.specs.declared.wiring.WiredKid.TheViews.{out-Wiring}
-use Rattle.dsde_core_flat.specs.Places.{part_places}
-use Rattle.dsde_core_flat.specs.Shown.{leaf_in}
-use Rattle.dsde_core_flat.specs.Stands.{Leads}
-use Rattle.dsde_core_flat.specs.lemmas.Beneath.{places-beneath}
-use Rattle.dsde_core_flat.specs.lemmas.Growing.{among}
-use Rattle.dsde_core_flat.specs.lemmas.Keeping.{spot-got}
-use Rattle.dsde_core_flat.specs.lemmas.Moves.{found-path, one-handle-at, HasPath}
-use Rattle.dsde_core_flat.specs.lemmas.Names.{name-exact}
-use Rattle.dsde_core_laws.specs.lemmas.Component.{component-is}
-use Rattle.dsde_core_laws.specs.lemmas.Executive.{boss-there, executive-opens}
-use Rattle.dsde_core_laws.specs.lemmas.Fitting.{tree-named}
-use Rattle.dsde_core_steps.specs.declared.flat.Flat.{Flat}
-use Rattle.dsde_core_steps.specs.declared.flat.Mover.{Mover}
-use Rattle.dsde_core_steps.specs.Flat.{leaf_of, tree_of, IsThere, Stands}
-use Rattle.dsde_core_steps.proofs.Sitting.{none-boss, seat-component}
+use Rattle.dsde_core_moves.specs.given.core_flat.Places.{part_places}
+use Rattle.dsde_core_moves.specs.given.core_flat.Shown.{leaf_in}
+use Rattle.dsde_core_moves.specs.given.core_flat.Stands.{Leads}
+use Rattle.dsde_core_moves.specs.given.core_flat.lemmas_Beneath.{places-beneath}
+use Rattle.dsde_core_moves.specs.given.core_flat.lemmas_Growing.{among}
+use Rattle.dsde_core_moves.specs.given.core_flat.lemmas_Keeping.{spot-got}
+use Rattle.dsde_core_moves.specs.given.core_flat.lemmas_Moves.{found-path, one-handle-at, HasPath}
+use Rattle.dsde_core_moves.specs.given.core_flat.lemmas_Names.{name-exact}
+use Rattle.dsde_core_moves.specs.given.core_flat.lemmas_Component.{component-is}
+use Rattle.dsde_core_moves.specs.given.core_flat.lemmas_Executive.{boss-there, executive-opens}
+use Rattle.dsde_core_moves.specs.given.core_flat.lemmas_Fitting.{tree-named}
+use Rattle.dsde_core_moves.specs.declared.flat.Flat.{Flat}
+use Rattle.dsde_core_moves.specs.declared.flat.Mover.{Mover}
+use Rattle.dsde_core_moves.specs.Flat.{leaf_of, tree_of, IsThere, Stands}
+use Rattle.dsde_core_moves.proofs.Sitting.{none-boss, seat-component}
 
 -- an executive's seat has all names but the last, which is the executive's
 last-boss : (name : Name) (b : Bool) → is_same_name EXEC name ≡ b → (let seat : Seat = cond b (record { names = []; is_boss = true }) (record { names = name ∷ []; is_boss = false }) in seat.is_boss ≡ true → name ∷ [] ≡ seat.names ++ EXEC ∷ [])

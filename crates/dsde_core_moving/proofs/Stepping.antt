@@ -1,24 +1,24 @@
 -- Which of the two steps a mover takes.
 use Rattle.std.proofs.Common.{◌≡◌, ◌∙◌, ℕ, ◌+◌, ◌≤◌, ◌||◌, Bool, true, false, if◌then◌else◌, Option, Some, None, IsSome, Result, Ok, Err, OnOk, refl, sym, ap, subst, arith}
 use Rattle.dsde_grove.specs.Grove.{value_of}
-use Rattle.dsde_sim_events.specs.declared.fault.TurnEnd.{TurnEnd}
-use Rattle.dsde_sim_turns.specs.declared.step.TheConstants.{MOST_PARTS}
-use Rattle.dsde_core_flat.specs.declared.spot.Spot.{Spot}
-use Rattle.dsde_core_flat.specs.declared.spot.Spot.TheVariants as variant
-use Rattle.dsde_core_flat.specs.Scheduled.{held_leaf}
-use Rattle.dsde_core_flat.specs.Shown.{leaf_in}
+use Rattle.dsde_sim_tree.specs.declared.fault.TurnEnd.{TurnEnd}
+use Rattle.dsde_sim_tree.specs.declared.step.TheConstants.{MOST_PARTS}
+use Rattle.dsde_core_moves.specs.given.core_flat.spot_Spot.{Spot}
+use Rattle.dsde_core_moves.specs.given.core_flat.spot_Spot_TheVariants as variant
+use Rattle.dsde_core_moves.specs.given.core_flat.Scheduled.{held_leaf}
+use Rattle.dsde_core_moves.specs.given.core_flat.Shown.{leaf_in}
 use Rattle.dsde_values.specs.Path.{root}
 use Rattle.dsde_syntax.specs.declared.decl.Model.{Model}
-use Rattle.dsde_formalism.specs.declared.leaf.Leaf.{Leaf}
-use Rattle.dsde_formalism.specs.declared.leaf.MoveKind.{MoveKind}
-use Rattle.dsde_formalism.specs.declared.leaf.MoveKind.TheVariants.{Internal, External, Confluent}
-use Rattle.dsde_formalism.specs.System.{Ports}
-use Rattle.dsde_formalism.specs.Leaf.{has_come, is_due, kind_of}
+use Rattle.dsde_sim_tree.specs.given.formalism.leaf_Leaf.{Leaf}
+use Rattle.dsde_sim_tree.specs.given.formalism.leaf_MoveKind.{MoveKind}
+use Rattle.dsde_sim_tree.specs.given.formalism.leaf_MoveKind_TheVariants.{Internal, External, Confluent}
+use Rattle.dsde_sim_tree.specs.given.formalism.System.{Ports}
+use Rattle.dsde_sim_tree.specs.given.formalism.Leaf.{has_come, is_due, kind_of}
 use Rattle.dsde_sim_movers.specs.Movers.{seat_behind}
-use Rattle.dsde_core_steps.specs.declared.flat.Flat.{Flat}
-use Rattle.dsde_core_steps.specs.declared.flat.Mover.{Mover}
-use Rattle.dsde_core_steps.specs.Flat.{leaf_of, IsComponent, IsThere, Stands}
-use Rattle.dsde_core_executives.specs.Executive.{IsExecutive}
+use Rattle.dsde_core_moves.specs.declared.flat.Flat.{Flat}
+use Rattle.dsde_core_moves.specs.declared.flat.Mover.{Mover}
+use Rattle.dsde_core_moves.specs.Flat.{leaf_of, IsComponent, IsThere, Stands}
+use Rattle.dsde_core_moving.specs.Executive.{IsExecutive}
 use Rattle.dsde_core_moving.specs.Moving.{most_births, IsCalled}
 use Rattle.dsde_core_moving.proofs.Held.{boss-seat, held-is}
 

@@ -1,12 +1,12 @@
 -- One of those who move.
 use Rattle.std.specs.Prelude.{◌≡◌, ℕ, true, if◌then◌else◌, Some}
 use Rattle.dsde_values.specs.Path.{root}
-use Rattle.dsde_formalism.specs.declared.leaf.Leaf.{Leaf}
-use Rattle.dsde_sim_turns.specs.declared.step.TheConstants.{MOST_PARTS}
+use Rattle.dsde_sim_tree.specs.given.formalism.leaf_Leaf.{Leaf}
+use Rattle.dsde_sim_tree.specs.declared.step.TheConstants.{MOST_PARTS}
 use Rattle.dsde_sim_movers.specs.Movers.{is_called, leaf_at, seat_behind}
-use Rattle.dsde_core_steps.specs.declared.flat.Flat.{Flat}
-use Rattle.dsde_core_steps.specs.declared.flat.Mover.{Mover}
-use Rattle.dsde_core_steps.specs.Flat.{tree_of}
+use Rattle.dsde_core_moves.specs.declared.flat.Flat.{Flat}
+use Rattle.dsde_core_moves.specs.declared.flat.Mover.{Mover}
+use Rattle.dsde_core_moves.specs.Flat.{tree_of}
 
 -- At a mover's path stands a component or an executive that is due, or to which something comes.
 pub record IsCalled (flat : Flat) (time : ℕ) (mover : Mover) : Type 0 where

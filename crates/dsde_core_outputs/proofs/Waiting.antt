@@ -4,15 +4,15 @@ use Rattle.dsde_bank.specs.declared.handle.Handle.{Handle}
 use Rattle.dsde_syntax.specs.declared.decl.Model.{Model}
 use Rattle.dsde_queue.specs.Queue.{Queue}
 use Rattle.dsde_grove.specs.Grove.{Grove}
-use Rattle.dsde_sim_events.specs.declared.fault.TurnEnd.{TurnEnd}
-use Rattle.dsde_core_flat.specs.declared.spot.Spot.{Spot}
-use Rattle.dsde_core_flat.specs.Scheduled.{IsScheduledBut}
-use Rattle.dsde_core_due.specs.declared.due.Due.{Due}
-use Rattle.dsde_core_due.specs.Due as due
-use Rattle.dsde_core_steps.specs.declared.flat.Flat.{Flat}
-use Rattle.dsde_core_steps.specs.Flat.{Stands}
-use Rattle.dsde_core_movers.specs.declared.phase.Phase.{Phase}
-use Rattle.dsde_core_movers.specs.Movers.{handle_of, with_queue, Wait}
+use Rattle.dsde_sim_tree.specs.declared.fault.TurnEnd.{TurnEnd}
+use Rattle.dsde_core_parcels.specs.given.core_flat.spot_Spot.{Spot}
+use Rattle.dsde_core_parcels.specs.given.core_flat.Scheduled.{IsScheduledBut}
+use Rattle.dsde_core_parcels.specs.given.core_flat.due_Due.{Due}
+use Rattle.dsde_core_parcels.specs.given.core_flat.Due as due
+use Rattle.dsde_core_parcels.specs.given.core_moves.flat_Flat.{Flat}
+use Rattle.dsde_core_parcels.specs.given.core_moves.Flat.{Stands}
+use Rattle.dsde_core_parcels.specs.given.core_moves.phase_Phase.{Phase}
+use Rattle.dsde_core_parcels.specs.given.core_moves.Movers.{handle_of, with_queue, Wait}
 
 -- a flat state stands with any schedule
 pub stands-with : (model : Model) (flat : Flat) (queue : Queue) → Stands model flat → Stands model (with_queue flat queue)

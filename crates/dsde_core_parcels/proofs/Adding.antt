@@ -6,7 +6,7 @@ use Rattle.std.proofs.lemmas.List.{append_assoc}
 use Rattle.dsde_values.specs.declared.value.Value.{Value}
 use Rattle.dsde_core_parcels.specs.declared.inbox.Get.{Get}
 use Rattle.dsde_core_parcels.specs.Inboxes.{spread, values_at}
-use Rattle.dsde_sim_gathering.specs.Boxes.{added, changed, empty_ports}
+use Rattle.dsde_core_moves.specs.given.sim_gathering.Boxes.{added, changed, empty_ports}
 use Rattle.dsde_core_parcels.specs.Ports.{add_all}
 
 -- what a test lets come

@@ -7,12 +7,12 @@ use Rattle.std.proofs.lemmas.List.{append_assoc}
 use Rattle.std.proofs.lemmas.List.Concat.{flat_map-cons}
 use Rattle.dsde_syntax.specs.declared.decl.Model.{Model}
 use Rattle.dsde_values.specs.declared.value.Value.{Value}
-use Rattle.dsde_structure.specs.declared.plan.Via.{Via}
-use Rattle.dsde_structure.specs.Gather.{Translation}
+use Rattle.dsde_routes_wiring.specs.given.structure.plan_Via.{Via}
+use Rattle.dsde_routes_wiring.specs.given.structure.Gather.{Translation}
 use Rattle.dsde_routes_wiring.specs.declared.row.Row.{Row}
 use Rattle.dsde_routes_wiring.specs.Sets.{Rows}
 use Rattle.dsde_routes_wiring.specs.Flatten.{is_from}
-use Rattle.dsde_routes_pushing.specs.Carried.{along}
+use Rattle.dsde_routes_trees.specs.given.routes_pushing.Carried.{along}
 use Rattle.dsde_core_parcels.specs.Along.{GoAlong}
 use Rattle.dsde_core_parcels.specs.declared.parcel.Outlet.{Outlet}
 use Rattle.dsde_core_parcels.specs.declared.parcel.Parcel.{Parcel}

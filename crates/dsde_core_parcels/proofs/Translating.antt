@@ -6,17 +6,17 @@ use Rattle.dsde_syntax.specs.declared.item.ViaPart.{ViaPart}
 use Rattle.dsde_values.specs.declared.types.Ty.{Ty}
 use Rattle.dsde_values.specs.declared.types.Types.{Types}
 use Rattle.dsde_values.specs.declared.value.Value.{Value}
-use Rattle.dsde_declared.specs.Models.{types_of}
-use Rattle.dsde_structure.specs.declared.plan.Via.{Via}
-use Rattle.dsde_structure.specs.Gather.{Translation}
-use Rattle.dsde_routes_pushing.specs.Carried.{along}
-use Rattle.dsde_eval_meaning.specs.Meaning.{Vars}
-use Rattle.dsde_eval_meaning.specs.Typed.{Typed, Fits, values_in}
-use Rattle.dsde_sound_places.specs.Conditions.{via_values}
-use Rattle.dsde_system.specs.Plans.{IsKey, via_slots}
-use Rattle.dsde_system.specs.Program.{key_vars, via_vars}
-use Rattle.dsde_eval.specs.Translations.{HasTargetType}
-use Rattle.dsde_sim_gathering.specs.Passing.{IsTaken}
+use Rattle.dsde_language.specs.DeclaredModels.{types_of}
+use Rattle.dsde_routes_wiring.specs.given.structure.plan_Via.{Via}
+use Rattle.dsde_routes_wiring.specs.given.structure.Gather.{Translation}
+use Rattle.dsde_routes_trees.specs.given.routes_pushing.Carried.{along}
+use Rattle.dsde_language.specs.Meaning.{Vars}
+use Rattle.dsde_language.specs.Typed.{Typed, Fits, values_in}
+use Rattle.dsde_core_moves.specs.given.sound_expressions.Conditions.{via_values}
+use Rattle.dsde_core_moves.specs.given.system.Plans.{IsKey, via_slots}
+use Rattle.dsde_core_moves.specs.given.system.Program.{key_vars, via_vars}
+use Rattle.dsde_core_moves.specs.given.eval.Translations.{HasTargetType}
+use Rattle.dsde_core_moves.specs.given.sim_gathering.Passing.{IsTaken}
 use Rattle.dsde_core_parcels.specs.Along.{GoAlong, GoesAlong}
 use Rattle.dsde_core_parcels.specs.Parcels.{KeepsTypes}
 

@@ -3,11 +3,11 @@ use Rattle.std.specs.Prelude.{◌≡◌, List, [], ◌∷◌}
 use Rattle.dsde_syntax.specs.declared.decl.Model.{Model}
 use Rattle.dsde_values.specs.declared.types.Ty.{Ty}
 use Rattle.dsde_values.specs.declared.value.Value.{Value}
-use Rattle.dsde_declared.specs.Models.{types_of}
-use Rattle.dsde_structure.specs.declared.plan.Via.{Via}
-use Rattle.dsde_eval_meaning.specs.Typed.{Typed}
-use Rattle.dsde_system.specs.Fitting.{AreOf}
-use Rattle.dsde_system.specs.Plans.{Takes}
+use Rattle.dsde_language.specs.DeclaredModels.{types_of}
+use Rattle.dsde_routes_wiring.specs.given.structure.plan_Via.{Via}
+use Rattle.dsde_language.specs.Typed.{Typed}
+use Rattle.dsde_core_moves.specs.given.system.Fitting.{AreOf}
+use Rattle.dsde_core_moves.specs.given.system.Plans.{Takes}
 
 -- Translations one after another take values of one type to values of another; where there is none, the
 -- types are the same.

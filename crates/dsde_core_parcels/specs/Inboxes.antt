@@ -3,7 +3,7 @@ use Rattle.std.specs.Prelude.{ℕ, Bool, ◌==◌, if◌then◌else◌, List, []
 use Rattle.std.specs.List.{flat_map, range_with_len}
 use Rattle.dsde_bank.specs.declared.handle.Handle.{Handle}
 use Rattle.dsde_values.specs.declared.value.Value.{Value}
-use Rattle.dsde_structure.specs.Gather.{Ports}
+use Rattle.dsde_routes_wiring.specs.given.structure.Gather.{Ports}
 use Rattle.dsde_core_parcels.specs.declared.parcel.Parcel.{Parcel}
 use Rattle.dsde_core_parcels.specs.declared.inbox.Get.{Get}
 use Rattle.dsde_core_parcels.specs.declared.inbox.Inbox.{Inbox}

@@ -1,5 +1,13 @@
 pub mod Along
-pub mod Parcels
+pub mod Asking
+pub mod Brought
+pub mod Calling
+pub mod Delivered
 pub mod Inboxes
+pub mod Outlets
+pub mod Parcels
 pub mod Ports
+pub mod Sent
+pub mod Traffic
 pub mod lemmas
+pub mod given

@@ -9,17 +9,17 @@ use Rattle.std.specs.declared.cmp.Ordering.{Ordering}
 use Rattle.dsde_syntax.specs.declared.decl.Model.{Model}
 use Rattle.dsde_values.specs.declared.types.Ty.{Ty}
 use Rattle.dsde_values.specs.declared.value.Value.{Value}
-use Rattle.dsde_declared.specs.Models.{types_of}
-use Rattle.dsde_structure.specs.declared.plan.Via.{Via}
-use Rattle.dsde_structure.specs.Gather.{Translation}
-use Rattle.dsde_eval_meaning.specs.Typed.{Typed}
-use Rattle.dsde_system.specs.Plans.{Takes}
+use Rattle.dsde_language.specs.DeclaredModels.{types_of}
+use Rattle.dsde_routes_wiring.specs.given.structure.plan_Via.{Via}
+use Rattle.dsde_routes_wiring.specs.given.structure.Gather.{Translation}
+use Rattle.dsde_language.specs.Typed.{Typed}
+use Rattle.dsde_core_moves.specs.given.system.Plans.{Takes}
 use Rattle.dsde_core_parcels.specs.Along.{GoAlong}
 use Rattle.dsde_routes_wiring.specs.declared.row.Row.{Row}
 use Rattle.dsde_routes_wiring.specs.Sets.{Rows}
 use Rattle.dsde_routes_wiring.specs.Flatten.{is_from}
-use Rattle.dsde_routes_pushing.specs.Carried.{along}
-use Rattle.dsde_routes_table.specs.Order.{AreOnce}
+use Rattle.dsde_routes_trees.specs.given.routes_pushing.Carried.{along}
+use Rattle.dsde_core_moves.specs.given.routes_table.Order.{AreOnce}
 use Rattle.dsde_core_parcels.specs.declared.parcel.Outlet.{Outlet}
 use Rattle.dsde_core_parcels.specs.declared.parcel.Parcel.{Parcel}
 

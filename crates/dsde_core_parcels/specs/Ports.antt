@@ -1,7 +1,7 @@
 -- What comes to a target, port by port.
 use Rattle.std.specs.Prelude.{List, [], ◌∷◌}
-use Rattle.dsde_structure.specs.Gather.{Ports}
-use Rattle.dsde_sim_gathering.specs.Boxes.{added}
+use Rattle.dsde_routes_wiring.specs.given.structure.Gather.{Ports}
+use Rattle.dsde_core_moves.specs.given.sim_gathering.Boxes.{added}
 use Rattle.dsde_core_parcels.specs.declared.inbox.Get.{Get}
 
 -- one after another, each behind what is there at its port; what is for a port that there is not is lost

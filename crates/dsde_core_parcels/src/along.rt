@@ -2,17 +2,17 @@
 
 ghost use Rattle.std.specs.Prelude.{◌≡◌, IfOk};
 ghost use Rattle.std.specs.List.{filter_map};
-ghost use Rattle.dsde_routes_pushing.specs.Carried.{along};
-ghost use Rattle.dsde_system.specs.Program.{system};
-ghost use Rattle.dsde_sim_gathering.specs.Passing.{IsTaken};
+ghost use Rattle.dsde_routes_trees.specs.given.routes_pushing.Carried.{along};
+ghost use Rattle.dsde_core_moves.specs.given.system.Program.{system};
+ghost use Rattle.dsde_core_moves.specs.given.sim_gathering.Passing.{IsTaken};
 ghost use Rattle.dsde_core_parcels.specs.Along.{GoAlong, GoesAlong};
 ghost use Rattle.dsde_core_parcels.specs.Parcels.{KeepsTypes};
 
-use dsde_eval::translate;
+use dsde_core_moves::given::eval::translate;
+use dsde_core_moves::given::program::Program;
+use dsde_core_moves::given::sound_structures::{may_translate, translates_exactly};
 use dsde_lists::Memory;
-use dsde_program::Program;
-use dsde_sound_links::{may_translate, translates_exactly};
-use dsde_structure::Via;
+use dsde_routes_wiring::given::structure::Via;
 use dsde_values::{Seq, Value, Values, copy_value};
 use std::alloc::Global;
 

@@ -2,15 +2,15 @@
 
 ghost use Rattle.std.specs.Prelude.{◌≡◌, ◌++◌, IfOk, OnOk, IsPermutation};
 ghost use Rattle.std.specs.List.{AllByRecursion};
-ghost use Rattle.dsde_system.specs.Program.{system};
+ghost use Rattle.dsde_core_moves.specs.given.system.Program.{system};
 ghost use Rattle.dsde_core_parcels.specs.Along.{GoAlong};
 ghost use Rattle.dsde_core_parcels.specs.Parcels.{AreOrdered, ArePushed, GoFrom, parcel_cmp, parcel_with, parcels_of};
 
 use crate::along::all_along;
 use dsde_bank::Handle;
+use dsde_core_moves::given::program::Program;
+use dsde_core_moves::given::routes_table::RouteTable;
 use dsde_lists::Memory;
-use dsde_program::Program;
-use dsde_routes_table::RouteTable;
 use dsde_routes_wiring::{Rank, Row};
 use dsde_values::{Seq, Value, Values};
 use std::alloc::Global;

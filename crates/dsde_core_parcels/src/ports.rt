@@ -1,7 +1,7 @@
 //! What comes to a target, port by port.
 
 ghost use Rattle.std.specs.Prelude.{◌≡◌, ◌++◌, IfOk, OnOk};
-ghost use Rattle.dsde_sim_gathering.specs.Boxes.{added, empty_ports};
+ghost use Rattle.dsde_core_moves.specs.given.sim_gathering.Boxes.{added, empty_ports};
 ghost use Rattle.dsde_core_parcels.specs.Inboxes.{spread};
 ghost use Rattle.dsde_core_parcels.specs.Ports.{add_all};
 

@@ -1,28 +1,28 @@
 -- Any block of a model in which nothing is wrong.
 use Rattle.std.proofs.Common.{◌≡◌, ◌≢◌, ℕ, suc, ◌+◌, List, [], ◌∷◌, ◌++◌, length, Some, Result, Ok, Err, slice_get, refl, sym, ◌∙◌, ap, subst, append_assoc, length-append}
-use Rattle.dsde_syntax.specs.declared.stmt.Stmt.{Stmt}
-use Rattle.dsde_syntax.specs.declared.decl.Model.{Model}
+use Rattle.dsde_language.specs.given.syntax.stmt_Stmt.{Stmt}
+use Rattle.dsde_language.specs.given.syntax.decl_Model.{Model}
 use Rattle.dsde_values.specs.declared.arrival.Item.{Item}
 use Rattle.dsde_values.specs.declared.types.Field.{Field}
 use Rattle.dsde_values.specs.declared.types.Types.{Types}
 use Rattle.dsde_values.specs.declared.value.Value.{Value}
 use Rattle.dsde_faults.specs.declared.end.EvalEnd.{EvalEnd}
-use Rattle.dsde_program_nodes.specs.declared.ids.BlockId.{BlockId}
-use Rattle.dsde_declared.specs.Models.{whole_of, types_of}
-use Rattle.dsde_program_nodes.specs.Pieces.{Block}
-use Rattle.dsde_check_rules.specs.Right.{IsRight}
-use Rattle.dsde_eval_meaning.specs.Outcome.{Halt, Fault, Stuck}
-use Rattle.dsde_eval_meaning.specs.Meaning.{Vars, Scene, scene}
-use Rattle.dsde_eval_meaning.specs.Flow.{Flow, why}
-use Rattle.dsde_eval_meaning.specs.Functions.{functions_of, block_of}
-use Rattle.dsde_eval_meaning.specs.Tables.{Coded, State, state_of, means_in, acts_flow, Flows}
-use Rattle.dsde_eval_meaning.specs.Typed.{Fits, AllSent, Lands, values_in, shown, seen}
-use Rattle.dsde_eval_meaning.specs.Scopes.{Stands}
-use Rattle.dsde_eval_meaning.specs.Agreement.{BlockAgrees, BlocksAgree}
-use Rattle.dsde_sound_places.specs.Places.{IsBlock, piece_of}
-use Rattle.dsde_sound_places.specs.Laws.{KnownIsWithin}
-use Rattle.dsde_sound_functions.specs.Coded.{coded_of, FuncsAgree, FunctionsAgree}
-use Rattle.dsde_sound_places.specs.Conditions.{CanRun, Ran, Grown}
+use Rattle.dsde_language.specs.declared.node_ids.BlockId.{BlockId}
+use Rattle.dsde_language.specs.DeclaredModels.{whole_of, types_of}
+use Rattle.dsde_language.specs.Pieces.{Block}
+use Rattle.dsde_language.specs.Right.{IsRight}
+use Rattle.dsde_language.specs.Outcome.{Halt, Fault, Stuck}
+use Rattle.dsde_language.specs.Meaning.{Vars, Scene, scene}
+use Rattle.dsde_language.specs.Flow.{Flow, why}
+use Rattle.dsde_language.specs.Functions.{functions_of, block_of}
+use Rattle.dsde_language.specs.MeaningTables.{Coded, State, state_of, means_in, acts_flow, Flows}
+use Rattle.dsde_language.specs.Typed.{Fits, AllSent, Lands, values_in, shown, seen}
+use Rattle.dsde_language.specs.Scopes.{Stands}
+use Rattle.dsde_language.specs.Agreement.{BlockAgrees, BlocksAgree}
+use Rattle.dsde_sound_expressions.specs.Places.{IsBlock, piece_of}
+use Rattle.dsde_sound_expressions.specs.Laws.{KnownIsWithin}
+use Rattle.dsde_sound_expressions.specs.Coded.{coded_of, FuncsAgree, FunctionsAgree}
+use Rattle.dsde_sound_expressions.specs.Conditions.{CanRun, Ran, Grown}
 
 -- the block with a number
 abbrev block_id : ℕ → BlockId

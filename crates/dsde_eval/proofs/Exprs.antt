@@ -1,26 +1,26 @@
 -- Any expression of a model in which nothing is wrong.
 use Rattle.std.proofs.Common.{◌≡◌, ◌≢◌, ℕ, Bool, List, Result, Err, sym, ◌∙◌, ap, subst}
-use Rattle.dsde_syntax.specs.declared.expr.Expr.{Expr}
-use Rattle.dsde_syntax.specs.declared.decl.Model.{Model}
+use Rattle.dsde_language.specs.given.syntax.expr_Expr.{Expr}
+use Rattle.dsde_language.specs.given.syntax.decl_Model.{Model}
 use Rattle.dsde_values.specs.declared.types.Field.{Field}
 use Rattle.dsde_values.specs.declared.types.Ty.{Ty}
 use Rattle.dsde_values.specs.declared.value.Value.{Value}
 use Rattle.dsde_faults.specs.declared.end.EvalEnd.{EvalEnd}
-use Rattle.dsde_check_rules.specs.Judge.{judge}
-use Rattle.dsde_program_nodes.specs.Expressions.{resolve, expr_id}
-use Rattle.dsde_declared.specs.Models.{whole_of, types_of}
-use Rattle.dsde_check_rules.specs.Right.{IsRight}
-use Rattle.dsde_eval_meaning.specs.Outcome.{Stuck, Outcome, Gives}
-use Rattle.dsde_eval_meaning.specs.Meaning.{Vars}
-use Rattle.dsde_eval_meaning.specs.Functions.{functions_of, mean_of}
-use Rattle.dsde_eval_meaning.specs.Tables.{Coded, means_in}
-use Rattle.dsde_eval_meaning.specs.Typed.{Typed, Sound, Fits, values_in}
-use Rattle.dsde_eval_meaning.specs.Agreement.{Agrees, ExpressionsAgree}
-use Rattle.dsde_sound_places.specs.Places.{IsExpr}
-use Rattle.dsde_sound_places.specs.Laws.{KnownIsWithin}
-use Rattle.dsde_sound_functions.specs.Coded.{coded_of, FuncsAgree, FunctionsAgree}
-use Rattle.dsde_sound_places.specs.Conditions.{CanEval, Came}
-use Rattle.dsde_sound_typing.specs.lemmas.Outcomes.{sound-stuck}
+use Rattle.dsde_language.specs.Judge.{judge}
+use Rattle.dsde_language.specs.Expressions.{resolve, expr_id}
+use Rattle.dsde_language.specs.DeclaredModels.{whole_of, types_of}
+use Rattle.dsde_language.specs.Right.{IsRight}
+use Rattle.dsde_language.specs.Outcome.{Stuck, Outcome, Gives}
+use Rattle.dsde_language.specs.Meaning.{Vars}
+use Rattle.dsde_language.specs.Functions.{functions_of, mean_of}
+use Rattle.dsde_language.specs.MeaningTables.{Coded, means_in}
+use Rattle.dsde_language.specs.Typed.{Typed, Sound, Fits, values_in}
+use Rattle.dsde_language.specs.Agreement.{Agrees, ExpressionsAgree}
+use Rattle.dsde_sound_expressions.specs.Places.{IsExpr}
+use Rattle.dsde_sound_expressions.specs.Laws.{KnownIsWithin}
+use Rattle.dsde_sound_expressions.specs.Coded.{coded_of, FuncsAgree, FunctionsAgree}
+use Rattle.dsde_sound_expressions.specs.Conditions.{CanEval, Came}
+use Rattle.dsde_sound_expressions.specs.lemmas.Outcomes.{sound-stuck}
 
 module _ (model : Model) (right : IsRight model) (agree : ExpressionsAgree) (within : KnownIsWithin) (functions : FunctionsAgree) where
   module _ (total : Bool) (slots : List Field) (number : ℕ) (expr : Expr) (t : Ty) (is : IsExpr model total slots number expr t) where

@@ -5,10 +5,10 @@ use Rattle.dsde_values.specs.declared.types.Ty.TheVariants as ty
 use Rattle.dsde_values.specs.declared.types.Types.{Types}
 use Rattle.dsde_values.specs.declared.value.Value.{Value}
 use Rattle.dsde_faults.specs.declared.kind.FaultKind.{FaultKind}
-use Rattle.dsde_eval_meaning.specs.Outcome.{Fault, Stuck, Outcome, option_of}
-use Rattle.dsde_eval_meaning.specs.Typed.{Typed, Sound}
-use Rattle.dsde_sound_typing.specs.lemmas.Outcomes.{sound-stuck}
-use Rattle.dsde_sound_typing.specs.lemmas.Values.{Held, option-sound}
+use Rattle.dsde_language.specs.Outcome.{Fault, Stuck, Outcome, option_of}
+use Rattle.dsde_language.specs.Typed.{Typed, Sound}
+use Rattle.dsde_sound_expressions.specs.lemmas.Outcomes.{sound-stuck}
+use Rattle.dsde_sound_expressions.specs.lemmas.Values.{Held, option-sound}
 
 -- What is total has no fault.
 pub total-ok : {A : Type 0} (P : A → Type 0) (x : Outcome A) (kind : FaultKind) (at : ℕ) → Sound true P x → x ≡ Err (Fault kind at) → ⊥

@@ -2,8 +2,8 @@
 use Rattle.std.proofs.Common.{◌≡◌, ◌≢◌, ℕ, ◌<◌, true, List, length, Option, None, Some, is_some, Result, Ok, Err, slice_get, sym, ◌∙◌, ap, subst}
 use Rattle.std.specs.Prelude.{IfSome}
 use Rattle.std.proofs.lemmas.Option.{slice_get_within}
-use Rattle.dsde_syntax.specs.declared.expr.Expr.{Expr}
-use Rattle.dsde_syntax.specs.declared.decl.Model.{Model}
+use Rattle.dsde_language.specs.given.syntax.expr_Expr.{Expr}
+use Rattle.dsde_language.specs.given.syntax.decl_Model.{Model}
 use Rattle.dsde_values.specs.declared.types.Field.{Field}
 use Rattle.dsde_values.specs.declared.types.Ty.{Ty}
 use Rattle.dsde_values.specs.declared.types.Ty.TheVariants as ty
@@ -14,16 +14,16 @@ use Rattle.dsde_values.specs.declared.value.Value.TheViews.{outs-Some}
 use Rattle.dsde_faults.specs.declared.kind.FaultKind.{FaultKind}
 use Rattle.dsde_faults.specs.declared.end.EvalEnd.{EvalEnd}
 use Rattle.dsde_faults.specs.declared.end.EvalEnd.TheVariants as end_of
-use Rattle.dsde_program_nodes.specs.declared.code.ViaCode.{ViaCode}
-use Rattle.dsde_declared.specs.Models.{types_of}
-use Rattle.dsde_program_nodes.specs.Models.{resolved}
-use Rattle.dsde_eval_meaning.specs.Outcome.{Stuck, Outcome, Gives, option_of}
-use Rattle.dsde_eval_meaning.specs.Typed.{Typed, Sound}
-use Rattle.dsde_sound_places.specs.Places.{IsExpr}
-use Rattle.dsde_eval_meaning.specs.Functions.{mean_of}
-use Rattle.dsde_sound_places.specs.Conditions.{CanEval, Came, IsVia, CanTranslate, Translated, via_values, option_value}
-use Rattle.dsde_sound_typing.specs.lemmas.Outcomes.{sound-given}
-use Rattle.dsde_sound_typing.specs.lemmas.Values.{Held, option-sound}
+use Rattle.dsde_language.specs.declared.code.ViaCode.{ViaCode}
+use Rattle.dsde_language.specs.DeclaredModels.{types_of}
+use Rattle.dsde_language.specs.NodeModels.{resolved}
+use Rattle.dsde_language.specs.Outcome.{Stuck, Outcome, Gives, option_of}
+use Rattle.dsde_language.specs.Typed.{Typed, Sound}
+use Rattle.dsde_sound_expressions.specs.Places.{IsExpr}
+use Rattle.dsde_language.specs.Functions.{mean_of}
+use Rattle.dsde_sound_expressions.specs.Conditions.{CanEval, Came, IsVia, CanTranslate, Translated, via_values, option_value}
+use Rattle.dsde_sound_expressions.specs.lemmas.Outcomes.{sound-given}
+use Rattle.dsde_sound_expressions.specs.lemmas.Values.{Held, option-sound}
 use Rattle.dsde_eval.specs.Translations.{HasTargetType}
 use Rattle.dsde_eval.proofs.Typing.{is-option, total-ok}
 

@@ -1,14 +1,14 @@
 -- The type of what comes of a translation.
 use Rattle.std.specs.Prelude.{◌≡◌, ℕ, List, Option, is_some, IfSome}
-use Rattle.dsde_syntax.specs.declared.expr.Expr.{Expr}
-use Rattle.dsde_syntax.specs.declared.decl.Model.{Model}
+use Rattle.dsde_language.specs.given.syntax.expr_Expr.{Expr}
+use Rattle.dsde_language.specs.given.syntax.decl_Model.{Model}
 use Rattle.dsde_values.specs.declared.types.Field.{Field}
 use Rattle.dsde_values.specs.declared.types.Ty.{Ty}
 use Rattle.dsde_values.specs.declared.value.Value.{Value}
-use Rattle.dsde_declared.specs.Models.{types_of}
-use Rattle.dsde_eval_meaning.specs.Meaning.{Vars}
-use Rattle.dsde_eval_meaning.specs.Typed.{Typed, Fits, values_in}
-use Rattle.dsde_sound_places.specs.Conditions.{IsVia, via_values}
+use Rattle.dsde_language.specs.DeclaredModels.{types_of}
+use Rattle.dsde_language.specs.Meaning.{Vars}
+use Rattle.dsde_language.specs.Typed.{Typed, Fits, values_in}
+use Rattle.dsde_sound_expressions.specs.Conditions.{IsVia, via_values}
 
 -- What comes of any translation with this number, if something comes, has the type of the target's
 -- port, which is that of what the option holds that its body gives.

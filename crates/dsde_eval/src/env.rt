@@ -1,18 +1,18 @@
 //! Expressions and blocks by their numbers.
 
 ghost use Rattle.std.specs.Prelude.{◌≡◌, Err};
-ghost use Rattle.dsde_eval_meaning.specs.Tables.{state_of};
-ghost use Rattle.dsde_sound_functions.specs.Coded.{coded_of};
+ghost use Rattle.dsde_language.specs.MeaningTables.{state_of};
+ghost use Rattle.dsde_sound_expressions.specs.Coded.{coded_of};
 ghost use Rattle.dsde_eval_tables.specs.declared.evaluator.Evaluator.{Evaluator};
 ghost use Rattle.dsde_eval_tables.specs.Evaluating as evaluating;
 ghost use Rattle.dsde_eval_tables.specs.Passing.{PassesIn};
-ghost use Rattle.dsde_sound_places.specs.Conditions.{CanEval, Came, CanRun, Ran};
+ghost use Rattle.dsde_sound_expressions.specs.Conditions.{CanEval, Came, CanRun, Ran};
 
 use crate::laws::laws;
 use dsde_eval_tables::{Evaluator, GREATEST_HEIGHT};
 use dsde_faults::EvalEnd;
+use dsde_language::{BlockId, ExprId};
 use dsde_program::Program;
-use dsde_program_nodes::{BlockId, ExprId};
 use dsde_values::{Item, Seq, Value, Values};
 use std::alloc::Global;
 

@@ -1,13 +1,10 @@
 //! What holds of each model in which nothing is wrong.
 
-ghost use Rattle.dsde_eval_meaning.specs.Agreement.{BlocksAgree, ExpressionsAgree};
-ghost use Rattle.dsde_sound_places.specs.Laws.{KnownIsWithin};
-ghost use Rattle.dsde_sound_functions.specs.Coded.{FunctionsAgree};
+ghost use Rattle.dsde_language.specs.Agreement.{BlocksAgree, ExpressionsAgree};
+ghost use Rattle.dsde_sound_expressions.specs.Laws.{KnownIsWithin};
+ghost use Rattle.dsde_sound_expressions.specs.Coded.{FunctionsAgree};
 
-use dsde_sound_blocks::blocks_agree;
-use dsde_sound_expressions::expressions_agree;
-use dsde_sound_functions::functions_agree;
-use dsde_sound_places::known_is_within;
+use dsde_sound_expressions::{blocks_agree, expressions_agree, functions_agree, known_is_within};
 
 /// Laws: expressions, blocks and functions in which nothing is wrong have their types, and mean in
 /// tables what they mean over names; and what is known at a place is known of the whole file.

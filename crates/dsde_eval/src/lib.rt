@@ -2,9 +2,11 @@
 #![tactic(auto)]
 
 mod env;
+pub mod given;
 mod laws;
 mod via;
 
 pub use dsde_faults::{EvalEnd, FaultKind};
+pub use dsde_program::Program;
 pub use env::{Env, eval, run_block};
 pub use via::translate;

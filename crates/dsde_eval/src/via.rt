@@ -1,12 +1,12 @@
 //! Translations of what goes along a link.
 
 ghost use Rattle.std.specs.Prelude.{◌≡◌, Some, option_copied, IfOk};
-ghost use Rattle.dsde_sound_places.specs.Conditions.{CanTranslate, Translated, via_values, option_value, IsOption};
+ghost use Rattle.dsde_sound_expressions.specs.Conditions.{CanTranslate, Translated, via_values, option_value, IsOption};
 ghost use Rattle.dsde_eval.specs.Translations.{HasTargetType};
 
 use crate::env::{Env, eval};
-use dsde_declared::ViaId;
 use dsde_faults::EvalEnd;
+use dsde_language::ViaId;
 use dsde_lists::Memory;
 use dsde_program::Program;
 use dsde_values::{Seq, Value, Values, copy_value};

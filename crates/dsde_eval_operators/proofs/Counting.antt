@@ -9,7 +9,7 @@ use borrow.Author.Tests.{ltb-true}
 use borrow.Author.Differences.{up, down}
 use Rattle.dsde_values.specs.declared.value.Value.{Value}
 use Rattle.dsde_values.specs.declared.value.Value.TheVariants as value
-use Rattle.dsde_eval_meaning.specs.Operators.{count_of, numbers_from}
+use Rattle.dsde_language.specs.MeaningOperators.{count_of, numbers_from}
 
 count-is : (z : ℤ) → count_of z ≡ up z - down z
 count-is (pos n) = omega arith

@@ -5,7 +5,7 @@ use Rattle.std.proofs.lemmas.Bool.{false≢true}
 use borrow.Author.Tests.{leb-true, le-leb, eqb-true, eq-eqb}
 use Rattle.dsde_values.specs.declared.value.Value.{Value, Value-F, out-Value, roll-Value, roll-out-Value, out-roll-Value, fold-roll-Value, map-Value, ind-Value}
 use Rattle.dsde_values.specs.declared.value.Value.TheOpen as layer
-use Rattle.dsde_eval_meaning.specs.Operators.{same_parts, same_truth, same_step, same_value}
+use Rattle.dsde_language.specs.MeaningOperators.{same_parts, same_truth, same_step, same_value}
 
 both : (a b : Bool) → a && b ≡ true → (a ≡ true) × (b ≡ true)
 both true b h = (refl, h)

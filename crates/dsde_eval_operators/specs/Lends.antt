@@ -3,7 +3,7 @@ use Rattle.std.specs.Prelude.{◌≡◌, ℕ, List, Result, Ok, Err, slice_get}
 use Rattle.std.specs.Borrow.{Bor}
 use Rattle.dsde_values.specs.declared.value.Value.{Value}
 use Rattle.dsde_faults.specs.declared.end.EvalEnd.{EvalEnd}
-use Rattle.dsde_eval_meaning.specs.Outcome.{Outcome, ◌>>=◌, present, items_of, Gives}
+use Rattle.dsde_language.specs.Outcome.{Outcome, ◌>>=◌, present, items_of, Gives}
 
 -- The answer lends what is meant, or it is the fault that is meant, or memory ran out.
 abbrev pub Lends : {A : Type 0} → Outcome A → Result (Bor A) EvalEnd → Type 0

@@ -3,13 +3,13 @@
 ghost use Rattle.std.specs.Prelude.{◌≡◌, ◌≢◌, pos, length, Err, IfOk, IfErr};
 ghost use Rattle.dsde_faults.specs.declared.end.EvalEnd.TheVariants as eval_end;
 ghost use Rattle.dsde_values.specs.declared.value.Value.TheVariants as value;
-ghost use Rattle.dsde_eval_meaning.specs.Outcome.{Stuck, Gives};
-ghost use Rattle.dsde_eval_meaning.specs.Operators.{of_one, of_two, of_three};
+ghost use Rattle.dsde_language.specs.Outcome.{Stuck, Gives};
+ghost use Rattle.dsde_language.specs.MeaningOperators.{of_one, of_two, of_three};
 
 use crate::held::{held_in, int_of, items_of, list_of};
 use crate::lists::{first_items, later_items, listed, pushed, ranged, replaced};
-use dsde_declared::Builtin;
 use dsde_faults::EvalEnd;
+use dsde_language::Builtin;
 use dsde_values::{Seq, Value};
 use std::alloc::Global;
 

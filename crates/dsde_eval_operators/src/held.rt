@@ -2,7 +2,7 @@
 
 ghost use Rattle.std.specs.Prelude.{◌≡◌, ◌≢◌, Ok, Err};
 ghost use Rattle.std.specs.Option.{option_copied};
-ghost use Rattle.dsde_eval_meaning.specs.Outcome.{Stuck, int_of, truth_of, items_of, option_of, parts_of};
+ghost use Rattle.dsde_language.specs.Outcome.{Stuck, int_of, truth_of, items_of, option_of, parts_of};
 
 use dsde_values::{Seq, Value};
 

@@ -1,8 +1,8 @@
 //! Lists of at most 65,536 items.
 
 ghost use Rattle.std.specs.Prelude.{◌≡◌, ◌≢◌, ◌-ℤ◌, ◌++◌, [], ◌∷◌, take, drop, nat_le, Err, IfOk};
-ghost use Rattle.dsde_eval_meaning.specs.Outcome.{Stuck, Gives};
-ghost use Rattle.dsde_eval_meaning.specs.Operators.{listed, joined, item_at, indexed, count_of, numbers_from, ranged, replaced};
+ghost use Rattle.dsde_language.specs.Outcome.{Stuck, Gives};
+ghost use Rattle.dsde_language.specs.MeaningOperators.{listed, joined, item_at, indexed, count_of, numbers_from, ranged, replaced};
 ghost use Rattle.dsde_eval_operators.specs.Lends.{Lends, Stands, StandsIn};
 
 use crate::held::{int_of, items_of, list_of};

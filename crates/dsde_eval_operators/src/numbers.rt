@@ -3,8 +3,8 @@
 ghost use Rattle.std.specs.Prelude.{◌≡◌, ◌+ℤ◌, ◌-ℤ◌, ◌*ℤ◌, Ok, Err, MatchOption};
 ghost use Rattle.dsde_faults.specs.declared.end.EvalEnd.TheVariants as eval_end;
 ghost use Rattle.dsde_faults.specs.declared.kind.FaultKind.TheVariants as kind;
-ghost use Rattle.dsde_eval_meaning.specs.Outcome.{Gives};
-ghost use Rattle.dsde_eval_meaning.specs.Operators.{whole, divided, remaining, nearest};
+ghost use Rattle.dsde_language.specs.Outcome.{Gives};
+ghost use Rattle.dsde_language.specs.MeaningOperators.{whole, divided, remaining, nearest};
 ghost use Rattle.dsde_values.specs.declared.value.Value.TheVariants as value;
 
 use dsde_faults::{EvalEnd, FaultKind};

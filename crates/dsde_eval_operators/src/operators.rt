@@ -1,17 +1,17 @@
 //! Operators of one and of two values.
 
 ghost use Rattle.std.specs.Prelude.{◌≡◌, ◌≢◌, Ok, Err};
-ghost use Rattle.dsde_declared.specs.declared.operator.Binary.TheVariants as binary;
-ghost use Rattle.dsde_eval_meaning.specs.Outcome.{Stuck, Gives};
-ghost use Rattle.dsde_eval_meaning.specs.Operators.{same_value, operated, denied, negated, unwrapped};
+ghost use Rattle.dsde_language.specs.declared.operator.Binary.TheVariants as binary;
+ghost use Rattle.dsde_language.specs.Outcome.{Stuck, Gives};
+ghost use Rattle.dsde_language.specs.MeaningOperators.{same_value, operated, denied, negated, unwrapped};
 
 use crate::held::{int_of, option_of, truth_of};
 use crate::lists::joined;
 use crate::numbers::{
     capped_difference, capped_product, capped_sum, difference, product, quotient, remainder, sum,
 };
-use dsde_declared::Binary;
 use dsde_faults::{EvalEnd, FaultKind};
+use dsde_language::Binary;
 use dsde_values::{Value, equal};
 
 /// Whether two values are equal.

@@ -1,15 +1,15 @@
 -- An assignment of a list that is made anew from the list in the same slot.
 use Rattle.std.proofs.Common.{◌≡◌, ◌≢◌, ℕ, zero, suc, ◌-◌, Option, Some, None, Ok, Err, refl, ap, ◌∙◌, arith, slice_get}
 use Rattle.dsde_values.specs.declared.value.Value.{Value}
-use Rattle.dsde_declared.specs.declared.operator.Builtin.TheVariants as builtin
-use Rattle.dsde_program_nodes.specs.declared.ids.ExprId.{ExprId}
-use Rattle.dsde_program_nodes.specs.declared.act.Act.TheVariants as act
-use Rattle.dsde_program_nodes.specs.declared.node.Node.{Node}
-use Rattle.dsde_program_nodes.specs.declared.node.Node.TheVariants as node
-use Rattle.dsde_eval_meaning.specs.Outcome.{Outcome, Stuck, ◌>>=◌, present}
-use Rattle.dsde_eval_meaning.specs.Operators.{of_three}
-use Rattle.dsde_eval_meaning.specs.Flow.{Flow, over, why}
-use Rattle.dsde_eval_meaning.specs.Tables.{Coded, State, means_in, act_flow, node_at, set_slot}
+use Rattle.dsde_language.specs.declared.operator.Builtin.TheVariants as builtin
+use Rattle.dsde_language.specs.declared.node_ids.ExprId.{ExprId}
+use Rattle.dsde_language.specs.declared.act.Act.TheVariants as act
+use Rattle.dsde_language.specs.declared.node.Node.{Node}
+use Rattle.dsde_language.specs.declared.node.Node.TheVariants as node
+use Rattle.dsde_language.specs.Outcome.{Outcome, Stuck, ◌>>=◌, present}
+use Rattle.dsde_language.specs.MeaningOperators.{of_three}
+use Rattle.dsde_language.specs.Flow.{Flow, over, why}
+use Rattle.dsde_language.specs.MeaningTables.{Coded, State, means_in, act_flow, node_at, set_slot}
 use Rattle.dsde_eval_short.specs.declared.change.Change.{Change}
 use Rattle.dsde_eval_short.specs.declared.change.Change.TheVariants as change
 use Rattle.dsde_eval_short.specs.declared.change.Which.TheVariants as which

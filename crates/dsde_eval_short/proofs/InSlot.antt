@@ -5,9 +5,9 @@ use Rattle.dsde_values.specs.declared.arrival.Item.{Item}
 use Rattle.dsde_values.specs.declared.value.Value.{Value}
 use Rattle.dsde_faults.specs.declared.end.EvalEnd.{EvalEnd}
 use Rattle.dsde_faults.specs.declared.end.EvalEnd.TheVariants as end_of
-use Rattle.dsde_eval_meaning.specs.Outcome.{Fault, Outcome, Stuck, ◌>>=◌, present}
-use Rattle.dsde_eval_meaning.specs.Flow.{Flow, over, stopped, why}
-use Rattle.dsde_eval_meaning.specs.Tables.{Flows, State, set_slot, state_of}
+use Rattle.dsde_language.specs.Outcome.{Fault, Outcome, Stuck, ◌>>=◌, present}
+use Rattle.dsde_language.specs.Flow.{Flow, over, stopped, why}
+use Rattle.dsde_language.specs.MeaningTables.{Flows, State, set_slot, state_of}
 use Rattle.dsde_eval_short.specs.Changes.{Changes, made_in}
 
 -- what stands in a slot, put there again

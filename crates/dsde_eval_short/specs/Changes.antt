@@ -2,17 +2,17 @@
 -- beside it: it stands in a slot, which has no fault. This project's profile.
 use Rattle.std.specs.Prelude.{◌≡◌, ◌≢◌, ◌-◌, ℕ, List, [], ◌∷◌, Some, Result, Ok, Err, slice_get}
 use Rattle.dsde_values.specs.declared.value.Value.{Value}
-use Rattle.dsde_declared.specs.declared.operator.Binary.TheVariants as binary
-use Rattle.dsde_declared.specs.declared.operator.Builtin.TheVariants as builtin
-use Rattle.dsde_program_nodes.specs.declared.ids.ExprId.{ExprId}
-use Rattle.dsde_program_nodes.specs.declared.node.Node.{Node}
-use Rattle.dsde_program_nodes.specs.declared.node.Node.TheVariants as node
-use Rattle.dsde_program_nodes.specs.declared.act.Act.TheVariants as act
+use Rattle.dsde_language.specs.declared.operator.Binary.TheVariants as binary
+use Rattle.dsde_language.specs.declared.operator.Builtin.TheVariants as builtin
+use Rattle.dsde_language.specs.declared.node_ids.ExprId.{ExprId}
+use Rattle.dsde_language.specs.declared.node.Node.{Node}
+use Rattle.dsde_language.specs.declared.node.Node.TheVariants as node
+use Rattle.dsde_language.specs.declared.act.Act.TheVariants as act
 use Rattle.dsde_faults.specs.declared.end.EvalEnd.{EvalEnd}
-use Rattle.dsde_eval_meaning.specs.Outcome.{Outcome, Stuck, Gives, ◌>>=◌, present}
-use Rattle.dsde_eval_meaning.specs.Operators.{joined, of_two, of_three}
-use Rattle.dsde_eval_meaning.specs.Flow.{Flow, over, why}
-use Rattle.dsde_eval_meaning.specs.Tables.{Coded, Part, State, means_in, act_flow, set_slot}
+use Rattle.dsde_language.specs.Outcome.{Outcome, Stuck, Gives, ◌>>=◌, present}
+use Rattle.dsde_language.specs.MeaningOperators.{joined, of_two, of_three}
+use Rattle.dsde_language.specs.Flow.{Flow, over, why}
+use Rattle.dsde_language.specs.MeaningTables.{Coded, Part, State, means_in, act_flow, set_slot}
 use Rattle.dsde_eval_short.specs.declared.change.Change.{Change}
 use Rattle.dsde_eval_short.specs.declared.change.Change.TheVariants as change
 use Rattle.dsde_eval_short.specs.declared.change.Which.{Which}

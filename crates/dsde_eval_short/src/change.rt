@@ -1,11 +1,10 @@
 //! Expressions that make a list anew from the list in a slot.
 
 ghost use Rattle.std.specs.Prelude.{◌≡◌, IfSome, IsTrue};
-ghost use Rattle.dsde_program_nodes.specs.declared.node.Node.TheVariants as node_of;
+ghost use Rattle.dsde_language.specs.declared.node.Node.TheVariants as node_of;
 ghost use Rattle.dsde_eval_short.specs.Changes.{IsSlot, IsChange, Makes};
 
-use dsde_declared::{Binary, Builtin};
-use dsde_program_nodes::{ExprId, Node};
+use dsde_language::{Binary, Builtin, ExprId, Node};
 use dsde_values::Seq;
 
 /// What is done to a list with one value.

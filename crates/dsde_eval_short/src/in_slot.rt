@@ -1,11 +1,11 @@
 //! A list that is changed in its slot.
 
 ghost use Rattle.std.specs.Prelude.{◌≡◌, ◌≢◌, Some, Err};
-ghost use Rattle.dsde_declared.specs.declared.operator.Builtin.TheVariants as builtin;
-ghost use Rattle.dsde_eval_meaning.specs.Outcome.{Stuck};
-ghost use Rattle.dsde_eval_meaning.specs.Operators.{of_three};
-ghost use Rattle.dsde_eval_meaning.specs.Flow.{why};
-ghost use Rattle.dsde_eval_meaning.specs.Tables.{Flows, state_of};
+ghost use Rattle.dsde_language.specs.declared.operator.Builtin.TheVariants as builtin;
+ghost use Rattle.dsde_language.specs.Outcome.{Stuck};
+ghost use Rattle.dsde_language.specs.MeaningOperators.{of_three};
+ghost use Rattle.dsde_language.specs.Flow.{why};
+ghost use Rattle.dsde_language.specs.MeaningTables.{Flows, state_of};
 ghost use Rattle.dsde_eval_short.specs.Changes.{made_by, made_in};
 
 use crate::change::Which;

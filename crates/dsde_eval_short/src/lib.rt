@@ -3,6 +3,7 @@
 #![tactic(auto)]
 
 mod change;
+pub mod given;
 mod in_slot;
 mod laws;
 mod lists;

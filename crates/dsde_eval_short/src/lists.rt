@@ -1,9 +1,9 @@
 //! A list that is changed where it is.
 
 ghost use Rattle.std.specs.Prelude.{◌≡◌, ◌≢◌, Ok, Err};
-ghost use Rattle.dsde_declared.specs.declared.operator.Builtin.TheVariants as builtin;
-ghost use Rattle.dsde_eval_meaning.specs.Outcome.{Stuck};
-ghost use Rattle.dsde_eval_meaning.specs.Operators.{joined, of_two, of_three};
+ghost use Rattle.dsde_language.specs.declared.operator.Builtin.TheVariants as builtin;
+ghost use Rattle.dsde_language.specs.Outcome.{Stuck};
+ghost use Rattle.dsde_language.specs.MeaningOperators.{joined, of_two, of_three};
 ghost use Rattle.dsde_eval_short.specs.Changes.{Changes, made_by};
 
 use crate::change::Which;

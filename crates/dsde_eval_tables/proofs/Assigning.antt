@@ -3,11 +3,11 @@ use Rattle.std.proofs.Common.{◌≡◌, ◌≢◌, ℕ, ◌-◌, List, Some, Re
 use Rattle.dsde_values.specs.declared.arrival.Item.{Item}
 use Rattle.dsde_values.specs.declared.value.Value.{Value}
 use Rattle.dsde_faults.specs.declared.end.EvalEnd.{EvalEnd}
-use Rattle.dsde_program_nodes.specs.declared.ids.ExprId.{ExprId}
-use Rattle.dsde_program_nodes.specs.declared.act.Act.TheVariants as act
-use Rattle.dsde_eval_meaning.specs.Outcome.{Stuck}
-use Rattle.dsde_eval_meaning.specs.Flow.{Flow, why}
-use Rattle.dsde_eval_meaning.specs.Tables.{Coded, State, Flows, means_in, act_flow}
+use Rattle.dsde_language.specs.declared.node_ids.ExprId.{ExprId}
+use Rattle.dsde_language.specs.declared.act.Act.TheVariants as act
+use Rattle.dsde_language.specs.Outcome.{Stuck}
+use Rattle.dsde_language.specs.Flow.{Flow, why}
+use Rattle.dsde_language.specs.MeaningTables.{Coded, State, Flows, means_in, act_flow}
 use Rattle.dsde_eval_short.specs.declared.change.Change.{Change}
 use Rattle.dsde_eval_short.specs.Changes.{AreChanges, IsChange, changed_in}
 

@@ -2,13 +2,13 @@
 use Rattle.std.proofs.Common.{◌≡◌, ℕ, zero, suc, ◌-◌, ◌<◌, List, Option, Some, None, refl, sym, ap, subst, arith, slice_get}
 use Rattle.std.proofs.Common.{Err}
 use Rattle.dsde_values.specs.declared.value.Value.{Value}
-use Rattle.dsde_program_nodes.specs.declared.ids.BlockId.{BlockId}
-use Rattle.dsde_program_nodes.specs.declared.ids.ExprId.{ExprId}
-use Rattle.dsde_program_nodes.specs.declared.node.Node.{Node}
-use Rattle.dsde_program_nodes.specs.Pieces.{Block}
-use Rattle.dsde_eval_meaning.specs.Outcome.{Stuck, present}
-use Rattle.dsde_eval_meaning.specs.Flow.{stopped, over}
-use Rattle.dsde_eval_meaning.specs.Tables.{Coded, State, means_in, node_mean, acts_flow, node_at, block_at}
+use Rattle.dsde_language.specs.declared.node_ids.BlockId.{BlockId}
+use Rattle.dsde_language.specs.declared.node_ids.ExprId.{ExprId}
+use Rattle.dsde_language.specs.declared.node.Node.{Node}
+use Rattle.dsde_language.specs.Pieces.{Block}
+use Rattle.dsde_language.specs.Outcome.{Stuck, present}
+use Rattle.dsde_language.specs.Flow.{stopped, over}
+use Rattle.dsde_language.specs.MeaningTables.{Coded, State, means_in, node_mean, acts_flow, node_at, block_at}
 use Rattle.dsde_eval_tables.specs.Passing.{ActsPass, Behind, PassesIn}
 
 pub part-at : (coded : Coded) (depth : ℕ) (number : ExprId) (slots : List Value) (own : Node) → 0 < depth → slice_get coded.nodes number.0 ≡ Some own → (means_in coded depth).part number slots ≡ node_mean (means_in coded (depth - 1)) coded.functions own slots

@@ -2,11 +2,11 @@
 use Rattle.std.proofs.Common.{◌≡◌, ℕ, ◌<◌, ◌-◌, List, Option, Some, None, Ok, sym, ◌∙◌, ap, slice_get, IfSome, option_copied}
 use Rattle.std.specs.Borrow.{Bor}
 use Rattle.dsde_values.specs.declared.value.Value.{Value}
-use Rattle.dsde_program_nodes.specs.declared.ids.ExprId.{ExprId}
-use Rattle.dsde_program_nodes.specs.declared.node.Node.{Node}
-use Rattle.dsde_program_nodes.specs.declared.node.Node.TheVariants as node
-use Rattle.dsde_eval_meaning.specs.Outcome.{present}
-use Rattle.dsde_eval_meaning.specs.Tables.{Coded, means_in, node_mean}
+use Rattle.dsde_language.specs.declared.node_ids.ExprId.{ExprId}
+use Rattle.dsde_language.specs.declared.node.Node.{Node}
+use Rattle.dsde_language.specs.declared.node.Node.TheVariants as node
+use Rattle.dsde_language.specs.Outcome.{present}
+use Rattle.dsde_language.specs.MeaningTables.{Coded, means_in, node_mean}
 use Rattle.dsde_eval_tables.proofs.Depths.{part-at}
 
 -- what stands in the slot whose name an expression is

@@ -2,11 +2,11 @@
 use Rattle.std.proofs.Common.{◌≡◌, ◌≢◌, ℕ, List, [], ◌∷◌, ◌++◌, Option, Some, None, Result, Ok, Err, refl, ap, sym, ◌∙◌, slice_get}
 use Rattle.dsde_values.specs.declared.value.Value.{Value, Value-F, out-Value}
 use Rattle.dsde_values.specs.declared.value.Value.TheOpen as layer
-use Rattle.dsde_eval_meaning.specs.Outcome.{Halt, Outcome, Stuck, ◌>>=◌, present}
+use Rattle.dsde_language.specs.Outcome.{Halt, Outcome, Stuck, ◌>>=◌, present}
 use Rattle.dsde_faults.specs.declared.end.EvalEnd.{EvalEnd}
 use Rattle.dsde_faults.specs.declared.end.EvalEnd.TheVariants as end_of
-use Rattle.dsde_eval_operators.specs.Lends.{StandsIn}
-use Rattle.dsde_eval_meaning.specs.Tables.{field_at}
+use Rattle.dsde_eval_short.specs.given.eval_operators.Lends.{StandsIn}
+use Rattle.dsde_language.specs.MeaningTables.{field_at}
 use Rattle.dsde_values.specs.declared.value.Value.TheVariants as value
 use Rattle.dsde_eval_tables.specs.declared.spot.Got.{Got}
 use Rattle.dsde_eval_tables.specs.declared.spot.Got.TheVariants as got_of

@@ -1,13 +1,13 @@
 -- The tables that an evaluator reads.
 use Rattle.std.specs.Prelude.{◌≡◌, ℕ, List, Option, Result, Ok, Err}
 use Rattle.dsde_values.specs.declared.value.Value.{Value}
-use Rattle.dsde_declared.specs.declared.operator.Builtin.{Builtin}
-use Rattle.dsde_program_nodes.specs.declared.ids.ExprId.{ExprId}
+use Rattle.dsde_language.specs.declared.operator.Builtin.{Builtin}
+use Rattle.dsde_language.specs.declared.node_ids.ExprId.{ExprId}
 use Rattle.dsde_faults.specs.declared.end.EvalEnd.{EvalEnd}
 use Rattle.dsde_faults.specs.declared.end.EvalEnd.TheVariants as end_of
-use Rattle.dsde_eval_meaning.specs.Outcome.{Outcome, Fault, ◌>>=◌}
-use Rattle.dsde_eval_meaning.specs.Operators.{indexed, of_one}
-use Rattle.dsde_eval_meaning.specs.Tables.{Coded, Part, holds_at, kept_from}
+use Rattle.dsde_language.specs.Outcome.{Outcome, Fault, ◌>>=◌}
+use Rattle.dsde_language.specs.MeaningOperators.{indexed, of_one}
+use Rattle.dsde_language.specs.MeaningTables.{Coded, Part, holds_at, kept_from}
 use Rattle.dsde_eval_tables.specs.declared.evaluator.Evaluator.{Evaluator}
 
 -- the tables that an evaluator reads

@@ -2,14 +2,14 @@
 -- memory runs out, statements leave one of these.
 use Rattle.std.specs.Prelude.{◌≡◌, ◌⊎◌, ℕ, zero, suc, List, [], ◌∷◌, length, Option, Some, None, Ok, Err, MatchBool, slice_get}
 use Rattle.dsde_values.specs.declared.value.Value.{Value}
-use Rattle.dsde_program_nodes.specs.declared.ids.BlockId.{BlockId}
-use Rattle.dsde_program_nodes.specs.declared.act.Act.{Act}
-use Rattle.dsde_program_nodes.specs.declared.act.Act.TheVariants as act
-use Rattle.dsde_program_nodes.specs.declared.act.ActArm.{ActArm}
-use Rattle.dsde_program_nodes.specs.Pieces.{Block}
-use Rattle.dsde_eval_meaning.specs.Outcome.{◌>>=◌, present, items_of}
-use Rattle.dsde_eval_meaning.specs.Flow.{Flow, over}
-use Rattle.dsde_eval_meaning.specs.Tables.{Coded, State, Means, means_in, act_flow, cut, once, test_at, with_slot}
+use Rattle.dsde_language.specs.declared.node_ids.BlockId.{BlockId}
+use Rattle.dsde_language.specs.declared.act.Act.{Act}
+use Rattle.dsde_language.specs.declared.act.Act.TheVariants as act
+use Rattle.dsde_language.specs.declared.act.ActArm.{ActArm}
+use Rattle.dsde_language.specs.Pieces.{Block}
+use Rattle.dsde_language.specs.Outcome.{◌>>=◌, present, items_of}
+use Rattle.dsde_language.specs.Flow.{Flow, over}
+use Rattle.dsde_language.specs.MeaningTables.{Coded, State, Means, means_in, act_flow, cut, once, test_at, with_slot}
 
 -- from a state, by the block with a number, to another
 abbrev pub Passing : Type 1

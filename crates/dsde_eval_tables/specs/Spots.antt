@@ -5,10 +5,10 @@ use Rattle.dsde_values.specs.declared.value.Value.TheOpen as layer
 use Rattle.dsde_values.specs.declared.value.Value.TheVariants as value
 use Rattle.dsde_faults.specs.declared.end.EvalEnd.{EvalEnd}
 use Rattle.dsde_faults.specs.declared.end.EvalEnd.TheVariants as end_of
-use Rattle.dsde_eval_meaning.specs.Outcome.{Outcome, Fault, Stuck, ◌>>=◌, present, option_of}
-use Rattle.dsde_eval_meaning.specs.Operators.{unwrapped, indexed, of_one}
-use Rattle.dsde_eval_meaning.specs.Tables.{field_at}
-use Rattle.dsde_declared.specs.declared.operator.Builtin.{Builtin}
+use Rattle.dsde_language.specs.Outcome.{Outcome, Fault, Stuck, ◌>>=◌, present, option_of}
+use Rattle.dsde_language.specs.MeaningOperators.{unwrapped, indexed, of_one}
+use Rattle.dsde_language.specs.MeaningTables.{field_at}
+use Rattle.dsde_language.specs.declared.operator.Builtin.{Builtin}
 use Rattle.dsde_eval_tables.specs.declared.spot.Got.{Got}
 use Rattle.dsde_eval_tables.specs.declared.spot.Got.TheVariants as got_of
 use Rattle.dsde_eval_tables.specs.declared.spot.Spot.{Spot}

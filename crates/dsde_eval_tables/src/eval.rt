@@ -1,12 +1,12 @@
 //! Expressions are evaluated, and blocks are run.
 
 ghost use Rattle.std.specs.Prelude.{◌≡◌, ◌≢◌, ◌⊎◌, ◌++◌, ◌∷◌, [], Some, Err};
-ghost use Rattle.dsde_eval_meaning.specs.Outcome.{Stuck, Gives};
-ghost use Rattle.dsde_eval_meaning.specs.Operators.{combined};
-ghost use Rattle.dsde_eval_meaning.specs.Flow.{why};
-ghost use Rattle.dsde_eval_meaning.specs.Tables.{means_in, node_mean, values_from, holds_at, each_from, arms_from, run_code, builtin_at, braced_at, once, for_each, test_at, arms_flow, act_flow, acts_flow, state_of, with_slot, Flows, Tests};
-ghost use Rattle.dsde_program_nodes.specs.declared.act.Act.TheVariants as act_of;
-ghost use Rattle.dsde_program_nodes.specs.declared.node.Node.TheVariants as node_of;
+ghost use Rattle.dsde_language.specs.Outcome.{Stuck, Gives};
+ghost use Rattle.dsde_language.specs.MeaningOperators.{combined};
+ghost use Rattle.dsde_language.specs.Flow.{why};
+ghost use Rattle.dsde_language.specs.MeaningTables.{means_in, node_mean, values_from, holds_at, each_from, arms_from, run_code, builtin_at, braced_at, once, for_each, test_at, arms_flow, act_flow, acts_flow, state_of, with_slot, Flows, Tests};
+ghost use Rattle.dsde_language.specs.declared.act.Act.TheVariants as act_of;
+ghost use Rattle.dsde_language.specs.declared.node.Node.TheVariants as node_of;
 ghost use Rattle.dsde_eval_short.specs.Changes.{changed_in};
 ghost use Rattle.dsde_eval_tables.specs.Spots.{Reaches};
 ghost use Rattle.dsde_eval_tables.specs.Evaluating.{coded_of, one_kept, index_at, Adds};
@@ -17,13 +17,12 @@ use crate::slots::set_slot;
 use crate::spot::{
     Got, Spot, field_in, held_of, inner_of, is_there, item_of, one_of, slot_copy, taken,
 };
-use dsde_declared::{Binary, Builtin};
-use dsde_eval_operators::{
+use dsde_eval_short::given::eval_operators::{
     denied, items_of, listed, negated, of_three, of_two, operated, truth_of,
 };
 use dsde_eval_short::{Change, change_slot, changes_are_assignments, own_change, put_slot};
 use dsde_faults::EvalEnd;
-use dsde_program_nodes::{Act, ActArm, BlockId, ExprId, FnCode, Node, NodeArm};
+use dsde_language::{Act, ActArm, Binary, BlockId, Builtin, ExprId, FnCode, Node, NodeArm};
 use dsde_values::{Boxed, Item, Seq, Value};
 
 impl Evaluator<'_> {

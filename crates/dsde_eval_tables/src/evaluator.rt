@@ -1,6 +1,6 @@
 //! The evaluator of tables.
 
-use dsde_program_nodes::{FnCode, Tables};
+use dsde_language::{FnCode, Tables};
 use dsde_values::Seq;
 use std::alloc::Global;
 

@@ -3,6 +3,7 @@
 
 mod eval;
 mod evaluator;
+pub mod given;
 mod looks;
 mod slots;
 mod spot;

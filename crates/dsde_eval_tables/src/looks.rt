@@ -1,17 +1,16 @@
 //! Values that are looked at where they stand, and not copied.
 
 ghost use Rattle.std.specs.Prelude.{◌≡◌, ◌≢◌, Ok, Err, IfSome};
-ghost use Rattle.dsde_program_nodes.specs.declared.node.Node.TheVariants as node_of;
-ghost use Rattle.dsde_eval_meaning.specs.Outcome.{Stuck, Gives};
-ghost use Rattle.dsde_eval_meaning.specs.Operators.{combined};
-ghost use Rattle.dsde_eval_meaning.specs.Tables.{means_in, node_mean};
+ghost use Rattle.dsde_language.specs.declared.node.Node.TheVariants as node_of;
+ghost use Rattle.dsde_language.specs.Outcome.{Stuck, Gives};
+ghost use Rattle.dsde_language.specs.MeaningOperators.{combined};
+ghost use Rattle.dsde_language.specs.MeaningTables.{means_in, node_mean};
 ghost use Rattle.dsde_eval_tables.specs.Evaluating.{coded_of, index_at, made_of_one};
 
 use crate::evaluator::Evaluator;
-use dsde_declared::{Binary, Builtin};
-use dsde_eval_operators::{indexed, of_one, operated_on};
+use dsde_eval_short::given::eval_operators::{indexed, of_one, operated_on};
 use dsde_faults::EvalEnd;
-use dsde_program_nodes::{ExprId, Node};
+use dsde_language::{Binary, Builtin, ExprId, Node};
 use dsde_values::{Seq, Value, copy_value};
 
 impl Evaluator<'_> {

@@ -1,9 +1,9 @@
 //! What a body or a structure sees: values, each in its slot.
 
 ghost use Rattle.std.specs.Prelude.{◌≡◌, ◌≢◌, ◌++◌, Some, Err, IfOk};
-ghost use Rattle.dsde_eval_meaning.specs.Outcome.{Stuck};
-ghost use Rattle.dsde_eval_meaning.specs.Flow.{why};
-ghost use Rattle.dsde_eval_meaning.specs.Tables.{Flows, set_slot, state_of};
+ghost use Rattle.dsde_language.specs.Outcome.{Stuck};
+ghost use Rattle.dsde_language.specs.Flow.{why};
+ghost use Rattle.dsde_language.specs.MeaningTables.{Flows, set_slot, state_of};
 
 use dsde_faults::EvalEnd;
 use dsde_values::{Item, Memory, Seq, Value, Values, copy_values};

@@ -1,14 +1,14 @@
 //! Where a value stands in the slots.
 
 ghost use Rattle.std.specs.Prelude.{◌≡◌, ◌≢◌, Ok, Err, IfOk, slice_get};
-ghost use Rattle.dsde_eval_meaning.specs.Outcome.{Stuck, Gives, option_of, present};
-ghost use Rattle.dsde_eval_meaning.specs.Operators.{indexed};
-ghost use Rattle.dsde_eval_meaning.specs.Tables.{field_at};
+ghost use Rattle.dsde_language.specs.Outcome.{Stuck, Gives, option_of, present};
+ghost use Rattle.dsde_language.specs.MeaningOperators.{indexed};
+ghost use Rattle.dsde_language.specs.MeaningTables.{field_at};
 ghost use Rattle.dsde_eval_tables.specs.Spots.{stepped, reached, standing, further, found_in, found, field_standing, field_in, held_at, holding, unwrapped_at, indexed_at, one_at, Reaches, Holds, Steps};
 
-use dsde_declared::Builtin;
-use dsde_eval_operators::{indexed, of_one, option_of, parts_of, place_in};
+use dsde_eval_short::given::eval_operators::{indexed, of_one, option_of, parts_of, place_in};
 use dsde_faults::{EvalEnd, FaultKind};
+use dsde_language::Builtin;
 use dsde_values::{Memory, Seq, Value, copy_value};
 use std::alloc::Global;
 

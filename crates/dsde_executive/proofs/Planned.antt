@@ -1,32 +1,32 @@
 -- The plan of tables is the plan of the program.
 use Rattle.std.proofs.Common.{◌≡◌, ◌≢◌, ℕ, true, List, [], ◌++◌, Option, Some, Result, Ok, Err, IfOk, slice_get, unwrap_or, refl, sym, ◌∙◌, ap, subst, arith}
-use Rattle.dsde_syntax.specs.declared.decl.Model.{Model}
-use Rattle.dsde_syntax.specs.declared.item.Item.{Item}
+use Rattle.dsde_language.specs.given.syntax.decl_Model.{Model}
+use Rattle.dsde_language.specs.given.syntax.item_Item.{Item}
 use Rattle.dsde_values.specs.declared.value.Value.{Value}
 use Rattle.dsde_faults.specs.declared.kind.Site.TheVariants as site
 use Rattle.dsde_faults.specs.declared.end.EvalEnd.{EvalEnd}
 use Rattle.dsde_faults.specs.declared.end.EvalEnd.TheVariants as eval_end
-use Rattle.dsde_declared.specs.declared.ids.ModelId.{ModelId}
-use Rattle.dsde_program_nodes.specs.declared.make.Make.{Make}
-use Rattle.dsde_declared.specs.Models.{types_of, Own, owns_of, state_slots}
-use Rattle.dsde_program_nodes.specs.Models.{resolved}
-use Rattle.dsde_check_rules.specs.Right.{IsRight}
-use Rattle.dsde_structure.specs.declared.plan.Plan.{Plan}
-use Rattle.dsde_eval_meaning.specs.Outcome.{Stuck, Outcome, Gives}
-use Rattle.dsde_eval_meaning.specs.Meaning.{Vars}
-use Rattle.dsde_eval_meaning.specs.Tables.{Coded, means_in}
-use Rattle.dsde_executive_plans.specs.Drafts.{planned}
-use Rattle.dsde_eval_tables.specs.Evaluating as evaluating
+use Rattle.dsde_language.specs.declared.ids.ModelId.{ModelId}
+use Rattle.dsde_language.specs.declared.make.Make.{Make}
+use Rattle.dsde_language.specs.DeclaredModels.{types_of, Own, owns_of, state_slots}
+use Rattle.dsde_language.specs.NodeModels.{resolved}
+use Rattle.dsde_language.specs.Right.{IsRight}
+use Rattle.dsde_executive_planner.specs.given.structure.plan_Plan.{Plan}
+use Rattle.dsde_language.specs.Outcome.{Stuck, Outcome, Gives}
+use Rattle.dsde_language.specs.Meaning.{Vars}
+use Rattle.dsde_language.specs.MeaningTables.{Coded, means_in}
+use Rattle.dsde_executive_planner.specs.given.executive_plans.Drafts.{planned}
+use Rattle.dsde_executive_planner.specs.given.eval_tables.Evaluating as evaluating
 use Rattle.dsde_executive_planner.specs.declared.planner.Planner.{Planner}
 use Rattle.dsde_executive_planner.specs.Drawing.{part_in}
-use Rattle.dsde_sound_functions.specs.Coded.{coded_of}
-use Rattle.dsde_declared.specs.Structures.{structures_of, first_via}
-use Rattle.dsde_sound_places.specs.Structures.{HasStructure, StructuresStand}
+use Rattle.dsde_sound_structures.specs.given.sound_expressions.Coded.{coded_of}
+use Rattle.dsde_language.specs.DeclaredStructures.{structures_of, first_via}
+use Rattle.dsde_sound_structures.specs.given.sound_expressions.Structures.{HasStructure, StructuresStand}
 use Rattle.dsde_sound_structures.specs.Agreement.{StructureAgrees, StructuresAgree}
-use Rattle.dsde_formalism.specs.Leaf as formalism
-use Rattle.dsde_system.specs.Body.{at_site, body_vars}
-use Rattle.dsde_system.specs.Program.{system, network_at, plan_at}
-use Rattle.dsde_system.specs.Fitting.{Fill, FitsArgs, FitsState}
+use Rattle.dsde_sound_structures.specs.given.formalism.Leaf as formalism
+use Rattle.dsde_sound_structures.specs.given.system.Body.{at_site, body_vars}
+use Rattle.dsde_sound_structures.specs.given.system.Program.{system, network_at, plan_at}
+use Rattle.dsde_sound_structures.specs.given.system.Fitting.{Fill, FitsArgs, FitsState}
 use Rattle.dsde_executive.specs.Structure.{in_structure, IsPlan}
 use Rattle.dsde_executive.proofs.Seeing.{some-is, body-fits, body-are}
 

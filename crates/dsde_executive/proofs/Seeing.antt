@@ -1,15 +1,15 @@
 -- What the structure of a network sees.
 use Rattle.std.proofs.Common.{◌≡◌, List, [], ◌∷◌, ◌++◌, Option, Some, refl, ◌∙◌, ap}
-use Rattle.dsde_syntax.specs.declared.decl.Model.{Model}
+use Rattle.dsde_language.specs.given.syntax.decl_Model.{Model}
 use Rattle.dsde_values.specs.declared.types.Field.{Field}
 use Rattle.dsde_values.specs.declared.types.Types.{Types}
 use Rattle.dsde_values.specs.declared.value.Value.{Value}
-use Rattle.dsde_declared.specs.Models.{types_of, Own, param_slots, state_slots}
-use Rattle.dsde_eval_meaning.specs.Meaning.{Vars}
-use Rattle.dsde_eval_meaning.specs.Typed.{Fits, values_in}
-use Rattle.dsde_sound_places.specs.Bodies.{body_slots}
-use Rattle.dsde_system.specs.Body.{vars_of, body_vars}
-use Rattle.dsde_system.specs.Fitting.{Fill}
+use Rattle.dsde_language.specs.DeclaredModels.{types_of, Own, param_slots, state_slots}
+use Rattle.dsde_language.specs.Meaning.{Vars}
+use Rattle.dsde_language.specs.Typed.{Fits, values_in}
+use Rattle.dsde_sound_structures.specs.given.sound_expressions.Bodies.{body_slots}
+use Rattle.dsde_sound_structures.specs.given.system.Body.{vars_of, body_vars}
+use Rattle.dsde_sound_structures.specs.given.system.Fitting.{Fill}
 
 pub some-is : {A : Type 0} (o : Option A) (a b : A) → o ≡ Some a → o ≡ Some b → a ≡ b
 some-is o a b e h = cc

@@ -1,14 +1,14 @@
 -- What a structure comes to, and what fits it.
 use Rattle.std.specs.Prelude.{◌≡◌, ℕ, Some, Result, Ok, Err, slice_get}
-use Rattle.dsde_syntax.specs.declared.decl.Model.{Model}
+use Rattle.dsde_language.specs.given.syntax.decl_Model.{Model}
 use Rattle.dsde_faults.specs.declared.kind.Site.TheVariants as site
 use Rattle.dsde_faults.specs.declared.end.EvalEnd.{EvalEnd}
 use Rattle.dsde_faults.specs.declared.end.EvalEnd.TheVariants as eval_end
 use Rattle.dsde_faults.specs.declared.end.LeafEnd.{LeafEnd}
 use Rattle.dsde_faults.specs.declared.end.LeafEnd.TheVariants as leaf_end
-use Rattle.dsde_structure.specs.declared.plan.Plan.{Plan}
-use Rattle.dsde_declared.specs.Models.{Own, owns_of}
-use Rattle.dsde_system.specs.Plans.{FitsPlan}
+use Rattle.dsde_executive_planner.specs.given.structure.plan_Plan.{Plan}
+use Rattle.dsde_language.specs.DeclaredModels.{Own, owns_of}
+use Rattle.dsde_sound_structures.specs.given.system.Plans.{FitsPlan}
 
 -- what a structure came to, as its network has it
 abbrev pub in_structure : Result Plan EvalEnd → Result Plan LeafEnd

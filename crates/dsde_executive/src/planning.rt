@@ -1,25 +1,25 @@
 //! Structures.
 
 ghost use Rattle.std.specs.Prelude.{◌≡◌, ◌++◌, true, IfOk};
-ghost use Rattle.dsde_sound_functions.specs.Coded.{coded_of};
-ghost use Rattle.dsde_eval_tables.specs.Evaluating as evaluating;
+ghost use Rattle.dsde_sound_structures.specs.given.sound_expressions.Coded.{coded_of};
+ghost use Rattle.dsde_executive_planner.specs.given.eval_tables.Evaluating as evaluating;
 ghost use Rattle.dsde_executive_planner.specs.declared.planner.Planner.{Planner};
-ghost use Rattle.dsde_sound_places.specs.Structures.{StructuresStand};
+ghost use Rattle.dsde_sound_structures.specs.given.sound_expressions.Structures.{StructuresStand};
 ghost use Rattle.dsde_sound_structures.specs.Agreement.{StructuresAgree};
-ghost use Rattle.dsde_formalism.specs.Leaf.{Gives};
-ghost use Rattle.dsde_system.specs.Program.{system};
-ghost use Rattle.dsde_system.specs.Fitting.{FitsArgs, FitsState};
+ghost use Rattle.dsde_sound_structures.specs.given.formalism.Leaf.{Gives};
+ghost use Rattle.dsde_sound_structures.specs.given.system.Program.{system};
+ghost use Rattle.dsde_sound_structures.specs.given.system.Fitting.{FitsArgs, FitsState};
 ghost use Rattle.dsde_executive.specs.Structure.{in_structure, IsPlan};
 
-use dsde_declared::ModelId;
-use dsde_eval_tables::{Evaluator, GREATEST_HEIGHT, slots_of};
 use dsde_executive_planner::Planner;
+use dsde_executive_planner::given::eval_tables::{Evaluator, GREATEST_HEIGHT, slots_of};
+use dsde_executive_planner::given::structure::Plan;
 use dsde_faults::EvalEnd;
+use dsde_language::ModelId;
 use dsde_lists::Memory;
 use dsde_program::Program;
-use dsde_sound_places::structures_stand;
+use dsde_sound_structures::given::sound_expressions::structures_stand;
 use dsde_sound_structures::structures_agree;
-use dsde_structure::Plan;
 use dsde_values::{Values, copy_values};
 use std::alloc::Global;
 

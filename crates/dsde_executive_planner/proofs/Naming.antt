@@ -6,8 +6,8 @@ use Rattle.std.specs.BTreeMap.{insert_entry, is_at}
 use Rattle.std.specs.Map.{lookup}
 use Rattle.dsde_values.specs.declared.name.Name.{Name}
 use Rattle.dsde_values.specs.Path.{name_cmp}
-use Rattle.dsde_structure.specs.declared.plan.Entry.{Entry}
-use Rattle.dsde_structure.specs.Gather.{is_same_name}
+use Rattle.dsde_executive_plans.specs.given.structure.plan_Entry.{Entry}
+use Rattle.dsde_executive_plans.specs.given.structure.Gather.{is_same_name}
 use Rattle.dsde_executive_plans.specs.Layout.{inserted, is_there}
 use Rattle.dsde_executive_planner.specs.declared.entries.Chosen.{Chosen}
 use Rattle.dsde_executive_planner.specs.Entries.{entry_of}

@@ -2,8 +2,8 @@
 use Rattle.std.specs.Prelude.{◌≡◌, List, Result, Ok, Err}
 use Rattle.dsde_faults.specs.declared.end.EvalEnd.{EvalEnd}
 use Rattle.dsde_faults.specs.declared.end.EvalEnd.TheVariants as end_of
-use Rattle.dsde_eval_meaning.specs.Outcome.{Fault, Outcome}
-use Rattle.dsde_eval_meaning.specs.Tables.{Part, means_in}
+use Rattle.dsde_language.specs.Outcome.{Fault, Outcome}
+use Rattle.dsde_language.specs.MeaningTables.{Part, means_in}
 use Rattle.dsde_eval_tables.specs.Evaluating.{coded_of}
 use Rattle.dsde_executive_planner.specs.declared.planner.Planner.{Planner}
 

@@ -1,6 +1,6 @@
 -- The components that a map by name holds.
 use Rattle.dsde_values.specs.declared.name.Name.{Name}
-use Rattle.dsde_structure.specs.declared.plan.Entry.{Entry}
+use Rattle.dsde_executive_plans.specs.given.structure.plan_Entry.{Entry}
 use Rattle.dsde_executive_planner.specs.declared.entries.Chosen.{Chosen}
 
 -- the component that an entry of a map by name is

@@ -1,15 +1,15 @@
 //! What items have put into a structure so far.
 
 ghost use Rattle.std.specs.Prelude.{◌≡◌, [], map, IfOk};
-ghost use Rattle.dsde_eval_meaning.specs.Outcome.{Gives};
+ghost use Rattle.dsde_language.specs.Outcome.{Gives};
 ghost use Rattle.dsde_executive_plans.specs.Layout.{with_entry, with_link, has_part, tied, plan_of};
 ghost use Rattle.dsde_executive_planner.specs.Drawing.{Becomes};
 
 use crate::entries::Entries;
 use dsde_executive_plans::PlacedLink;
+use dsde_executive_plans::given::structure::{Entry, Link, Part, Plan};
 use dsde_faults::{EvalEnd, FaultKind};
 use dsde_lists::Memory;
-use dsde_structure::{Entry, Link, Part, Plan};
 use dsde_values::Seq;
 use std::alloc::Global;
 

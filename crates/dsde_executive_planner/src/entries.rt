@@ -3,9 +3,9 @@
 ghost use Rattle.std.specs.Prelude.{◌≡◌, [], false, length, OnOk, IfOk};
 ghost use Rattle.dsde_executive_plans.specs.Layout.{inserted, is_there};
 
-use dsde_declared::ModelId;
+use dsde_executive_plans::given::structure::Entry;
+use dsde_language::ModelId;
 use dsde_lists::Memory;
-use dsde_structure::Entry;
 use dsde_values::{Name, Seq, Values, orders_are_total};
 use std::alloc::Global;
 use std::collections::BTreeMap;
@@ -31,8 +31,8 @@ impl Model for Entries {
     ghost use Rattle.std.specs.Coded.{codes};
     ghost use Rattle.std.specs.BTreeMap.{IsOrdered};
     ghost use Rattle.dsde_values.specs.Path.{name_cmp};
-    ghost use Rattle.dsde_structure.specs.declared.plan.Entry.{Entry};
-    ghost use Rattle.dsde_structure.specs.contracts.plan.Entry as entry;
+    ghost use Rattle.dsde_executive_plans.specs.given.structure.plan_Entry.{Entry};
+    ghost use Rattle.dsde_executive_plans.specs.given.structure.contracts_plan_Entry as entry;
     ghost use Rattle.dsde_executive_planner.specs.Entries.{entry_of};
 
     ghost Value = { List Entry };

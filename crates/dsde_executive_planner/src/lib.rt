@@ -3,6 +3,7 @@
 
 mod drawn;
 mod entries;
+pub mod given;
 mod planner;
 
 pub use planner::Planner;

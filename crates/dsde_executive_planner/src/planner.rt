@@ -1,20 +1,19 @@
 //! The planner of tables.
 
 ghost use Rattle.std.specs.Prelude.{◌≡◌, ◌≢◌, [], false, Some, Ok, Err, IfOk, map};
-ghost use Rattle.dsde_eval_meaning.specs.Outcome.{Stuck, Gives};
-ghost use Rattle.dsde_eval_meaning.specs.Tables.{values_from, holds_at};
+ghost use Rattle.dsde_language.specs.Outcome.{Stuck, Gives};
+ghost use Rattle.dsde_language.specs.MeaningTables.{values_from, holds_at};
 ghost use Rattle.dsde_executive_plans.specs.Layout.{natural};
 ghost use Rattle.dsde_executive_plans.specs.Drafts.{index_at, part_at, end_at, key_at, via_at, comp_draw, link_draw, draw, draw_arm, draws, arms_draw, braced, for_one, for_draw, for_list, draft_of, planned, Draws, Takes};
 ghost use Rattle.dsde_executive_planner.specs.Drawing.{part_in};
 
 use crate::drawn::Drawn;
-use dsde_declared::ModelId;
-use dsde_eval_operators::{int_of, items_of, truth_of};
 use dsde_eval_tables::Evaluator;
+use dsde_eval_tables::given::eval_operators::{int_of, items_of, truth_of};
+use dsde_executive_plans::given::structure::{End, Entry, Link, Part, Plan, Via};
 use dsde_faults::{EvalEnd, FaultKind};
+use dsde_language::{ExprId, Make, MakeArm, MakeEnd, MakeIndex, MakePart, MakeVia, ModelId};
 use dsde_lists::Memory;
-use dsde_program_nodes::{ExprId, Make, MakeArm, MakeEnd, MakeIndex, MakePart, MakeVia};
-use dsde_structure::{End, Entry, Link, Part, Plan, Via};
 use dsde_values::{Name, Seq, Stem, Text, Value, copy_value};
 use std::alloc::Global;
 

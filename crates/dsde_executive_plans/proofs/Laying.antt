@@ -2,20 +2,20 @@
 use Rattle.std.proofs.Common.{◌≡◌, ℕ, ◌+◌, nat_lt, Bool, true, false, List, [], ◌∷◌, length, map, take, Option, Some, None, Ok, Err, refl, sym, subst, if◌then◌else◌}
 use Rattle.std.specs.Cmp.{IsTotalOrder}
 use Rattle.std.specs.List.{AllByRecursion}
-use Rattle.dsde_syntax.specs.declared.item.Item.{Item}
-use Rattle.dsde_syntax.specs.declared.item.ItemArm.{ItemArm}
-use Rattle.dsde_syntax.specs.declared.item.Item.TheOpen.{Item-F, ItemArm-F}
-use Rattle.dsde_syntax.specs.declared.item.Item.TheViews.{roll-Item, roll-ItemArm}
-use Rattle.dsde_syntax.specs.declared.item.Item.TheFolds.{fold-ItemArm, map-Item, map-ItemArm, fold-roll-Item, fold-roll-ItemArm, ind-Item}
+use Rattle.dsde_structure.specs.given.syntax.item_Item.{Item}
+use Rattle.dsde_structure.specs.given.syntax.item_ItemArm.{ItemArm}
+use Rattle.dsde_structure.specs.given.syntax.item_Item_TheOpen.{Item-F, ItemArm-F}
+use Rattle.dsde_structure.specs.given.syntax.item_Item_TheViews.{roll-Item, roll-ItemArm}
+use Rattle.dsde_structure.specs.given.syntax.item_Item_TheFolds.{fold-ItemArm, map-Item, map-ItemArm, fold-roll-Item, fold-roll-ItemArm, ind-Item}
 use Rattle.dsde_values.specs.declared.value.Value.{Value}
 use Rattle.dsde_values.specs.Path.{name_cmp}
-use Rattle.dsde_faults.specs.declared.kind.FaultKind.TheVariants.{DuplicateComponent, Crowded}
-use Rattle.dsde_declared.specs.Structures.{Place}
-use Rattle.dsde_declared.specs.Models.{model_id}
+use Rattle.dsde_structure.specs.given.faults.kind_FaultKind_TheVariants.{DuplicateComponent, Crowded}
+use Rattle.dsde_structure.specs.given.language.DeclaredStructures.{Place}
+use Rattle.dsde_structure.specs.given.language.DeclaredModels.{model_id}
 use Rattle.dsde_structure.specs.declared.plan.Entry.{Entry}
 use Rattle.dsde_structure.specs.declared.plan.Plan.{Plan}
-use Rattle.dsde_eval_meaning.specs.Outcome.{Fault, Outcome, ◌>>=◌, truth_of, items_of}
-use Rattle.dsde_eval_meaning.specs.Meaning.{Function, Vars, mean, values_of, with_var}
+use Rattle.dsde_structure.specs.given.language.Outcome.{Fault, Outcome, ◌>>=◌, truth_of, items_of}
+use Rattle.dsde_structure.specs.given.language.Meaning.{Function, Vars, mean, values_of, with_var}
 use Rattle.dsde_executive_plans.specs.Layout.{Layout, Lay, ArmLay, most, inserted, is_there, with_entry, with_link, index_of, end_of, via_of, lay, lay_all, braced, last_lay, arms_lay, for_one, for_lay, item_step, item_arm_step, tied, structure}
 use Rattle.dsde_structure.specs.Survival.{IsInOrder}
 use Rattle.dsde_executive_plans.proofs.Inserting.{empty-in-order, inserted-in-order}

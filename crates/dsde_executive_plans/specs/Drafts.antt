@@ -2,27 +2,27 @@
 use Rattle.std.specs.Prelude.{◌≡◌, ℕ, Bool, true, false, if◌then◌else◌, List, [], ◌∷◌, ◌++◌, length, map, take, Option, Some, None, Result, Ok, Err}
 use Rattle.std.specs.Option.{option_map}
 use Rattle.dsde_values.specs.declared.value.Value.{Value}
-use Rattle.dsde_faults.specs.declared.end.EvalEnd.{EvalEnd}
-use Rattle.dsde_faults.specs.declared.end.EvalEnd.TheVariants as end_of
-use Rattle.dsde_program_nodes.specs.declared.ids.ExprId.{ExprId}
-use Rattle.dsde_declared.specs.declared.ids.ModelId.{ModelId}
-use Rattle.dsde_program_nodes.specs.declared.make.Make.{Make}
-use Rattle.dsde_program_nodes.specs.declared.make.Make.TheOpen.{Make-F, MakeArm-F}
-use Rattle.dsde_program_nodes.specs.declared.make.Make.TheFolds.{fold-Make, fold-MakeArm}
-use Rattle.dsde_program_nodes.specs.declared.make.MakeArm.{MakeArm}
-use Rattle.dsde_program_nodes.specs.declared.make.MakeEnd.{MakeEnd}
-use Rattle.dsde_program_nodes.specs.declared.make.MakeIndex.{MakeIndex}
-use Rattle.dsde_program_nodes.specs.declared.make.MakePart.{MakePart}
-use Rattle.dsde_program_nodes.specs.declared.make.MakePart.TheVariants as make_part
-use Rattle.dsde_program_nodes.specs.declared.make.MakeVia.{MakeVia}
+use Rattle.dsde_structure.specs.given.faults.end_EvalEnd.{EvalEnd}
+use Rattle.dsde_structure.specs.given.faults.end_EvalEnd_TheVariants as end_of
+use Rattle.dsde_structure.specs.given.language.node_ids_ExprId.{ExprId}
+use Rattle.dsde_structure.specs.given.language.ids_ModelId.{ModelId}
+use Rattle.dsde_structure.specs.given.language.make_Make.{Make}
+use Rattle.dsde_structure.specs.given.language.make_Make_TheOpen.{Make-F, MakeArm-F}
+use Rattle.dsde_structure.specs.given.language.make_Make_TheFolds.{fold-Make, fold-MakeArm}
+use Rattle.dsde_structure.specs.given.language.make_MakeArm.{MakeArm}
+use Rattle.dsde_structure.specs.given.language.make_MakeEnd.{MakeEnd}
+use Rattle.dsde_structure.specs.given.language.make_MakeIndex.{MakeIndex}
+use Rattle.dsde_structure.specs.given.language.make_MakePart.{MakePart}
+use Rattle.dsde_structure.specs.given.language.make_MakePart_TheVariants as make_part
+use Rattle.dsde_structure.specs.given.language.make_MakeVia.{MakeVia}
 use Rattle.dsde_structure.specs.declared.plan.End.{End}
 use Rattle.dsde_structure.specs.declared.plan.Entry.{Entry}
 use Rattle.dsde_structure.specs.declared.plan.Part as whose
 use Rattle.dsde_structure.specs.declared.plan.Part.TheVariants as part_of
 use Rattle.dsde_structure.specs.declared.plan.Plan.{Plan}
 use Rattle.dsde_structure.specs.declared.plan.Via.{Via}
-use Rattle.dsde_eval_meaning.specs.Outcome.{Fault, Outcome, ◌>>=◌, int_of, truth_of, items_of}
-use Rattle.dsde_eval_meaning.specs.Tables.{Part, values_from}
+use Rattle.dsde_structure.specs.given.language.Outcome.{Fault, Outcome, ◌>>=◌, int_of, truth_of, items_of}
+use Rattle.dsde_structure.specs.given.language.MeaningTables.{Part, values_from}
 use Rattle.dsde_executive_plans.specs.declared.placed.PlacedLink.{PlacedLink}
 use Rattle.dsde_executive_plans.specs.Layout.{natural, with_entry, with_link, plan_of}
 

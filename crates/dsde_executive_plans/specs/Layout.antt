@@ -5,23 +5,23 @@ use Rattle.std.specs.Prelude.{ℕ, ◌+◌, nat_lt, ℤ, pos, negsuc, Bool, true
 use Rattle.std.specs.List.{list_any}
 use Rattle.std.specs.Option.{option_map}
 use Rattle.std.specs.Ordering.{is_lt}
-use Rattle.dsde_syntax.specs.declared.item.Bracket.{Bracket}
-use Rattle.dsde_syntax.specs.declared.item.End as written
-use Rattle.dsde_syntax.specs.declared.item.EndPart.{EndPart}
-use Rattle.dsde_syntax.specs.declared.item.EndPart.TheVariants as end_part
-use Rattle.dsde_syntax.specs.declared.item.Item.{Item}
-use Rattle.dsde_syntax.specs.declared.item.Item.TheOpen.{Item-F, ItemArm-F}
-use Rattle.dsde_syntax.specs.declared.item.Item.TheFolds.{fold-Item}
-use Rattle.dsde_syntax.specs.declared.item.ViaKey.{ViaKey}
-use Rattle.dsde_syntax.specs.declared.item.ViaPart.{ViaPart}
+use Rattle.dsde_structure.specs.given.syntax.item_Bracket.{Bracket}
+use Rattle.dsde_structure.specs.given.syntax.item_End as written
+use Rattle.dsde_structure.specs.given.syntax.item_EndPart.{EndPart}
+use Rattle.dsde_structure.specs.given.syntax.item_EndPart_TheVariants as end_part
+use Rattle.dsde_structure.specs.given.syntax.item_Item.{Item}
+use Rattle.dsde_structure.specs.given.syntax.item_Item_TheOpen.{Item-F, ItemArm-F}
+use Rattle.dsde_structure.specs.given.syntax.item_Item_TheFolds.{fold-Item}
+use Rattle.dsde_structure.specs.given.syntax.item_ViaKey.{ViaKey}
+use Rattle.dsde_structure.specs.given.syntax.item_ViaPart.{ViaPart}
 use Rattle.dsde_values.specs.declared.name.Name.{Name}
 use Rattle.dsde_values.specs.declared.value.Value.{Value}
 use Rattle.dsde_values.specs.Path.{name_cmp}
-use Rattle.dsde_faults.specs.declared.kind.FaultKind.TheVariants.{BadIndex, DuplicateComponent, Crowded, TooManyLinks, DanglingLink}
-use Rattle.dsde_check_rules.specs.declared.known.Known.{Known}
-use Rattle.dsde_declared.specs.Names.{slot_of}
-use Rattle.dsde_declared.specs.Structures.{Place, end_ports}
-use Rattle.dsde_declared.specs.Models.{model_id}
+use Rattle.dsde_structure.specs.given.faults.kind_FaultKind_TheVariants.{BadIndex, DuplicateComponent, Crowded, TooManyLinks, DanglingLink}
+use Rattle.dsde_structure.specs.given.language.known_Known.{Known}
+use Rattle.dsde_structure.specs.given.language.Names.{slot_of}
+use Rattle.dsde_structure.specs.given.language.DeclaredStructures.{Place, end_ports}
+use Rattle.dsde_structure.specs.given.language.DeclaredModels.{model_id}
 use Rattle.dsde_structure.specs.declared.plan.End.{End}
 use Rattle.dsde_structure.specs.declared.plan.Entry.{Entry}
 use Rattle.dsde_structure.specs.declared.plan.Link.{Link}
@@ -31,8 +31,8 @@ use Rattle.dsde_structure.specs.declared.plan.Plan.{Plan}
 use Rattle.dsde_structure.specs.declared.plan.Via.{Via}
 use Rattle.dsde_structure.specs.Gather.{is_same_name}
 use Rattle.dsde_executive_plans.specs.declared.placed.PlacedLink.{PlacedLink}
-use Rattle.dsde_eval_meaning.specs.Outcome.{Fault, Outcome, ◌>>=◌, int_of, truth_of, items_of}
-use Rattle.dsde_eval_meaning.specs.Meaning.{Mean, Vars, Function, mean, values_of, with_var}
+use Rattle.dsde_structure.specs.given.language.Outcome.{Fault, Outcome, ◌>>=◌, int_of, truth_of, items_of}
+use Rattle.dsde_structure.specs.given.language.Meaning.{Mean, Vars, Function, mean, values_of, with_var}
 
 -- the variables that items see, the components so far in the order of their names, and the links so
 -- far in the order in which they came

@@ -1,10 +1,10 @@
 //! What the definition of a structure's plan keeps. Each law is a call that does nothing.
 
 ghost use Rattle.std.specs.Prelude.{◌≡◌, ℕ, List, Ok};
-ghost use Rattle.dsde_syntax.specs.declared.item.Item.{Item};
+ghost use Rattle.dsde_structure.specs.given.syntax.item_Item.{Item};
 ghost use Rattle.dsde_structure.specs.declared.plan.Plan.{Plan};
-ghost use Rattle.dsde_declared.specs.Structures.{Place};
-ghost use Rattle.dsde_eval_meaning.specs.Meaning.{Function, Vars};
+ghost use Rattle.dsde_structure.specs.given.language.DeclaredStructures.{Place};
+ghost use Rattle.dsde_structure.specs.given.language.Meaning.{Function, Vars};
 ghost use Rattle.dsde_executive_plans.specs.Layout.{structure};
 ghost use Rattle.dsde_structure.specs.Survival.{IsInOrder};
 

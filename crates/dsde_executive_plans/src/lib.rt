@@ -2,6 +2,7 @@
 //! Types, definitions and their laws; no code.
 #![tactic(auto)]
 
+pub mod given;
 mod laws;
 mod placed;
 

@@ -4,9 +4,9 @@ use Rattle.std.specs.List.{list_any}
 use Rattle.dsde_values.specs.declared.arrival.Item.{Item}
 use Rattle.dsde_values.specs.declared.value.Value.{Value}
 use Rattle.dsde_values.specs.declared.when.When.TheVariants.{At, Never}
-use Rattle.dsde_faults.specs.declared.end.LeafEnd.{LeafEnd}
-use Rattle.dsde_faults.specs.declared.end.LeafEnd.TheVariants as leaf_end
-use Rattle.dsde_declared.specs.declared.ids.ModelId.{ModelId}
+use Rattle.dsde_language.specs.given.faults.end_LeafEnd.{LeafEnd}
+use Rattle.dsde_language.specs.given.faults.end_LeafEnd_TheVariants as leaf_end
+use Rattle.dsde_language.specs.declared.ids.ModelId.{ModelId}
 use Rattle.dsde_formalism.specs.declared.leaf.Leaf.{Leaf}
 use Rattle.dsde_formalism.specs.declared.leaf.MoveKind.{MoveKind}
 use Rattle.dsde_formalism.specs.declared.leaf.MoveKind.TheVariants.{Internal, External, Confluent}

@@ -1,2 +1,3 @@
 pub mod System
 pub mod Leaf
+pub mod given

@@ -4,8 +4,8 @@ use Rattle.std.specs.Prelude.{ℕ, Bool, List, Result}
 use Rattle.dsde_values.specs.declared.arrival.Item.{Item}
 use Rattle.dsde_values.specs.declared.value.Value.{Value}
 use Rattle.dsde_values.specs.declared.when.When.{When}
-use Rattle.dsde_faults.specs.declared.end.LeafEnd.{LeafEnd}
-use Rattle.dsde_declared.specs.declared.ids.ModelId.{ModelId}
+use Rattle.dsde_language.specs.given.faults.end_LeafEnd.{LeafEnd}
+use Rattle.dsde_language.specs.declared.ids.ModelId.{ModelId}
 use Rattle.dsde_structure.specs.declared.plan.Plan.{Plan}
 use Rattle.dsde_structure.specs.Gather.{Translation}
 pub use Rattle.dsde_structure.specs.Gather.{Ports}

@@ -1,6 +1,6 @@
 //! Components that are no networks, and their moves.
 
-use dsde_declared::ModelId;
+use dsde_language::ModelId;
 use dsde_values::{Seq, Values, When};
 
 /// A component that is no network, or the executive of one, between two of its moves. Times are in

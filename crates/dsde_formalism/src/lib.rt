@@ -2,6 +2,7 @@
 //! a component does by it. Types and definitions; no code, and no word on the language of models.
 #![tactic(auto)]
 
+pub mod given;
 mod leaf;
 
 pub use leaf::{Inputs, Leaf, MoveKind};

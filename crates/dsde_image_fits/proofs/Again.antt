@@ -13,27 +13,27 @@ use Rattle.dsde_values.specs.declared.when.When.{When}
 use Rattle.dsde_values.specs.declared.when.When.TheVariants.{At, Never}
 use Rattle.dsde_values.specs.Path.{path_text, root}
 use Rattle.dsde_faults.specs.declared.end.LeafEnd.{LeafEnd}
-use Rattle.dsde_declared.specs.declared.ids.ModelId.{ModelId}
-use Rattle.dsde_formalism.specs.declared.leaf.Leaf.{Leaf}
-use Rattle.dsde_formalism.specs.System.{System, Chosen}
-use Rattle.dsde_structure.specs.declared.plan.Entry.{Entry}
-use Rattle.dsde_structure.specs.declared.plan.Link.{Link}
-use Rattle.dsde_structure.specs.declared.plan.Plan.{Plan}
-use Rattle.dsde_sim_events.specs.Told.{below, to_boss}
-use Rattle.dsde_sim_tree.specs.declared.sim.Kid.{Kid}
-use Rattle.dsde_sim_tree.specs.declared.sim.Net.{Net}
-use Rattle.dsde_sim_tree.specs.declared.sim.Sim.{Sim}
-use Rattle.dsde_sim_tree.specs.declared.sim.Sim.TheVariants as sim
-use Rattle.dsde_sim_tree.specs.declared.sim.Sim.TheViews.{out-Kid, out-Net, roll-out-Kid, roll-out-Net}
-use Rattle.dsde_sim_tree.specs.declared.sim.TheConstants.{DEEPEST}
-use Rattle.dsde_sim_tree.specs.Opened.{spots-Leaf, spots-Net, spots-net, spots-kid}
-use Rattle.dsde_sim_tree.specs.Spots.{spots, spots_of_kid}
-use Rattle.dsde_sim_tree.specs.Start.{kid_of, net_of}
-use Rattle.dsde_sim_tree.specs.Tree.{parts, parts_of_kid, parts_of_kids, model_of, args_of, entry_of}
-use Rattle.dsde_sim_tree.specs.lemmas.Trees.{each_tree}
-use Rattle.dsde_sim_turns.specs.declared.step.TheConstants.{MOST_PARTS}
-use Rattle.dsde_sim_stands.specs.Stands.{deepest, depth, depth_of_kid, IsDueLater, StandsLeaf, StandsAtomic, StandsSpot, StayAs, Stands}
-use Rattle.dsde_sim_stands.specs.lemmas.Opened.{depth-Leaf, depth-Net, depth-kid, parts-Leaf, parts-Net, parts-kid, model-Leaf, args-Leaf, model-Net, args-Net}
+use Rattle.dsde_sim_movers.specs.given.language.ids_ModelId.{ModelId}
+use Rattle.dsde_sim_movers.specs.given.formalism.leaf_Leaf.{Leaf}
+use Rattle.dsde_sim_movers.specs.given.formalism.System.{System, Chosen}
+use Rattle.dsde_sim_movers.specs.given.structure.plan_Entry.{Entry}
+use Rattle.dsde_sim_movers.specs.given.structure.plan_Link.{Link}
+use Rattle.dsde_sim_movers.specs.given.structure.plan_Plan.{Plan}
+use Rattle.dsde_sim_movers.specs.given.sim_tree.Told.{below, to_boss}
+use Rattle.dsde_sim_movers.specs.given.sim_tree.sim_Kid.{Kid}
+use Rattle.dsde_sim_movers.specs.given.sim_tree.sim_Net.{Net}
+use Rattle.dsde_sim_movers.specs.given.sim_tree.sim_Sim.{Sim}
+use Rattle.dsde_sim_movers.specs.given.sim_tree.sim_Sim_TheVariants as sim
+use Rattle.dsde_sim_movers.specs.given.sim_tree.sim_Sim_TheViews.{out-Kid, out-Net, roll-out-Kid, roll-out-Net}
+use Rattle.dsde_sim_movers.specs.given.sim_tree.sim_TheConstants.{DEEPEST}
+use Rattle.dsde_sim_movers.specs.given.sim_tree.Opened.{spots-Leaf, spots-Net, spots-net, spots-kid}
+use Rattle.dsde_sim_movers.specs.given.sim_tree.Spots.{spots, spots_of_kid}
+use Rattle.dsde_sim_movers.specs.given.sim_tree.Start.{kid_of, net_of}
+use Rattle.dsde_sim_movers.specs.given.sim_tree.Tree.{parts, parts_of_kid, parts_of_kids, model_of, args_of, entry_of}
+use Rattle.dsde_sim_movers.specs.given.sim_tree.lemmas_Trees.{each_tree}
+use Rattle.dsde_sim_movers.specs.given.sim_tree.step_TheConstants.{MOST_PARTS}
+use Rattle.dsde_sim_movers.specs.Stands.{deepest, depth, depth_of_kid, IsDueLater, StandsLeaf, StandsAtomic, StandsSpot, StayAs, Stands}
+use Rattle.dsde_sim_movers.specs.lemmas.Opened.{depth-Leaf, depth-Net, depth-kid, parts-Leaf, parts-Net, parts-kid, model-Leaf, args-Leaf, model-Net, args-Net}
 use Rattle.dsde_image.specs.Image.{location_of}
 use Rattle.dsde_image.specs.declared.image.Location.{Location}
 use Rattle.dsde_image.specs.declared.image.Location.TheVariants as location

@@ -12,23 +12,23 @@ use Rattle.dsde_values.specs.declared.when.When.{When}
 use Rattle.dsde_values.specs.declared.when.When.TheVariants.{At, Never}
 use Rattle.dsde_values.specs.Path.{path_text, root}
 use Rattle.dsde_faults.specs.declared.end.LeafEnd.{LeafEnd}
-use Rattle.dsde_declared.specs.declared.ids.ModelId.{ModelId}
-use Rattle.dsde_formalism.specs.declared.leaf.Leaf.{Leaf}
-use Rattle.dsde_formalism.specs.System.{System, Chosen}
-use Rattle.dsde_structure.specs.declared.plan.Entry.{Entry}
-use Rattle.dsde_structure.specs.declared.plan.Plan.{Plan}
-use Rattle.dsde_sim_events.specs.Told.{below, to_boss}
-use Rattle.dsde_sim_tree.specs.declared.sim.Kid.{Kid}
-use Rattle.dsde_sim_tree.specs.declared.sim.Sim.{Sim}
-use Rattle.dsde_sim_tree.specs.declared.sim.Sim.TheVariants as sim
-use Rattle.dsde_sim_tree.specs.declared.sim.Sim.TheViews.{out-roll-Kid, out-roll-Net}
-use Rattle.dsde_sim_tree.specs.declared.sim.TheConstants.{DEEPEST}
-use Rattle.dsde_sim_tree.specs.Start.{kid_of, net_of}
-use Rattle.dsde_sim_tree.specs.Tree.{parts, parts_of_kid, parts_of_kids, model_of, entry_of}
-use Rattle.dsde_sim_turns.specs.declared.step.TheConstants.{MOST_PARTS}
-use Rattle.dsde_sim_stands.specs.Stands.{IsDueLater, StayAs}
-use Rattle.dsde_sim_stands.specs.lemmas.Opened.{parts-Leaf, parts-Net, parts-kid}
-use Rattle.dsde_sim_stands.specs.lemmas.Standing.{IsLeaf, IsPart, KidStands, leaf-part, net-part, kid-is, AreKids}
+use Rattle.dsde_sim_movers.specs.given.language.ids_ModelId.{ModelId}
+use Rattle.dsde_sim_movers.specs.given.formalism.leaf_Leaf.{Leaf}
+use Rattle.dsde_sim_movers.specs.given.formalism.System.{System, Chosen}
+use Rattle.dsde_sim_movers.specs.given.structure.plan_Entry.{Entry}
+use Rattle.dsde_sim_movers.specs.given.structure.plan_Plan.{Plan}
+use Rattle.dsde_sim_movers.specs.given.sim_tree.Told.{below, to_boss}
+use Rattle.dsde_sim_movers.specs.given.sim_tree.sim_Kid.{Kid}
+use Rattle.dsde_sim_movers.specs.given.sim_tree.sim_Sim.{Sim}
+use Rattle.dsde_sim_movers.specs.given.sim_tree.sim_Sim_TheVariants as sim
+use Rattle.dsde_sim_movers.specs.given.sim_tree.sim_Sim_TheViews.{out-roll-Kid, out-roll-Net}
+use Rattle.dsde_sim_movers.specs.given.sim_tree.sim_TheConstants.{DEEPEST}
+use Rattle.dsde_sim_movers.specs.given.sim_tree.Start.{kid_of, net_of}
+use Rattle.dsde_sim_movers.specs.given.sim_tree.Tree.{parts, parts_of_kid, parts_of_kids, model_of, entry_of}
+use Rattle.dsde_sim_movers.specs.given.sim_tree.step_TheConstants.{MOST_PARTS}
+use Rattle.dsde_sim_movers.specs.Stands.{IsDueLater, StayAs}
+use Rattle.dsde_sim_movers.specs.lemmas.Opened.{parts-Leaf, parts-Net, parts-kid}
+use Rattle.dsde_sim_movers.specs.lemmas.Standing.{IsLeaf, IsPart, KidStands, leaf-part, net-part, kid-is, AreKids}
 use Rattle.dsde_image.specs.Image.{location_of}
 use Rattle.dsde_image.specs.declared.image.Body.{Body}
 use Rattle.dsde_image.specs.declared.image.Body.TheVariants as body

@@ -1,4 +1,8 @@
-mod Opens
 mod Again
+mod Ascii
+mod Called
+mod Exact
 mod Found
 mod Leaving
+mod Opens
+mod Scripted

@@ -2,15 +2,15 @@
 use Rattle.std.proofs.Common.{◌≡◌, List, [], ◌∷◌, ◌++◌, map, refl, sym, ap, ◌∙◌}
 use Rattle.std.specs.List.{flat_map}
 use Rattle.dsde_values.specs.declared.path.Path.{Path}
-use Rattle.dsde_formalism.specs.declared.leaf.Leaf.{Leaf}
-use Rattle.dsde_sim_events.specs.Told.{below}
-use Rattle.dsde_sim_tree.specs.declared.sim.Kid.{Kid}
-use Rattle.dsde_sim_tree.specs.declared.sim.Net.{Net}
-use Rattle.dsde_sim_tree.specs.declared.sim.Sim.{Sim}
-use Rattle.dsde_sim_tree.specs.declared.sim.Sim.TheFolds.{fold-roll-Sim, fold-roll-Kid, fold-roll-Net}
-use Rattle.dsde_sim_tree.specs.declared.sim.Sim.TheOpen as layer
-use Rattle.dsde_sim_tree.specs.declared.sim.Sim.TheVariants as sim
-use Rattle.dsde_sim_tree.specs.declared.sim.Sim.TheViews.{out-Kid, out-Net, roll-out-Kid, roll-out-Net, rolls-Leaf, rolls-Net}
+use Rattle.dsde_sim_movers.specs.given.formalism.leaf_Leaf.{Leaf}
+use Rattle.dsde_sim_movers.specs.given.sim_tree.Told.{below}
+use Rattle.dsde_sim_movers.specs.given.sim_tree.sim_Kid.{Kid}
+use Rattle.dsde_sim_movers.specs.given.sim_tree.sim_Net.{Net}
+use Rattle.dsde_sim_movers.specs.given.sim_tree.sim_Sim.{Sim}
+use Rattle.dsde_sim_movers.specs.given.sim_tree.sim_Sim_TheFolds.{fold-roll-Sim, fold-roll-Kid, fold-roll-Net}
+use Rattle.dsde_sim_movers.specs.given.sim_tree.sim_Sim_TheOpen as layer
+use Rattle.dsde_sim_movers.specs.given.sim_tree.sim_Sim_TheVariants as sim
+use Rattle.dsde_sim_movers.specs.given.sim_tree.sim_Sim_TheViews.{out-Kid, out-Net, roll-out-Kid, roll-out-Net, rolls-Leaf, rolls-Net}
 use Rattle.dsde_image.specs.declared.image.Row.{Row}
 use Rattle.dsde_image.specs.declared.image.Version.{Version}
 use Rattle.dsde_image_fits.specs.Rows.{Script, Listing, rows_step, rows_kid, rows_net, rows, rows_of_kid, rows_of_net, atomic_row, net_row, boss_row}

@@ -1,3 +1,5 @@
-pub mod Rows
-pub mod Walk
 pub mod Fits
+pub mod Rows
+pub mod Script
+pub mod Walk
+pub mod given

@@ -4,16 +4,16 @@ use Rattle.std.specs.Prelude.{ℕ, List, [], ◌∷◌, map, Option}
 use Rattle.std.specs.List.{flat_map}
 use Rattle.dsde_values.specs.declared.path.Path.{Path}
 use Rattle.dsde_values.specs.declared.value.Value.{Value}
-use Rattle.dsde_declared.specs.declared.ids.ModelId.{ModelId}
-use Rattle.dsde_formalism.specs.declared.leaf.Leaf.{Leaf}
-use Rattle.dsde_formalism.specs.System.{State}
-use Rattle.dsde_sim_events.specs.Told.{below, to_boss}
-use Rattle.dsde_sim_tree.specs.declared.sim.Kid.{Kid}
-use Rattle.dsde_sim_tree.specs.declared.sim.Net.{Net}
-use Rattle.dsde_sim_tree.specs.declared.sim.Sim.{Sim}
-use Rattle.dsde_sim_tree.specs.declared.sim.Sim.TheFolds.{fold-Sim, fold-Kid, fold-Net}
-use Rattle.dsde_sim_tree.specs.declared.sim.Sim.TheOpen.{Sim-F, Net-F, Kid-F}
-use Rattle.dsde_sim_tree.specs.declared.sim.Sim.TheOpen as layer
+use Rattle.dsde_sim_movers.specs.given.language.ids_ModelId.{ModelId}
+use Rattle.dsde_sim_movers.specs.given.formalism.leaf_Leaf.{Leaf}
+use Rattle.dsde_sim_movers.specs.given.formalism.System.{State}
+use Rattle.dsde_sim_movers.specs.given.sim_tree.Told.{below, to_boss}
+use Rattle.dsde_sim_movers.specs.given.sim_tree.sim_Kid.{Kid}
+use Rattle.dsde_sim_movers.specs.given.sim_tree.sim_Net.{Net}
+use Rattle.dsde_sim_movers.specs.given.sim_tree.sim_Sim.{Sim}
+use Rattle.dsde_sim_movers.specs.given.sim_tree.sim_Sim_TheFolds.{fold-Sim, fold-Kid, fold-Net}
+use Rattle.dsde_sim_movers.specs.given.sim_tree.sim_Sim_TheOpen.{Sim-F, Net-F, Kid-F}
+use Rattle.dsde_sim_movers.specs.given.sim_tree.sim_Sim_TheOpen as layer
 use Rattle.dsde_image.specs.Image.{location_of}
 use Rattle.dsde_image.specs.declared.image.Body.TheVariants as body
 use Rattle.dsde_image.specs.declared.image.Row.{Row}

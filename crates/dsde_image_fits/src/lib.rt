@@ -1,7 +1,10 @@
-//! Which images fit a program: the rows of a tree, and the tree that rows say. Definitions and laws;
-//! no code.
+//! Which images fit a program: the rows of a tree, the tree that rows say, and how models and values
+//! are written in them. Definitions and laws; no code.
 #![tactic(auto)]
 
-mod laws;
+mod fit_laws;
+pub mod given;
+mod text_laws;
 
-pub use laws::{images_fit, left_are_last, only_images_fit};
+pub use fit_laws::{images_fit, left_are_last, only_images_fit};
+pub use text_laws::{components_are_called, scripts_are_exact, texts_are_ascii};

@@ -5,15 +5,15 @@ use Rattle.dsde_syntax.specs.declared.decl.Model.{Model}
 use Rattle.dsde_values.specs.declared.value.Value.{Value}
 use Rattle.dsde_values.specs.declared.when.When.{When}
 use Rattle.dsde_values.specs.When.{IsMoment}
-use Rattle.dsde_declared.specs.declared.ids.ModelId.{ModelId}
-use Rattle.dsde_declared.specs.Models.{Own, owns_of, types_of, state_slots}
-use Rattle.dsde_formalism.specs.declared.leaf.Leaf.{Leaf}
-use Rattle.dsde_system.specs.Program.{system}
-use Rattle.dsde_system.specs.Fitting.{Fill, FitsArgs, FitsState, IsInTime}
+use Rattle.dsde_language.specs.declared.ids.ModelId.{ModelId}
+use Rattle.dsde_language.specs.DeclaredModels.{Own, owns_of, types_of, state_slots}
+use Rattle.dsde_sim_tree.specs.given.formalism.leaf_Leaf.{Leaf}
+use Rattle.dsde_image_fits.specs.given.system.Program.{system}
+use Rattle.dsde_image_fits.specs.given.system.Fitting.{Fill, FitsArgs, FitsState, IsInTime}
 use Rattle.dsde_values.specs.declared.name.Name.{Name}
-use Rattle.dsde_structure.specs.declared.plan.Plan.{Plan}
-use Rattle.dsde_structure.specs.Survival.{roles}
-use Rattle.dsde_executive.specs.Structure.{IsPlan}
+use Rattle.dsde_sim_tree.specs.given.structure.plan_Plan.{Plan}
+use Rattle.dsde_sim_tree.specs.given.structure.Survival.{roles}
+use Rattle.dsde_sim_starting.specs.given.executive.Structure.{IsPlan}
 use Rattle.dsde_sim_tree.specs.declared.sim.Kid.{Kid}
 use Rattle.dsde_sim_tree.specs.declared.sim.Net.{Net}
 use Rattle.dsde_sim_tree.specs.declared.sim.Sim.{Sim}

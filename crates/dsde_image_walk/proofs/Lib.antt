@@ -1,5 +1,9 @@
-mod Opening
-mod Lasting
+mod Declaring
 mod Fitting
 mod Kids
+mod LastNames
+mod Lasting
+mod NetRows
+mod Opening
 mod Whole
+mod WholeTexts

@@ -2,13 +2,13 @@
 use Rattle.std.proofs.Common.{ℕ, List}
 use Rattle.std.specs.Prelude.{Result, Ok, Err, IfOk}
 use Rattle.dsde_syntax.specs.declared.decl.Model.{Model}
-use Rattle.dsde_system.specs.Program.{system}
+use Rattle.dsde_image_fits.specs.given.system.Program.{system}
 use Rattle.dsde_sim_tree.specs.declared.sim.Sim.{Sim}
 use Rattle.dsde_image.specs.declared.image.Row.{Row}
 use Rattle.dsde_image.specs.declared.image.Version.{Version}
 use Rattle.dsde_image_fits.specs.Fits.{IsExact, OnlyImagesFit, RestoredRight}
 use Rattle.dsde_image_fits.specs.Walk.{tree_of}
-use Rattle.dsde_image_texts.specs.Script.{script}
+use Rattle.dsde_image_fits.specs.Script.{script}
 use Rattle.dsde_image_walk.specs.declared.ends.RestoreEnd.{RestoreEnd}
 use Rattle.dsde_image_walk.specs.Walks.{Walks}
 

@@ -4,17 +4,17 @@ use Rattle.dsde_syntax.specs.declared.decl.Model.{Model}
 use Rattle.dsde_values.specs.declared.path.Path.{Path}
 use Rattle.dsde_values.specs.declared.value.Value.{Value}
 use Rattle.dsde_values.specs.Path.{path_text, root}
-use Rattle.dsde_declared.specs.declared.ids.ModelId.{ModelId}
-use Rattle.dsde_formalism.specs.declared.leaf.Leaf.{Leaf}
-use Rattle.dsde_formalism.specs.System.{System}
-use Rattle.dsde_structure.specs.declared.plan.Entry.{Entry}
-use Rattle.dsde_system.specs.Fitting.{FitsLeaf}
-use Rattle.dsde_sim_events.specs.Told.{below}
+use Rattle.dsde_language.specs.declared.ids.ModelId.{ModelId}
+use Rattle.dsde_sim_tree.specs.given.formalism.leaf_Leaf.{Leaf}
+use Rattle.dsde_sim_tree.specs.given.formalism.System.{System}
+use Rattle.dsde_sim_tree.specs.given.structure.plan_Entry.{Entry}
+use Rattle.dsde_image_fits.specs.given.system.Fitting.{FitsLeaf}
+use Rattle.dsde_sim_tree.specs.Told.{below}
 use Rattle.dsde_sim_tree.specs.declared.sim.Kid.{Kid}
 use Rattle.dsde_sim_tree.specs.declared.sim.Sim.{Sim}
 use Rattle.dsde_sim_tree.specs.declared.sim.TheConstants.{DEEPEST}
 use Rattle.dsde_sim_tree.specs.Start.{kid_of}
-use Rattle.dsde_sim_turns.specs.declared.step.TheConstants.{MOST_PARTS}
+use Rattle.dsde_sim_tree.specs.declared.step.TheConstants.{MOST_PARTS}
 use Rattle.dsde_image.specs.Image.{IsLocation}
 use Rattle.dsde_image.specs.declared.image.Row.{Row}
 use Rattle.dsde_image.specs.declared.image.Version.{Version}

@@ -2,20 +2,20 @@
 
 ghost use Rattle.std.specs.Prelude.{◌≡◌, false, true, Ok, IfOk, IfSome};
 ghost use Rattle.dsde_values.specs.When.{IsMoment};
-ghost use Rattle.dsde_system.specs.Program.{system};
-ghost use Rattle.dsde_system.specs.Fitting.{FitsArgs};
+ghost use Rattle.dsde_image_fits.specs.given.system.Program.{system};
+ghost use Rattle.dsde_image_fits.specs.given.system.Fitting.{FitsArgs};
 ghost use Rattle.dsde_image_fits.specs.Walk.{args_in, is_next, is_due_later, is_standing, stood, said_by, atomic_in, boss_in, net_in};
-ghost use Rattle.dsde_image_texts.specs.Script.{script};
+ghost use Rattle.dsde_image_fits.specs.Script.{script};
 ghost use Rattle.dsde_image.specs.declared.image.Body.TheVariants as body;
 ghost use Rattle.dsde_image_walk.specs.Walks.{FitsComponent, FitsOwn};
 
-use dsde_atomic::next_event;
-use dsde_declared::ModelId;
+use crate::{are_written, args_of, is_named, state_of};
 use dsde_faults::LeafEnd;
-use dsde_formalism::Leaf;
 use dsde_image::{Body, Row, Standing};
-use dsde_image_spelling::{are_written, args_of, is_named, state_of};
-use dsde_program::Program;
+use dsde_language::ModelId;
+use dsde_sim_starting::given::atomic::next_event;
+use dsde_sim_starting::given::program::Program;
+use dsde_sim_tree::given::formalism::Leaf;
 use dsde_values::{Memory, Seq, Text, Values, When};
 use std::alloc::Global;
 

@@ -4,19 +4,19 @@ use Rattle.std.specs.Prelude.{Ok}
 use Rattle.std.specs.List.{AllByRecursion}
 use Rattle.dsde_syntax.specs.declared.decl.Model.{Model}
 use Rattle.dsde_values.specs.Path.{root}
-use Rattle.dsde_check_rules.specs.Right.{IsRight}
-use Rattle.dsde_formalism.specs.declared.leaf.Leaf.{Leaf}
-use Rattle.dsde_system.specs.Program.{system}
-use Rattle.dsde_system.specs.Fitting.{FitsLeaf}
+use Rattle.dsde_language.specs.Right.{IsRight}
+use Rattle.dsde_sound_named.specs.given.formalism.leaf_Leaf.{Leaf}
+use Rattle.dsde_sound_named.specs.given.system.Program.{system}
+use Rattle.dsde_sound_named.specs.given.system.Fitting.{FitsLeaf}
 use Rattle.dsde_sim_starting.specs.Fitting.{FitsSpot, FitsTree}
-use Rattle.dsde_sim_stands.specs.Stands.{Stands}
-use Rattle.dsde_sim_tree.specs.Spots.{Spot, spots}
-use Rattle.dsde_sim_tree.specs.declared.sim.Sim.{Sim}
+use Rattle.dsde_image_fits.specs.given.sim_movers.Stands.{Stands}
+use Rattle.dsde_sim_starting.specs.given.sim_tree.Spots.{Spot, spots}
+use Rattle.dsde_sim_starting.specs.given.sim_tree.sim_Sim.{Sim}
 use Rattle.dsde_image.specs.declared.image.Version.{Version}
 use Rattle.dsde_image_fits.specs.Fits.{ImagesFit, SpotIsReadAgain, StateIsReadAgain}
 use Rattle.dsde_image_fits.specs.Rows.{rows}
 use Rattle.dsde_image_fits.specs.Walk.{tree_of}
-use Rattle.dsde_image_texts.specs.Script.{script, ArgsReadAgain, StatesReadAgain}
+use Rattle.dsde_image_fits.specs.Script.{script, ArgsReadAgain, StatesReadAgain}
 
 module _ (fit : ImagesFit) (args : ArgsReadAgain) (states : StatesReadAgain) (model : Model) (right : IsRight model) where
   state-again : (leaf : Leaf) → FitsLeaf model leaf → StateIsReadAgain (script model) leaf

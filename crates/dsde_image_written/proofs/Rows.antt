@@ -9,32 +9,32 @@ use Rattle.dsde_values.specs.declared.path.Path.{Path}
 use Rattle.dsde_values.specs.declared.when.When.{When}
 use Rattle.dsde_values.specs.declared.when.When.TheVariants.{At, Never}
 use Rattle.dsde_values.specs.Path.{EXEC, IsPath, are_below, is_component, is_index, is_path, is_plain, root}
-use Rattle.dsde_check_rules.specs.Right.{IsRight}
-use Rattle.dsde_declared.specs.declared.ids.ModelId.{ModelId}
-use Rattle.dsde_formalism.specs.declared.leaf.Leaf.{Leaf}
-use Rattle.dsde_structure.specs.declared.plan.Entry.{Entry}
-use Rattle.dsde_system.specs.Program.{system}
-use Rattle.dsde_system.specs.Fitting.{FitsLeaf, FitsState, IsInTime}
-use Rattle.dsde_sim_events.specs.Told.{below, to_boss}
-use Rattle.dsde_sim_tree.specs.declared.sim.Kid.{Kid}
-use Rattle.dsde_sim_tree.specs.declared.sim.Net.{Net}
-use Rattle.dsde_sim_tree.specs.declared.sim.Sim.{Sim}
-use Rattle.dsde_sim_tree.specs.declared.sim.Sim.TheVariants as sim
-use Rattle.dsde_sim_tree.specs.declared.sim.Sim.TheViews.{out-Kid, out-Net}
-use Rattle.dsde_sim_tree.specs.Opened.{shape_in, spots-Leaf, spots-Net, spots-net, spots-kid}
-use Rattle.dsde_sim_tree.specs.Spots.{Shape, spots, spots_of_kid}
-use Rattle.dsde_sim_tree.specs.Tree.{entry_of}
-use Rattle.dsde_sim_tree.specs.lemmas.Trees.{each_tree}
+use Rattle.dsde_language.specs.Right.{IsRight}
+use Rattle.dsde_language.specs.declared.ids.ModelId.{ModelId}
+use Rattle.dsde_sound_named.specs.given.formalism.leaf_Leaf.{Leaf}
+use Rattle.dsde_sound_named.specs.given.structure.plan_Entry.{Entry}
+use Rattle.dsde_sound_named.specs.given.system.Program.{system}
+use Rattle.dsde_sound_named.specs.given.system.Fitting.{FitsLeaf, FitsState, IsInTime}
+use Rattle.dsde_sim_starting.specs.given.sim_tree.Told.{below, to_boss}
+use Rattle.dsde_sim_starting.specs.given.sim_tree.sim_Kid.{Kid}
+use Rattle.dsde_sim_starting.specs.given.sim_tree.sim_Net.{Net}
+use Rattle.dsde_sim_starting.specs.given.sim_tree.sim_Sim.{Sim}
+use Rattle.dsde_sim_starting.specs.given.sim_tree.sim_Sim_TheVariants as sim
+use Rattle.dsde_sim_starting.specs.given.sim_tree.sim_Sim_TheViews.{out-Kid, out-Net}
+use Rattle.dsde_sim_starting.specs.given.sim_tree.Opened.{shape_in, spots-Leaf, spots-Net, spots-net, spots-kid}
+use Rattle.dsde_sim_starting.specs.given.sim_tree.Spots.{Shape, spots, spots_of_kid}
+use Rattle.dsde_sim_starting.specs.given.sim_tree.Tree.{entry_of}
+use Rattle.dsde_sim_starting.specs.given.sim_tree.lemmas_Trees.{each_tree}
 use Rattle.dsde_sim_starting.specs.Fitting.{FitsShape, FitsSpot, FitsTree}
-use Rattle.dsde_sim_stands.specs.Stands.{StandsShape, StandsSpot, StandsTree, StayAs, deepest, depth, depth_of_kid}
-use Rattle.dsde_sim_stands.specs.lemmas.Opened.{depth-Leaf, depth-Net, depth-kid}
+use Rattle.dsde_image_fits.specs.given.sim_movers.Stands.{StandsShape, StandsSpot, StandsTree, StayAs, deepest, depth, depth_of_kid}
+use Rattle.dsde_image_fits.specs.given.sim_movers.lemmas_Opened.{depth-Leaf, depth-Net, depth-kid}
 use Rattle.dsde_image.specs.Image as image
 use Rattle.dsde_image.specs.Image.{IsLocation, IsRow, IsStanding, last_text, location_of}
 use Rattle.dsde_image.specs.declared.image.Row.{Row}
 use Rattle.dsde_image.specs.declared.image.Version.{Version}
 use Rattle.dsde_image.specs.declared.image.Version.TheVariants.{One, Two}
 use Rattle.dsde_image_fits.specs.Rows.{Script, rows, rows_of_kid, atomic_row, boss_row, standing_of}
-use Rattle.dsde_image_texts.specs.Script.{script, ComponentsAreCalled}
+use Rattle.dsde_image_fits.specs.Script.{script, ComponentsAreCalled}
 use Rattle.dsde_sound_named.specs.Named.{AreAllowed, NamesAreAllowed}
 use Rattle.dsde_image_written.proofs.Opens.{rows-Leaf, rows-Net, rows-kid}
 use Rattle.dsde_image_written.proofs.Writing.{all-append, all-parts}

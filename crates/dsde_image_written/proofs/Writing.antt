@@ -11,31 +11,31 @@ use Rattle.dsde_values.specs.declared.path.Path.{Path}
 use Rattle.dsde_values.specs.declared.types.Field.{Field}
 use Rattle.dsde_values.specs.declared.value.Value.{Value}
 use Rattle.dsde_values.specs.Path.{EXEC, name_text, index_text, root}
-use Rattle.dsde_check_rules.specs.Right.{IsRight}
-use Rattle.dsde_declared.specs.Models.{types_of, param_slots, state_slots}
-use Rattle.dsde_declared.specs.declared.ids.ModelId.{ModelId}
-use Rattle.dsde_formalism.specs.declared.leaf.Leaf.{Leaf}
-use Rattle.dsde_structure.specs.declared.plan.Entry.{Entry}
-use Rattle.dsde_system.specs.Program.{system}
-use Rattle.dsde_system.specs.Fitting.{Fill, FitsLeaf}
-use Rattle.dsde_sim_events.specs.Told.{below}
-use Rattle.dsde_sim_tree.specs.declared.sim.Kid.{Kid}
-use Rattle.dsde_sim_tree.specs.declared.sim.Net.{Net}
-use Rattle.dsde_sim_tree.specs.declared.sim.Sim.{Sim}
-use Rattle.dsde_sim_tree.specs.declared.sim.Sim.TheVariants as sim
-use Rattle.dsde_sim_tree.specs.declared.sim.Sim.TheViews.{out-Kid, out-Net}
-use Rattle.dsde_sim_tree.specs.Opened.{spots-Leaf, spots-Net, spots-net, spots-kid}
-use Rattle.dsde_sim_tree.specs.Spots.{spots, spots_of_kid}
-use Rattle.dsde_sim_tree.specs.Tree.{entry_of}
-use Rattle.dsde_sim_tree.specs.lemmas.Trees.{each_tree}
+use Rattle.dsde_language.specs.Right.{IsRight}
+use Rattle.dsde_language.specs.DeclaredModels.{types_of, param_slots, state_slots}
+use Rattle.dsde_language.specs.declared.ids.ModelId.{ModelId}
+use Rattle.dsde_sound_named.specs.given.formalism.leaf_Leaf.{Leaf}
+use Rattle.dsde_sound_named.specs.given.structure.plan_Entry.{Entry}
+use Rattle.dsde_sound_named.specs.given.system.Program.{system}
+use Rattle.dsde_sound_named.specs.given.system.Fitting.{Fill, FitsLeaf}
+use Rattle.dsde_sim_starting.specs.given.sim_tree.Told.{below}
+use Rattle.dsde_sim_starting.specs.given.sim_tree.sim_Kid.{Kid}
+use Rattle.dsde_sim_starting.specs.given.sim_tree.sim_Net.{Net}
+use Rattle.dsde_sim_starting.specs.given.sim_tree.sim_Sim.{Sim}
+use Rattle.dsde_sim_starting.specs.given.sim_tree.sim_Sim_TheVariants as sim
+use Rattle.dsde_sim_starting.specs.given.sim_tree.sim_Sim_TheViews.{out-Kid, out-Net}
+use Rattle.dsde_sim_starting.specs.given.sim_tree.Opened.{spots-Leaf, spots-Net, spots-net, spots-kid}
+use Rattle.dsde_sim_starting.specs.given.sim_tree.Spots.{spots, spots_of_kid}
+use Rattle.dsde_sim_starting.specs.given.sim_tree.Tree.{entry_of}
+use Rattle.dsde_sim_starting.specs.given.sim_tree.lemmas_Trees.{each_tree}
 use Rattle.dsde_sim_starting.specs.Fitting.{FitsSpot, FitsTree}
-use Rattle.dsde_sim_stands.specs.Stands.{StandsSpot, StandsTree, StayAs}
+use Rattle.dsde_image_fits.specs.given.sim_movers.Stands.{StandsSpot, StandsTree, StayAs}
 use Rattle.dsde_image.specs.Image.{last_text}
 use Rattle.dsde_image.specs.Written.{AreUtf8, IsWrittenRow}
 use Rattle.dsde_image.specs.declared.image.Row.{Row}
 use Rattle.dsde_image.specs.declared.image.Version.TheVariants.{Two}
 use Rattle.dsde_image_fits.specs.Rows.{texts, rows, rows_of_kid, atomic_row, boss_row}
-use Rattle.dsde_image_texts.specs.Script.{script, ComponentsAreCalled, NamesAreAscii, TextsAreAscii}
+use Rattle.dsde_image_fits.specs.Script.{script, ComponentsAreCalled, NamesAreAscii, TextsAreAscii}
 use Rattle.dsde_image_written.proofs.Ascii.{decimal-ascii, word-ascii, by-test}
 use Rattle.dsde_image_written.proofs.Opens.{rows-Leaf, rows-Net, rows-kid}
 

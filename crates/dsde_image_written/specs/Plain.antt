@@ -3,18 +3,18 @@ use Rattle.std.specs.Prelude.{◌≡◌, ℕ, Ok}
 use Rattle.std.specs.List.{AllByRecursion}
 use Rattle.dsde_syntax.specs.declared.decl.Model.{Model}
 use Rattle.dsde_values.specs.Path.{root}
-use Rattle.dsde_check_rules.specs.Right.{IsRight}
-use Rattle.dsde_system.specs.Program.{system}
+use Rattle.dsde_language.specs.Right.{IsRight}
+use Rattle.dsde_sound_named.specs.given.system.Program.{system}
 use Rattle.dsde_sim_starting.specs.Fitting.{FitsTree}
-use Rattle.dsde_sim_stands.specs.Stands.{Stands, StandsTree}
-use Rattle.dsde_sim_tree.specs.declared.sim.Sim.{Sim}
+use Rattle.dsde_image_fits.specs.given.sim_movers.Stands.{Stands, StandsTree}
+use Rattle.dsde_sim_starting.specs.given.sim_tree.sim_Sim.{Sim}
 use Rattle.dsde_image.specs.Image.{IsRow}
 use Rattle.dsde_image.specs.Written.{IsWrittenRow}
 use Rattle.dsde_image.specs.declared.image.Version.{Version}
 use Rattle.dsde_image.specs.declared.image.Version.TheVariants.{Two}
 use Rattle.dsde_image_fits.specs.Rows.{rows}
 use Rattle.dsde_image_fits.specs.Walk.{tree_of}
-use Rattle.dsde_image_texts.specs.Script.{script}
+use Rattle.dsde_image_fits.specs.Script.{script}
 
 -- The texts of the rows of a tree of a program are UTF-8.
 abbrev pub ImagesAreWritten : Type 0

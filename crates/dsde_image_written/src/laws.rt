@@ -2,8 +2,7 @@
 
 ghost use Rattle.dsde_image_written.specs.Plain.{ImagesAreRestored, ImagesAreWritten, RowsAreRight};
 
-use dsde_image_fits::images_fit;
-use dsde_image_texts::{components_are_called, scripts_are_exact, texts_are_ascii};
+use dsde_image_fits::{components_are_called, images_fit, scripts_are_exact, texts_are_ascii};
 use dsde_sound_named::names_are_allowed;
 
 /// The texts of the image of a tree of a program are UTF-8.

@@ -3,6 +3,7 @@
 //! Definitions and laws; no code.
 #![tactic(auto)]
 
+pub mod given;
 mod laws;
 
 pub use laws::{images_are_restored, images_are_written, rows_are_right};

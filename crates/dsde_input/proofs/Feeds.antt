@@ -6,7 +6,7 @@ use Rattle.std.proofs.lemmas.List.{take-append-drop, length-take, append-nil}
 use Rattle.std.proofs.lemmas.Bool.Decides.{nat_tests}
 use Rattle.std.proofs.Math.Numerals.{one-add}
 use Rattle.memchr.specs.Find.{IsFirstByte, is_byte}
-use Rattle.dsde_input_records.specs.Lines.{Lacks}
+use Rattle.dsde_input_parser.specs.given.input_records.Lines.{Lacks}
 use Rattle.std.proofs.Math.Seq.{take-length, drop-append_seam}
 use Rattle.dsde_input.specs.Reader.{Opens}
 use Rattle.dsde_input_parser.specs.lemmas.Cuts.{Lacks-append, lacks_from_position, cut_from_position}

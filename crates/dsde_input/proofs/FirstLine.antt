@@ -5,12 +5,12 @@ use Rattle.std.proofs.lemmas.Bool.Decides.{nat_tests}
 use Rattle.dsde_values.specs.declared.arrival.Arrival.{Arrival}
 use Rattle.dsde_values.specs.declared.types.Field.{Field}
 use Rattle.dsde_values.specs.declared.types.Types.{Types}
-use Rattle.dsde_input_records.specs.declared.end.InputEnd.{InputEnd}
-use Rattle.dsde_input_records.specs.declared.end.InputEnd.TheVariants as end_of
-use Rattle.dsde_input_records.specs.Lines.{Lacks, begin, lines, behind_line}
-use Rattle.dsde_input_records.specs.Lines.{without_last}
-use Rattle.dsde_input_records.specs.Record.{record_of}
-use Rattle.dsde_input_records.specs.Records.{Records, bad, one, next_number, judged, line_record, before, records_of}
+use Rattle.dsde_input_parser.specs.given.input_records.end_InputEnd.{InputEnd}
+use Rattle.dsde_input_parser.specs.given.input_records.end_InputEnd_TheVariants as end_of
+use Rattle.dsde_input_parser.specs.given.input_records.Lines.{Lacks, begin, lines, behind_line}
+use Rattle.dsde_input_parser.specs.given.input_records.Lines.{without_last}
+use Rattle.dsde_input_parser.specs.given.input_records.Record.{record_of}
+use Rattle.dsde_input_parser.specs.given.input_records.Records.{Records, bad, one, next_number, judged, line_record, before, records_of}
 use Rattle.dsde_input.specs.Reader.{Reader, IsOffence, Tells, records, to_come, has_feed, has_line, given, IsLineOf, Opens}
 use Rattle.dsde_input.proofs.Feeds.{no_feed, position-none}
 

@@ -6,7 +6,7 @@ use Rattle.std.proofs.lemmas.List.{take-take, length-take, length-drop, take-app
 use Rattle.dsde_values.specs.declared.arrival.Arrival.{Arrival}
 use Rattle.dsde_values.specs.declared.types.Field.{Field}
 use Rattle.dsde_values.specs.declared.types.Types.{Types}
-use Rattle.dsde_input_records.specs.declared.end.InputEnd.{InputEnd}
+use Rattle.dsde_input_parser.specs.given.input_records.end_InputEnd.{InputEnd}
 use Rattle.dsde_io.specs.Bytes as io
 use Rattle.dsde_input.specs.Reader.{Reader, Moves, to_come, records, Tells, has_line, with_more, given, IsLineOf, TakesOfLine, TakesLine, SeesEnd}
 use Rattle.dsde_input.proofs.Feeds.{drop_whole}

@@ -4,10 +4,10 @@ use Rattle.std.specs.List.{position}
 use Rattle.dsde_values.specs.declared.arrival.Arrival.{Arrival}
 use Rattle.dsde_values.specs.declared.types.Field.{Field}
 use Rattle.dsde_values.specs.declared.types.Types.{Types}
-use Rattle.dsde_input_records.specs.declared.end.InputEnd.{InputEnd}
-use Rattle.dsde_input_records.specs.declared.end.InputEnd.TheVariants as end_of
-use Rattle.dsde_input_records.specs.Lines.{lines, behind_line, Lacks}
-use Rattle.dsde_input_records.specs.Records.{Records, end, bad, one, next_number, records_of}
+use Rattle.dsde_input_parser.specs.given.input_records.end_InputEnd.{InputEnd}
+use Rattle.dsde_input_parser.specs.given.input_records.end_InputEnd_TheVariants as end_of
+use Rattle.dsde_input_parser.specs.given.input_records.Lines.{lines, behind_line, Lacks}
+use Rattle.dsde_input_parser.specs.given.input_records.Records.{Records, end, bad, one, next_number, records_of}
 
 pub record Reader : Type 0 where
   -- the bytes that were read and not given: those of the wanted line, and what came behind it

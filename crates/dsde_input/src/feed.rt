@@ -2,7 +2,7 @@
 
 ghost use Rattle.std.specs.Prelude.{◌≡◌, ◌≢◌, ◌==◌, ◌≤◌, [], length, take, drop};
 ghost use Rattle.std.specs.List.{position};
-ghost use Rattle.dsde_input_records.specs.Lines.{Lacks};
+ghost use Rattle.dsde_input_parser.specs.given.input_records.Lines.{Lacks};
 ghost use Rattle.dsde_input.specs.Reader.{Opens};
 
 use memchr::memchr;

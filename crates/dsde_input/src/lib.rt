@@ -5,5 +5,5 @@ mod feed;
 mod held;
 mod reader;
 
-pub use dsde_input_records::InputEnd;
+pub use dsde_input_parser::given::input_records::InputEnd;
 pub use reader::InputReader;

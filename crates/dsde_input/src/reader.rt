@@ -4,8 +4,8 @@ ghost use Rattle.std.specs.Prelude.{◌≡◌, ◌<◌, ◌≤◌, ◌+◌, max,
 ghost use Rattle.dsde_values.specs.Value.{IsLawful};
 ghost use Rattle.dsde_values.specs.When.{IsMoment};
 ghost use Rattle.dsde_io.specs.Fault.{Rose};
-ghost use Rattle.dsde_input_records.specs.Lines.{behind_line};
-ghost use Rattle.dsde_input_records.specs.Record.{ArePorts, AreItems};
+ghost use Rattle.dsde_input_parser.specs.given.input_records.Lines.{behind_line};
+ghost use Rattle.dsde_input_parser.specs.given.input_records.Record.{ArePorts, AreItems};
 ghost use Rattle.dsde_input.specs.Reader.{fresh, to_come, records, least_time, Tells, has_line, reads_left, IsOffence, Moves, given, IsLineOf, TakesOfLine, TakesLine, SeesEnd};
 
 use crate::InputEnd;
@@ -39,7 +39,7 @@ pub struct InputReader {
 
 impl Model for InputReader {
     ghost use Rattle.std.specs.Prelude.{◌≤◌, IfSome, length, take};
-    ghost use Rattle.dsde_input_records.specs.Lines.{Lacks};
+    ghost use Rattle.dsde_input_parser.specs.given.input_records.Lines.{Lacks};
     ghost use Rattle.dsde_input.specs.Reader.{Reader, IsOffence};
 
     ghost Value = { Reader };

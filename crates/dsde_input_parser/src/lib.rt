@@ -1,6 +1,7 @@
 //! The record that a line of an input spells, read from the line.
 #![tactic(auto)]
 
+pub mod given;
 mod line;
 mod read_record;
 

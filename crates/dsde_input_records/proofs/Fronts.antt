@@ -7,7 +7,7 @@ use Rattle.std.proofs.Math.Seq.{drop-append_seam}
 use Rattle.std.proofs.lemmas.List.{take-append-drop}
 use Rattle.std.proofs.lemmas.List.Folds.{length-prefix_len}
 use borrow.Author.Tests.{eqb-true, eq-eqb}
-use Rattle.dsde_words.specs.Words.{is_word_byte, begins_word}
+use Rattle.dsde_values.specs.given.words.Words.{is_word_byte, begins_word}
 use Rattle.dsde_values.proofs.Fronts.{word_all, word_end}
 use Rattle.dsde_values.proofs.Names.{take_while-word}
 use Rattle.dsde_input_records.specs.Reading.{Read, made, followed_by, behind, closed, meant}

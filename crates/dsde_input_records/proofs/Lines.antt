@@ -7,7 +7,7 @@ use Rattle.std.specs.Str.{bytes_eq}
 use Rattle.std.proofs.lemmas.List.Elements.{All-nil, All-cons, All-head, All-tail}
 use Rattle.std.proofs.lemmas.List.Quantifiers.{position-Some}
 use Rattle.std.proofs.lemmas.Option.{get_or_from_slice_get}
-use Rattle.dsde_words.specs.Words.{begins_word, is_word}
+use Rattle.dsde_values.specs.given.words.Words.{begins_word, is_word}
 use Rattle.dsde_values.specs.When.{IsMoment}
 use Rattle.dsde_values.specs.declared.arrival.Arrival.{Arrival}
 use Rattle.dsde_values.specs.declared.arrival.Item.{Item}

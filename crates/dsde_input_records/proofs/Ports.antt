@@ -14,7 +14,7 @@ use Rattle.std.proofs.lemmas.Slice.Eq.{bytes_eq-Decides}
 use Rattle.std.proofs.lemmas.Str.Parse.{digit_from_value}
 use borrow.Author.Tests.{eqb-true}
 use Rattle.dsde_values.specs.declared.types.Field.{Field}
-use Rattle.dsde_words.specs.Words.{is_word_byte, is_word}
+use Rattle.dsde_values.specs.given.words.Words.{is_word_byte, is_word}
 use Rattle.dsde_input_records.specs.Lines.{Lacks}
 use Rattle.dsde_input_records.specs.Reading.{made}
 use Rattle.dsde_input_records.specs.Record.{ArePorts, cut}

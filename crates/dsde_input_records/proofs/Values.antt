@@ -6,7 +6,7 @@ use Rattle.std.specs.Option.{option_map_or, option_or}
 use Rattle.std.specs.Str.{bytes_eq}
 use Rattle.std.proofs.lemmas.Slice.Eq.{bytes_eq-Decides}
 use borrow.Author.Tests.{eq-eqb, le-leb}
-use Rattle.dsde_words.specs.Words.{begins_word}
+use Rattle.dsde_values.specs.given.words.Words.{begins_word}
 use Rattle.dsde_values.specs.declared.types.Field.{Field}
 use Rattle.dsde_values.specs.declared.types.Ty.{Ty, Ty-F, out-Ty}
 use Rattle.dsde_values.specs.declared.types.Ty.TheOpen as open_ty

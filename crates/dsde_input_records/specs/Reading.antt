@@ -12,7 +12,7 @@ use Rattle.dsde_values.specs.declared.types.Types.{Types}
 use Rattle.dsde_values.specs.declared.value.Value.{Value}
 use Rattle.dsde_values.specs.declared.value.Value.TheVariants as value
 use Rattle.dsde_values.specs.Value.{name_at, variants_at, fields_at, fits_int, number_size}
-use Rattle.dsde_words.specs.Words.{is_word_byte}
+use Rattle.dsde_values.specs.given.words.Words.{is_word_byte}
 
 -- what stands at the front of bytes, if it does, and the bytes behind it
 abbrev pub Read : Type 0 → Type 0

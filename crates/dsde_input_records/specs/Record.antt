@@ -10,7 +10,7 @@ use Rattle.dsde_values.specs.declared.arrival.Item.{Item}
 use Rattle.dsde_values.specs.declared.types.Field.{Field}
 use Rattle.dsde_values.specs.declared.types.Types.{Types}
 use Rattle.dsde_values.specs.Value.{HasType, spelling}
-use Rattle.dsde_words.specs.Words.{is_word}
+use Rattle.dsde_values.specs.given.words.Words.{is_word}
 use Rattle.dsde_input_records.specs.Reading.{Read, made, followed_by, behind, value_of}
 
 -- what an input may come to: names that are identifiers and differ

@@ -5,7 +5,7 @@ use Rattle.std.specs.List.{position}
 use Rattle.std.proofs.lemmas.Bool.Decides.{nat_tests}
 use Rattle.dsde_input_records.specs.Lines.{Lacks, behind_line}
 use Rattle.dsde_input.specs.Reader.{Reader, has_feed, has_line}
-use Rattle.dsde_input_parser.specs.lemmas.Cuts.{lacks_from_position}
+use Rattle.dsde_input.specs.given.input_parser.lemmas_Cuts.{lacks_from_position}
 use Rattle.dsde_input_skip.specs.Skipping.{feeds}
 
 pub feeds-append : (one other : List ℕ) → feeds (one ++ other) ≡ feeds one + feeds other

@@ -1,3 +1,4 @@
 pub mod Skipped
 pub mod Skipping
 pub mod lemmas
+pub mod given

@@ -5,17 +5,17 @@ use Rattle.std.specs.List.Sorted.{IsPermutation}
 use Rattle.rand_pcg.specs.Lcg.{Lcg}
 use Rattle.dsde_values.specs.declared.arrival.Arrival.{Arrival}
 use Rattle.dsde_values.specs.declared.arrival.Item.{Item}
-use Rattle.dsde_formalism.specs.System.{System}
-use Rattle.dsde_sim_events.specs.declared.event.Event.{Event}
-use Rattle.dsde_sim_events.specs.declared.fault.TurnEnd.{TurnEnd}
-use Rattle.dsde_sim_events.specs.declared.fault.TurnEnd.TheVariants.{Memory}
-use Rattle.dsde_sim_events.specs.Told.{Told, quietly}
+use Rattle.dsde_sim_tree.specs.given.formalism.System.{System}
+use Rattle.dsde_sim_tree.specs.declared.event.Event.{Event}
+use Rattle.dsde_sim_tree.specs.declared.fault.TurnEnd.{TurnEnd}
+use Rattle.dsde_sim_tree.specs.declared.fault.TurnEnd.TheVariants.{Memory}
+use Rattle.dsde_sim_tree.specs.Told.{Told, quietly}
 use Rattle.dsde_sim_tree.specs.declared.sim.Sim.{Sim}
-use Rattle.dsde_sim_turns.specs.declared.step.Step.{Step}
-use Rattle.dsde_sim_turns.specs.declared.step.Step.TheVariants.{Turned, Quiet}
-use Rattle.dsde_sim_turns.specs.Engine.{Engine, turned}
-use Rattle.dsde_sim_turns.specs.Turn as turns
-use Rattle.dsde_sim_turns.specs.Turn.{is_taken, items_at, turn}
+use Rattle.dsde_sim_tree.specs.declared.step.Step.{Step}
+use Rattle.dsde_sim_tree.specs.declared.step.Step.TheVariants.{Turned, Quiet}
+use Rattle.dsde_sim_tree.specs.Engine.{Engine, turned}
+use Rattle.dsde_sim_tree.specs.Turn as turns
+use Rattle.dsde_sim_tree.specs.Turn.{is_taken, items_at, turn}
 use Rattle.dsde_sim_movers.specs.Names.{IsNamed}
 use Rattle.dsde_sim_movers.specs.lemmas.Steps.{split-then}
 use Rattle.dsde_order.specs.Free.{Drawing, advance_tree, after_turn, drawn_turn}

@@ -1,4 +1,8 @@
-pub mod Words
-pub mod Seats
-pub mod Ordered
 pub mod Advances
+pub mod ByParts
+pub mod Components
+pub mod Ordered
+pub mod Seats
+pub mod Walked
+pub mod Within
+pub mod Words

@@ -16,10 +16,10 @@ use Rattle.dsde_values.specs.declared.name.Name.{Name}
 use Rattle.dsde_values.specs.declared.path.Path.{Path}
 use Rattle.dsde_values.specs.Path.{EXEC, IsPath, are_below, is_component, is_executive, is_path, is_plain, name_cmp, path_cmp, root}
 use Rattle.dsde_structure.specs.Gather.{is_same_name}
-use Rattle.dsde_sim_delivery.specs.Places.{begin_with}
+use Rattle.dsde_sim_movers.specs.Places.{begin_with}
 use Rattle.dsde_sim_movers.specs.Movers.{Seat, seat_of}
 use Rattle.dsde_sim_movers.specs.lemmas.Named.{same_name}
-use Rattle.dsde_sim_orders.specs.Orders.{is_over}
+use Rattle.dsde_sim_movers.specs.Orders.{is_over}
 use Rattle.dsde_drawing.specs.Drawing.{IsOrderly, IsPassed}
 use Rattle.dsde_order.proofs.Seats.{exec-same}
 

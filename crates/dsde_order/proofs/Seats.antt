@@ -6,7 +6,7 @@ use Rattle.std.specs.List.{starts_with}
 use Rattle.dsde_values.specs.declared.name.Name.{Name}
 use Rattle.dsde_values.specs.Path.{EXEC, is_executive, name_cmp}
 use Rattle.dsde_structure.specs.Gather.{is_same_name}
-use Rattle.dsde_sim_delivery.specs.Places.{begin_with}
+use Rattle.dsde_sim_movers.specs.Places.{begin_with}
 use Rattle.dsde_sim_movers.specs.Movers.{Seat, seat_of, seat_within}
 use Rattle.dsde_sim_movers.specs.lemmas.Named.{not-executive}
 

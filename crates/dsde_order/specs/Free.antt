@@ -4,18 +4,18 @@ use Rattle.rand_pcg.specs.Lcg.{Lcg}
 use Rattle.dsde_values.specs.declared.arrival.Arrival.{Arrival}
 use Rattle.dsde_values.specs.declared.arrival.Item.{Item}
 use Rattle.dsde_values.specs.Path.{root}
-use Rattle.dsde_formalism.specs.System.{System}
-use Rattle.dsde_sim_events.specs.declared.fault.TurnEnd.TheVariants.{Memory}
-use Rattle.dsde_sim_events.specs.Told.{Told, told, quietly, ◌then◌}
+use Rattle.dsde_sim_tree.specs.given.formalism.System.{System}
+use Rattle.dsde_sim_tree.specs.declared.fault.TurnEnd.TheVariants.{Memory}
+use Rattle.dsde_sim_tree.specs.Told.{Told, told, quietly, ◌then◌}
 use Rattle.dsde_sim_tree.specs.declared.sim.Sim.{Sim}
-use Rattle.dsde_sim_turns.specs.declared.step.Step.{Step}
-use Rattle.dsde_sim_turns.specs.declared.step.Step.TheVariants.{Turned, Quiet}
-use Rattle.dsde_sim_turns.specs.Engine.{Engine, next_of, turned}
-use Rattle.dsde_sim_turns.specs.Turn as turns
-use Rattle.dsde_sim_turns.specs.Turn.{is_taken, items_at, turn_time}
-use Rattle.dsde_sim_delivery.specs.Deliveries.{Delivery}
+use Rattle.dsde_sim_tree.specs.declared.step.Step.{Step}
+use Rattle.dsde_sim_tree.specs.declared.step.Step.TheVariants.{Turned, Quiet}
+use Rattle.dsde_sim_tree.specs.Engine.{Engine, next_of, turned}
+use Rattle.dsde_sim_tree.specs.Turn as turns
+use Rattle.dsde_sim_tree.specs.Turn.{is_taken, items_at, turn_time}
+use Rattle.dsde_sim_movers.specs.Deliveries.{Delivery}
 use Rattle.dsde_sim_movers.specs.Turns.{free_turn, turn_movers}
-use Rattle.dsde_sim_orders.specs.Orders.{is_above}
+use Rattle.dsde_sim_movers.specs.Orders.{is_above}
 use Rattle.dsde_drawing.specs.Drawing.{drawn}
 use Rattle.dsde_drawing.specs.Words.{behind, next_words, seeded}
 

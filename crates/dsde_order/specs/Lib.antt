@@ -1,1 +1,4 @@
 pub mod Free
+pub mod Seating
+pub mod Walking
+pub mod given

@@ -7,19 +7,19 @@ ghost use Rattle.rand_pcg.specs.Lcg.{Lcg};
 ghost use Rattle.dsde_values.specs.declared.arrival.Item.{Item};
 ghost use Rattle.dsde_values.specs.declared.path.Path.{Path};
 ghost use Rattle.dsde_values.specs.Path.{IsPath, path_cmp, root};
-ghost use Rattle.dsde_formalism.specs.System.{System};
+ghost use Rattle.dsde_sim_tree.specs.given.formalism.System.{System};
 ghost use Rattle.dsde_sim_tree.specs.declared.sim.Sim.{Sim};
 ghost use Rattle.dsde_values.specs.declared.arrival.Arrival.{Arrival};
-ghost use Rattle.dsde_sim_turns.specs.declared.step.Step.{Step};
-ghost use Rattle.dsde_sim_turns.specs.Engine.{Engine};
-ghost use Rattle.dsde_sim_turns.specs.Turn as turns;
-ghost use Rattle.dsde_sim_turns.specs.Turn.{turn};
+ghost use Rattle.dsde_sim_tree.specs.declared.step.Step.{Step};
+ghost use Rattle.dsde_sim_tree.specs.Engine.{Engine};
+ghost use Rattle.dsde_sim_tree.specs.Turn as turns;
+ghost use Rattle.dsde_sim_tree.specs.Turn.{turn};
 ghost use Rattle.dsde_sim_movers.specs.Names.{IsNamed};
 ghost use Rattle.dsde_drawing.specs.Drawing.{IsOrderly};
-ghost use Rattle.dsde_sim_orders.specs.Orders.{is_over};
+ghost use Rattle.dsde_sim_movers.specs.Orders.{is_over};
 ghost use Rattle.dsde_order.specs.Free.{Drawing, advance, drawn_turn};
 
-use dsde_sim_orders::{drawn_orders_are_lawful, lawful_orders_are_drawn, orders_agree};
+use dsde_sim_movers::{drawn_orders_are_lawful, lawful_orders_are_drawn, orders_agree};
 use dsde_values::{one_name, orders_are_total};
 
 /// A turn in an order that is drawn comes to the tree of the turn in path order, and tells its events up to

@@ -3,8 +3,8 @@
 ghost use Rattle.std.specs.Prelude.{◌≡◌};
 
 use crate::seat::is_over;
-use dsde_declared::ModelId;
 use dsde_drawing::Waits;
+use dsde_language::ModelId;
 use dsde_values::{Path, Seq, Values};
 use std::marker::Model;
 
@@ -18,10 +18,10 @@ pub struct Mover {
 
 impl Model for Mover {
     ghost use Rattle.std.specs.Coded.{codes};
-    ghost use Rattle.dsde_sim_delivery.specs.Deliveries.{Delivery};
+    ghost use Rattle.dsde_sim_movers.specs.Deliveries.{Delivery};
     ghost use Rattle.dsde_values.specs.contracts.path.Path as whole;
     ghost use Rattle.dsde_values.specs.contracts.value.Value as value;
-    ghost use Rattle.dsde_declared.specs.contracts.ids.ModelId as number;
+    ghost use Rattle.dsde_language.specs.contracts.ids.ModelId as number;
 
     ghost Value = { Delivery };
 
@@ -36,7 +36,7 @@ impl Model for Mover {
 
 impl Waits for Mover {
     ghost use Rattle.dsde_values.specs.Path.{root};
-    ghost use Rattle.dsde_sim_orders.specs.Orders.{is_above};
+    ghost use Rattle.dsde_sim_movers.specs.Orders.{is_above};
 
     ghost waits = { is_above root };
 

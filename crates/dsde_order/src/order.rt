@@ -4,7 +4,7 @@ ghost use Rattle.std.specs.Prelude.{◌≡◌, length, IfOk, OnOk};
 ghost use Rattle.dsde_values.specs.Path.{root};
 ghost use Rattle.dsde_drawing.specs.Drawing.{IsOrderly, drawn};
 ghost use Rattle.dsde_drawing.specs.Words.{behind, next_words};
-ghost use Rattle.dsde_sim_orders.specs.Orders.{is_over};
+ghost use Rattle.dsde_sim_movers.specs.Orders.{is_over};
 
 use crate::seat::is_over;
 use dsde_drawing::{Waits, draw};
@@ -32,7 +32,7 @@ impl Model for Waiting {
 
 impl Waits for Waiting {
     ghost use Rattle.dsde_values.specs.Path.{root};
-    ghost use Rattle.dsde_sim_orders.specs.Orders.{is_over};
+    ghost use Rattle.dsde_sim_movers.specs.Orders.{is_over};
 
     ghost waits = { is_over root };
 

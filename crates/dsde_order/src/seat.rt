@@ -2,9 +2,9 @@
 
 ghost use Rattle.std.specs.Prelude.{◌≡◌, ◌++◌, ◌∷◌, [], drop};
 ghost use Rattle.dsde_values.specs.Path.{root};
-ghost use Rattle.dsde_sim_delivery.specs.Places.{begin_with};
+ghost use Rattle.dsde_sim_movers.specs.Places.{begin_with};
 ghost use Rattle.dsde_sim_movers.specs.Movers.{seat_behind, seat_of};
-ghost use Rattle.dsde_sim_orders.specs.Orders.{is_over};
+ghost use Rattle.dsde_sim_movers.specs.Orders.{is_over};
 
 use dsde_values::{Name, Path, one_name, orders_are_total};
 

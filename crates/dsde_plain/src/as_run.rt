@@ -1,16 +1,15 @@
 //! The engine that walks the whole tree, as a run sees it.
 
 use crate::plain::Plain;
-use dsde_run_engine::Advance;
-use dsde_sim_events::{Event, TurnEnd};
-use dsde_sim_turns::Step;
+use dsde_run::Advance;
+use dsde_sim_tree::{Event, Step, TurnEnd};
 use dsde_values::{Arrival, Seq};
 
 impl<'p> Advance for Plain<'p> {
-    ghost use Rattle.dsde_system.specs.Program.{system};
-    ghost use Rattle.dsde_sim_turns.specs.Engine.{Engine};
-    ghost use Rattle.dsde_sim_turns.specs.Turn as turn;
-    ghost use Rattle.dsde_run_meaning.specs.Run.{alone};
+    ghost use Rattle.dsde_run.specs.given.system.Program.{system};
+    ghost use Rattle.dsde_sim_tree.specs.Engine.{Engine};
+    ghost use Rattle.dsde_sim_tree.specs.Turn as turn;
+    ghost use Rattle.dsde_run.specs.given.run_meaning.Run.{alone};
 
     ghost State = { Engine };
 

@@ -3,10 +3,9 @@
 #![tactic(auto)]
 
 mod as_run;
+pub mod given;
 mod plain;
 mod turn;
 
-pub use dsde_sim_events::TurnEnd;
-pub use dsde_sim_tree::{Kid, Net, Sim};
-pub use dsde_sim_turns::Step;
+pub use dsde_sim_tree::{Kid, Net, Sim, Step, TurnEnd};
 pub use plain::Plain;

@@ -2,28 +2,24 @@
 
 ghost use Rattle.std.specs.Prelude.{◌≡◌, ◌<◌, ◌≤◌, ◌^◌, Some, Ok, Err, is_some, is_none, is_err, true, IfOk, IfErr, IfSome, drop, length};
 ghost use Rattle.std.specs.Option.{option_copied};
-ghost use Rattle.dsde_sim_events.specs.Told.{Tells};
-ghost use Rattle.dsde_system.specs.Program.{system};
-ghost use Rattle.dsde_declared.specs.declared.ids.ModelId.{ModelId};
-ghost use Rattle.dsde_declared.specs.Models.{top_number};
-ghost use Rattle.dsde_sim_tree.specs.Tree.{model_of};
-ghost use Rattle.dsde_sim_turns.specs.Engine.{next_of};
-ghost use Rattle.dsde_sim_turns.specs.Turn.{start, advance, turn_time};
-ghost use Rattle.dsde_sim_delivery.specs.Delivered.{IsTurnDelivered};
+ghost use Rattle.dsde_sim_tree.specs.Told.{Tells};
+ghost use Rattle.dsde_run.specs.given.system.Program.{system};
+ghost use Rattle.dsde_language.specs.declared.ids.ModelId.{ModelId};
+ghost use Rattle.dsde_language.specs.DeclaredModels.{top_number};
+ghost use Rattle.dsde_sim_tree.specs.Engine.{next_of};
+ghost use Rattle.dsde_sim_tree.specs.Turn.{start, advance, turn_time};
+ghost use Rattle.dsde_sim_movers.specs.Delivered.{IsTurnDelivered};
 ghost use Rattle.dsde_values.specs.When.{IsMoment};
-ghost use Rattle.dsde_sim_stands.specs.Stands.{StandsTree};
-ghost use Rattle.dsde_sim_working.specs.Working.{HeadComes, IsRoot, Stands, StandsAt, StandsIf, working};
+ghost use Rattle.dsde_sim_movers.specs.Stands.{StandsTree};
+ghost use Rattle.dsde_run.specs.given.sim_working.Working.{HeadComes, IsRoot, Stands, StandsAt, StandsIf, working};
 
 use crate::turn::turn;
-use dsde_program::Program;
-use dsde_sim_delivery::advances_are_delivered;
-use dsde_sim_events::{Event, TurnEnd};
-use dsde_sim_moving::next_time;
-use dsde_sim_stands::trees_stand;
-use dsde_sim_tree::Sim;
-use dsde_sim_turns::Step;
-use dsde_sim_working::{chosen, is_taken, items_at, started, turn_time};
-use dsde_sound_forward::programs_lead_on;
+use dsde_run::given::program::Program;
+use dsde_run::given::sim_moving::next_time;
+use dsde_run::given::sim_working::{chosen, is_taken, items_at, started, turn_time};
+use dsde_run::given::sound_forward::programs_lead_on;
+use dsde_sim_movers::{advances_are_delivered, trees_stand};
+use dsde_sim_tree::{Event, Sim, Step, TurnEnd};
 use dsde_values::{Arrival, Memory, Seq};
 use std::alloc::Global;
 use std::marker::Model;
@@ -41,7 +37,7 @@ pub struct Plain<'p> {
 
 impl<'p> Model for Plain<'p> {
     ghost use Rattle.std.specs.Prelude.{◌≤◌};
-    ghost use Rattle.dsde_sim_working.specs.Working.{Working, working, StandsAt, StandsIf};
+    ghost use Rattle.dsde_run.specs.given.sim_working.Working.{Working, working, StandsAt, StandsIf};
     ghost use Rattle.dsde_syntax.specs.contracts.decl.Model as model;
     ghost use Rattle.dsde_sim_tree.specs.contracts.sim.Sim as sim;
     ghost use Rattle.std.specs.Coded.{codes};

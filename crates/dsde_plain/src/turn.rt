@@ -2,20 +2,18 @@
 
 ghost use Rattle.std.specs.Prelude.{◌≡◌, ◌<◌, ◌^◌, length, IfOk};
 ghost use Rattle.dsde_values.specs.When.{IsMoment};
-ghost use Rattle.dsde_sim_events.specs.Told.{Tells};
-ghost use Rattle.dsde_system.specs.Program.{system};
+ghost use Rattle.dsde_sim_tree.specs.Told.{Tells};
+ghost use Rattle.dsde_run.specs.given.system.Program.{system};
 ghost use Rattle.dsde_sim_tree.specs.Tree.{parts, model_of};
-ghost use Rattle.dsde_sim_turns.specs.Turn.{turn, move_phase};
-ghost use Rattle.dsde_sim_moving.specs.Fitting.{FitsGot};
-ghost use Rattle.dsde_sim_working.specs.Working.{FitsItems, Stands};
+ghost use Rattle.dsde_sim_tree.specs.Turn.{turn, move_phase};
+ghost use Rattle.dsde_run.specs.given.sim_moving.Fitting.{FitsGot};
+ghost use Rattle.dsde_run.specs.given.sim_working.Working.{FitsItems, Stands};
 
-use dsde_program::Program;
-use dsde_sim_events::{Event, TurnEnd};
-use dsde_sim_moving::{move_sim, parts};
-use dsde_sim_telling::tell_outs;
-use dsde_sim_tree::Sim;
-use dsde_sim_turns::MOST_PARTS;
-use dsde_sim_working::{received, sent_by_root};
+use dsde_run::given::program::Program;
+use dsde_run::given::sim_moving::{move_sim, parts};
+use dsde_run::given::sim_telling::tell_outs;
+use dsde_run::given::sim_working::{received, sent_by_root};
+use dsde_sim_tree::{Event, MOST_PARTS, Sim, TurnEnd};
 use dsde_values::{Item, Path, Seq, Values};
 use std::alloc::Global;
 

@@ -8,21 +8,21 @@ use Rattle.dsde_syntax.specs.declared.decl.Decl.TheVariants as decl
 use Rattle.dsde_syntax.specs.declared.decl.Phase.{Phase}
 use Rattle.dsde_syntax.specs.declared.decl.Typed.{Typed}
 use Rattle.dsde_values.specs.declared.types.Field.{Field}
-use Rattle.dsde_check_rules.specs.declared.known.Known.{Known}
-use Rattle.dsde_program_nodes.specs.declared.code.Code.{Code}
-use Rattle.dsde_program_nodes.specs.declared.make.Make.{Make}
-use Rattle.dsde_program_nodes.specs.declared.ids.ExprId.{ExprId}
-use Rattle.dsde_program_nodes.specs.declared.tables.Tables.{Tables}
-use Rattle.dsde_program_nodes.specs.declared.info.Info.{Info}
-use Rattle.dsde_declared.specs.Structures.{place_of_items}
-use Rattle.dsde_program_nodes.specs.Models.{Parts, infos_from, with_info}
-use Rattle.dsde_declared.specs.Models.{model_id}
-use Rattle.dsde_program_nodes.specs.Statements.{body_scope}
-use Rattle.dsde_declared.specs.Names.{Scope}
-use Rattle.dsde_program_layout.specs.LayPieces.{LaidPiece, over}
-use Rattle.dsde_program_layout.specs.LayStatements.{lay_phase, lay_body}
-use Rattle.dsde_program_layout.specs.LayItems.{lay_all, lay_items}
-use Rattle.dsde_program_layout.specs.LayModels.{lay_decls, no_tables}
+use Rattle.dsde_language.specs.declared.known.Known.{Known}
+use Rattle.dsde_language.specs.declared.code.Code.{Code}
+use Rattle.dsde_language.specs.declared.make.Make.{Make}
+use Rattle.dsde_language.specs.declared.node_ids.ExprId.{ExprId}
+use Rattle.dsde_language.specs.declared.tables.Tables.{Tables}
+use Rattle.dsde_language.specs.declared.info.Info.{Info}
+use Rattle.dsde_language.specs.DeclaredStructures.{place_of_items}
+use Rattle.dsde_language.specs.NodeModels.{Parts, infos_from, with_info}
+use Rattle.dsde_language.specs.DeclaredModels.{model_id}
+use Rattle.dsde_language.specs.Statements.{body_scope}
+use Rattle.dsde_language.specs.Names.{Scope}
+use Rattle.dsde_program_bodies.specs.given.program_layout.LayPieces.{LaidPiece, over}
+use Rattle.dsde_program_bodies.specs.given.program_layout.LayStatements.{lay_phase, lay_body}
+use Rattle.dsde_program_bodies.specs.given.program_layout.LayItems.{lay_all, lay_items}
+use Rattle.dsde_program_bodies.specs.given.program_layout.LayModels.{lay_decls, no_tables}
 use Rattle.dsde_program.specs.Behind.{behind_body, behind_decls, behind_func, behind_items, behind_top, first_top, no_items, no_top, none_made}
 use Rattle.dsde_program.specs.declared.made.Made.{Made}
 use Rattle.dsde_program.specs.declared.made.TopCode.{TopCode}

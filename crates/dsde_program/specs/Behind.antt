@@ -8,14 +8,14 @@ use Rattle.dsde_syntax.specs.declared.decl.Decl.{Decl}
 use Rattle.dsde_syntax.specs.declared.decl.Decl.TheVariants as decl
 use Rattle.dsde_syntax.specs.declared.decl.PortDecl.{PortDecl}
 use Rattle.dsde_syntax.specs.declared.decl.Typed.{Typed}
-use Rattle.dsde_check_rules.specs.declared.known.Known.{Known}
-use Rattle.dsde_declared.specs.Structures.{place_of_items}
-use Rattle.dsde_declared.specs.Models.{model_id}
-use Rattle.dsde_program_nodes.specs.Statements.{body_scope}
-use Rattle.dsde_program_layout.specs.LayPieces.{over}
-use Rattle.dsde_program_layout.specs.LayStatements.{lay_func, lay_body}
-use Rattle.dsde_program_layout.specs.LayItems.{lay_all, lay_items}
-use Rattle.dsde_program_layout.specs.LayModels.{no_tables}
+use Rattle.dsde_language.specs.declared.known.Known.{Known}
+use Rattle.dsde_language.specs.DeclaredStructures.{place_of_items}
+use Rattle.dsde_language.specs.DeclaredModels.{model_id}
+use Rattle.dsde_language.specs.Statements.{body_scope}
+use Rattle.dsde_program_bodies.specs.given.program_layout.LayPieces.{over}
+use Rattle.dsde_program_bodies.specs.given.program_layout.LayStatements.{lay_func, lay_body}
+use Rattle.dsde_program_bodies.specs.given.program_layout.LayItems.{lay_all, lay_items}
+use Rattle.dsde_program_bodies.specs.given.program_layout.LayModels.{no_tables}
 use Rattle.dsde_program.specs.declared.made.Made.{Made}
 use Rattle.dsde_program.specs.declared.made.TopCode.{TopCode}
 

@@ -1,10 +1,10 @@
 -- What is read of a whole model.
 use Rattle.std.specs.Prelude.{◌≡◌, List, [], length}
 use Rattle.dsde_syntax.specs.declared.decl.Decl.{Decl}
-use Rattle.dsde_check_rules.specs.declared.known.Known.{Known}
-use Rattle.dsde_declared.specs.Models.{defs_from}
-use Rattle.dsde_program_nodes.specs.Models.{infos_from}
-use Rattle.dsde_program_layout.specs.LayModels.{lay_decls, no_tables}
+use Rattle.dsde_language.specs.declared.known.Known.{Known}
+use Rattle.dsde_language.specs.DeclaredModels.{defs_from}
+use Rattle.dsde_language.specs.NodeModels.{infos_from}
+use Rattle.dsde_program_bodies.specs.given.program_layout.LayModels.{lay_decls, no_tables}
 use Rattle.dsde_program.specs.declared.whole.Whole.{Whole}
 
 -- what declarations declare, and what is laid of them; each atomic model and each network has one

@@ -2,13 +2,14 @@
 //! number.
 #![tactic(auto)]
 
+pub mod given;
 mod made;
 mod program;
 mod whole;
 
-pub use dsde_declared::{Binary, Builtin, ModelId, ViaId};
-pub use dsde_program_nodes::{
-    Act, ActArm, BlockId, Code, ExprId, FnCode, Info, Make, MakeArm, MakeEnd, MakeIndex, MakePart,
-    MakeVia, Node, NodeArm, Port, ViaCode,
+pub use dsde_language::{
+    Act, ActArm, Binary, BlockId, Builtin, Code, ExprId, FnCode, Info, Make, MakeArm, MakeEnd,
+    MakeIndex, MakePart, MakeVia, ModelId, Node, NodeArm, ViaCode, ViaId,
 };
+pub use dsde_values::Field as Port;
 pub use program::{Program, resolve};

@@ -3,15 +3,12 @@
 ghost use Rattle.std.specs.Prelude.{◌≡◌, IfOk, OnOk};
 ghost use Rattle.dsde_program.specs.Behind.{behind_body, behind_decl, behind_decls, behind_func, behind_items, behind_top, first_top, no_items, none_made};
 
-use dsde_check_tables::Known;
-use dsde_declared::ModelId;
-use dsde_lists::Memory;
-use dsde_names::Names;
+use dsde_language::given::names::Names;
+use dsde_language::{Code, ExprId, FnCode, Make, ModelId, Tables};
 use dsde_program_bodies::{body, func};
-use dsde_program_expressions::Resolver;
-use dsde_program_nodes::{Code, ExprId, FnCode, Make, Tables};
-use dsde_program_slots::model_id;
-use dsde_program_structures::{Structures, exprs};
+use dsde_program_infos::given::check_tables::Known;
+use dsde_program_structures::{Resolver, Structures, exprs, model_id};
+use dsde_syntax::given::lists::Memory;
 use dsde_syntax::{Body, Decl, Expr, Id, Item, Items, PortDecl, Stmt, Typed};
 use dsde_values::Seq;
 use std::alloc::Global;

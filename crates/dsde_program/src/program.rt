@@ -1,17 +1,17 @@
 //! A model that is right, with all that it is resolved to.
 
 ghost use Rattle.std.specs.Prelude.{◌≡◌, ◌<◌, Some, length, slice_get, IfOk};
-ghost use Rattle.dsde_declared.specs.Models.{top_number, types_of};
-ghost use Rattle.dsde_program_nodes.specs.Models.{infos_of, resolved};
-ghost use Rattle.dsde_check_rules.specs.Right.{IsRight};
+ghost use Rattle.dsde_language.specs.DeclaredModels.{top_number, types_of};
+ghost use Rattle.dsde_language.specs.NodeModels.{infos_of, resolved};
+ghost use Rattle.dsde_language.specs.Right.{IsRight};
 
 use crate::whole::{Declared, Laid, Whole, whole_in};
-use dsde_declared::{ModelId, ViaId};
-use dsde_lists::Memory;
-use dsde_program_declared::top_is_named;
-use dsde_program_layout::model_laid;
-use dsde_program_nodes::{Act, BlockId, Code, ExprId, FnCode, Info, Make, Node, Tables, ViaCode};
+use dsde_language::{
+    Act, BlockId, Code, ExprId, FnCode, Info, Make, ModelId, Node, Tables, ViaCode, ViaId,
+};
+use dsde_program_bodies::given::program_layout::{model_laid, top_is_named};
 use dsde_syntax::Model;
+use dsde_syntax::given::lists::Memory;
 use dsde_values::{Seq, Types};
 use std::alloc::Global;
 
@@ -29,9 +29,9 @@ impl<'m> std::marker::Model for Program<'m> {
     ghost use Rattle.std.specs.Prelude.{◌≡◌, length};
     ghost use Rattle.dsde_syntax.specs.declared.decl.Model.{Model};
     ghost use Rattle.dsde_syntax.specs.contracts.decl.Model as whole;
-    ghost use Rattle.dsde_declared.specs.Models.{types_of};
-    ghost use Rattle.dsde_program_nodes.specs.Models.{infos_of, resolved};
-    ghost use Rattle.dsde_check_rules.specs.Right.{IsRight};
+    ghost use Rattle.dsde_language.specs.DeclaredModels.{types_of};
+    ghost use Rattle.dsde_language.specs.NodeModels.{infos_of, resolved};
+    ghost use Rattle.dsde_language.specs.Right.{IsRight};
 
     ghost Value = { Model };
 

@@ -1,18 +1,17 @@
 //! What a program reads: what a model declares, and what is laid of its declarations.
 
 ghost use Rattle.std.specs.Prelude.{◌≡◌, [], length, unwrap_or, IfOk};
-ghost use Rattle.dsde_declared.specs.Models.{defs_from, whole_of};
-ghost use Rattle.dsde_program_nodes.specs.Models.{infos_from};
-ghost use Rattle.dsde_program_layout.specs.LayModels.{lay_decls, no_tables};
+ghost use Rattle.dsde_language.specs.DeclaredModels.{defs_from, whole_of};
+ghost use Rattle.dsde_language.specs.NodeModels.{infos_from};
+ghost use Rattle.dsde_program_bodies.specs.given.program_layout.LayModels.{lay_decls, no_tables};
 ghost use Rattle.dsde_program.specs.Behind.{no_top};
 ghost use Rattle.dsde_program.specs.Whole.{IsWhole};
 
 use crate::made::{Made, TopCode, made_of};
-use dsde_check_tables::{Known, narrow};
-use dsde_declared::ModelId;
-use dsde_lists::Memory;
+use dsde_language::{Code, ExprId, FnCode, Info, Make, ModelId, Tables};
+use dsde_program_infos::given::check_tables::{Known, narrow};
 use dsde_program_infos::{infos_of, types_of, whole_of};
-use dsde_program_nodes::{Code, ExprId, FnCode, Info, Make, Tables};
+use dsde_syntax::given::lists::Memory;
 use dsde_syntax::{Decl, Model};
 use dsde_values::{Seq, Types};
 use std::alloc::Global;

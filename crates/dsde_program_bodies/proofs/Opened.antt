@@ -8,13 +8,13 @@ use Rattle.dsde_syntax.specs.declared.stmt.Stmt.TheOpen.{Stmt-F}
 use Rattle.dsde_syntax.specs.declared.stmt.Stmt.TheFolds.{fold-roll-Stmt, the_lemmas}
 use Rattle.dsde_syntax.specs.declared.stmt.StmtArm.{StmtArm}
 use Rattle.dsde_values.specs.declared.types.Field.{Field}
-use Rattle.dsde_check_rules.specs.declared.known.Known.{Known}
-use Rattle.dsde_program_nodes.specs.declared.act.Act.{Act}
-use Rattle.dsde_program_nodes.specs.declared.act.ActArm.{ActArm}
-use Rattle.dsde_program_nodes.specs.declared.tables.Tables.{Tables}
-use Rattle.dsde_declared.specs.Names.{Scope}
-use Rattle.dsde_program_layout.specs.LayPieces.{Step}
-use Rattle.dsde_program_layout.specs.LayStatements.{arm_step, lay_stmt, stmt_step}
+use Rattle.dsde_language.specs.declared.known.Known.{Known}
+use Rattle.dsde_language.specs.declared.act.Act.{Act}
+use Rattle.dsde_language.specs.declared.act.ActArm.{ActArm}
+use Rattle.dsde_language.specs.declared.tables.Tables.{Tables}
+use Rattle.dsde_language.specs.Names.{Scope}
+use Rattle.dsde_program_expressions.specs.given.program_layout.LayPieces.{Step}
+use Rattle.dsde_program_expressions.specs.given.program_layout.LayStatements.{arm_step, lay_stmt, stmt_step}
 use Rattle.dsde_program_bodies.specs.Parts.{lay_arm, lay_arm_by, lay_for}
 
 pub stmt_let : (known : Known) (outs : List Field) (mutable : Bool) (name : Id) (value : Expr)

@@ -8,19 +8,19 @@ use Rattle.dsde_syntax.specs.declared.stmt.Stmt.{Stmt}
 use Rattle.dsde_syntax.specs.declared.stmt.StmtArm.{StmtArm}
 use Rattle.dsde_syntax.specs.declared.stmt.Stmt.TheFolds.{fold-StmtArm}
 use Rattle.dsde_values.specs.declared.types.Field.{Field}
-use Rattle.dsde_check_rules.specs.declared.known.Known.{Known}
-use Rattle.dsde_program_nodes.specs.declared.act.Act.{Act}
-use Rattle.dsde_program_nodes.specs.declared.act.Act.TheVariants as act
-use Rattle.dsde_program_nodes.specs.declared.act.ActArm.{ActArm}
-use Rattle.dsde_program_nodes.specs.declared.code.Code.{Code}
-use Rattle.dsde_program_nodes.specs.declared.ids.ExprId.{ExprId}
-use Rattle.dsde_declared.specs.Models.{state_fields}
-use Rattle.dsde_program_nodes.specs.Statements.{phase_at}
-use Rattle.dsde_declared.specs.Names.{Scope, with_slots}
-use Rattle.dsde_program_nodes.specs.Typing.{item_in}
-use Rattle.dsde_program_layout.specs.Lay.{lay}
-use Rattle.dsde_program_layout.specs.LayPieces.{Step, ◌>>=◌, all, binding, braced, expr, give, over}
-use Rattle.dsde_program_layout.specs.LayStatements.{stmt_step, arm_step, lay_blocks, lay_states, lay_stmts}
+use Rattle.dsde_language.specs.declared.known.Known.{Known}
+use Rattle.dsde_language.specs.declared.act.Act.{Act}
+use Rattle.dsde_language.specs.declared.act.Act.TheVariants as act
+use Rattle.dsde_language.specs.declared.act.ActArm.{ActArm}
+use Rattle.dsde_language.specs.declared.code.Code.{Code}
+use Rattle.dsde_language.specs.declared.node_ids.ExprId.{ExprId}
+use Rattle.dsde_language.specs.DeclaredModels.{state_fields}
+use Rattle.dsde_language.specs.Statements.{phase_at}
+use Rattle.dsde_language.specs.Names.{Scope, with_slots}
+use Rattle.dsde_language.specs.Typing.{item_in}
+use Rattle.dsde_program_expressions.specs.given.program_layout.Lay.{lay}
+use Rattle.dsde_program_expressions.specs.given.program_layout.LayPieces.{Step, ◌>>=◌, all, binding, braced, expr, give, over}
+use Rattle.dsde_program_expressions.specs.given.program_layout.LayStatements.{stmt_step, arm_step, lay_blocks, lay_states, lay_stmts}
 
 -- a condition, and the block behind it
 abbrev pub lay_arm : Known → List Field → StmtArm → Step ActArm

@@ -1,22 +1,22 @@
 //! Bodies of atomic models and executives.
 
 ghost use Rattle.std.specs.Prelude.{◌≡◌, [], ◌++◌, length, IfOk, OnOk};
-ghost use Rattle.dsde_check_rules.specs.Tables.{by_text};
-ghost use Rattle.dsde_program_nodes.specs.Expressions.{expr_id};
-ghost use Rattle.dsde_declared.specs.Models.{state_fields};
-ghost use Rattle.dsde_declared.specs.Names.{with_slot, with_slots};
-ghost use Rattle.dsde_program_layout.specs.Lay.{lay};
-ghost use Rattle.dsde_program_layout.specs.LayStatements.{lay_body, lay_states};
+ghost use Rattle.dsde_language.specs.RuleTables.{by_text};
+ghost use Rattle.dsde_language.specs.Expressions.{expr_id};
+ghost use Rattle.dsde_language.specs.DeclaredModels.{state_fields};
+ghost use Rattle.dsde_language.specs.Names.{with_slot, with_slots};
+ghost use Rattle.dsde_program_expressions.specs.given.program_layout.Lay.{lay};
+ghost use Rattle.dsde_program_expressions.specs.given.program_layout.LayStatements.{lay_body, lay_states};
 ghost use Rattle.dsde_program_bodies.specs.Parts.{lay_code, lay_moves};
 
 use crate::phases::{blocks, phase_at};
 use crate::values::number_of;
-use dsde_check_tables::Member;
-use dsde_lists::Memory;
-use dsde_names::Names;
+use dsde_language::given::names::Names;
+use dsde_language::{Code, ExprId, Tables};
 use dsde_program_expressions::Resolver;
-use dsde_program_nodes::{Code, ExprId, Tables};
-use dsde_program_slots::{bind, params_scope};
+use dsde_program_expressions::given::check_tables::Member;
+use dsde_program_expressions::given::program_slots::{bind, params_scope};
+use dsde_syntax::given::lists::Memory;
 use dsde_syntax::{Body, StateDecl, Typed};
 use dsde_values::Seq;
 

@@ -1,17 +1,17 @@
 //! Functions.
 
 ghost use Rattle.std.specs.Prelude.{◌≡◌, ◌≤◌, [], length, IfOk, OnOk};
-ghost use Rattle.dsde_program_layout.specs.LayStatements.{lay_func, lay_stmts};
+ghost use Rattle.dsde_program_expressions.specs.given.program_layout.LayStatements.{lay_func, lay_stmts};
 
 use crate::rooms::{close, open};
 use crate::statements;
 use crate::values::number_of;
-use dsde_check_tables::Member;
-use dsde_lists::Memory;
-use dsde_names::Names;
+use dsde_language::given::names::Names;
+use dsde_language::{Act, FnCode, Tables};
 use dsde_program_expressions::Resolver;
-use dsde_program_nodes::{Act, FnCode, Tables};
-use dsde_program_slots::params_scope;
+use dsde_program_expressions::given::check_tables::Member;
+use dsde_program_expressions::given::program_slots::params_scope;
+use dsde_syntax::given::lists::Memory;
 use dsde_syntax::{Expr, Stmt, Typed};
 use dsde_values::Seq;
 

@@ -3,6 +3,7 @@
 
 mod bodies;
 mod functions;
+pub mod given;
 mod phases;
 mod rooms;
 mod statements;

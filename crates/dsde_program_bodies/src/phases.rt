@@ -1,18 +1,18 @@
 //! The blocks of a body.
 
 ghost use Rattle.std.specs.Prelude.{◌≡◌, [], true, IfOk, OnOk};
-ghost use Rattle.dsde_declared.specs.Models.{port_fields};
-ghost use Rattle.dsde_program_nodes.specs.Statements.{phase_at};
-ghost use Rattle.dsde_declared.specs.Names.{with_slots};
-ghost use Rattle.dsde_program_layout.specs.LayStatements.{lay_blocks, lay_phase};
+ghost use Rattle.dsde_language.specs.DeclaredModels.{port_fields};
+ghost use Rattle.dsde_language.specs.Statements.{phase_at};
+ghost use Rattle.dsde_language.specs.Names.{with_slots};
+ghost use Rattle.dsde_program_expressions.specs.given.program_layout.LayStatements.{lay_blocks, lay_phase};
 
 use crate::statements::block;
-use dsde_check_tables::Member;
-use dsde_lists::Memory;
-use dsde_names::Names;
+use dsde_language::given::names::Names;
+use dsde_language::{BlockId, Tables};
 use dsde_program_expressions::Resolver;
-use dsde_program_nodes::{BlockId, Tables};
-use dsde_program_slots::{ports_scope, see_inputs};
+use dsde_program_expressions::given::check_tables::Member;
+use dsde_program_expressions::given::program_slots::{ports_scope, see_inputs};
+use dsde_syntax::given::lists::Memory;
 use dsde_syntax::{Body, Phase};
 
 /// The numbers of the blocks of a body.

@@ -1,11 +1,11 @@
 //! Room for blocks, each of which is counted before what stands in it.
 
 ghost use Rattle.std.specs.Prelude.{◌≡◌, ◌<◌, length, IfOk, OnOk};
-ghost use Rattle.dsde_program_layout.specs.LayPieces.{put, roomy};
+ghost use Rattle.dsde_program_expressions.specs.given.program_layout.LayPieces.{put, roomy};
 
-use dsde_check_tables::narrow;
-use dsde_lists::Memory;
-use dsde_program_nodes::{Act, BlockId, Tables};
+use dsde_language::{Act, BlockId, Tables};
+use dsde_program_expressions::given::check_tables::narrow;
+use dsde_syntax::given::lists::Memory;
 use dsde_values::Seq;
 use std::alloc::Global;
 

@@ -1,17 +1,17 @@
 //! Statements.
 
 ghost use Rattle.std.specs.Prelude.{◌≡◌, ◌≤◌, length, take, IfOk, OnOk};
-ghost use Rattle.dsde_program_layout.specs.LayPieces.{braced};
-ghost use Rattle.dsde_program_layout.specs.LayStatements.{lay_stmt, lay_stmts};
+ghost use Rattle.dsde_program_expressions.specs.given.program_layout.LayPieces.{braced};
+ghost use Rattle.dsde_program_expressions.specs.given.program_layout.LayStatements.{lay_stmt, lay_stmts};
 ghost use Rattle.dsde_program_bodies.specs.Parts.{lay_arm, lay_arms, lay_for};
 
 use crate::rooms::{close, open};
 use crate::values::{items_of, let_of, number_of, send_of, set_of};
-use dsde_check_tables::Member;
-use dsde_lists::Memory;
-use dsde_names::Names;
+use dsde_language::given::names::Names;
+use dsde_language::{Act, ActArm, BlockId, Tables};
 use dsde_program_expressions::Resolver;
-use dsde_program_nodes::{Act, ActArm, BlockId, Tables};
+use dsde_program_expressions::given::check_tables::Member;
+use dsde_syntax::given::lists::Memory;
 use dsde_syntax::{Expr, Id, Stmt, StmtArm};
 use dsde_values::Seq;
 

@@ -1,18 +1,18 @@
 //! Expressions of statements, and what stands before the braces of `for`.
 
 ghost use Rattle.std.specs.Prelude.{◌≡◌, length, take, IfOk, OnOk};
-ghost use Rattle.dsde_program_nodes.specs.declared.act.Act.TheVariants as act;
-ghost use Rattle.dsde_program_nodes.specs.Expressions.{expr_id};
-ghost use Rattle.dsde_declared.specs.Names.{slot_of, with_slot};
-ghost use Rattle.dsde_program_nodes.specs.Typing.{item_in};
-ghost use Rattle.dsde_program_layout.specs.Lay.{lay};
+ghost use Rattle.dsde_language.specs.declared.act.Act.TheVariants as act;
+ghost use Rattle.dsde_language.specs.Expressions.{expr_id};
+ghost use Rattle.dsde_language.specs.Names.{slot_of, with_slot};
+ghost use Rattle.dsde_language.specs.Typing.{item_in};
+ghost use Rattle.dsde_program_expressions.specs.given.program_layout.Lay.{lay};
 
-use dsde_check_tables::Member;
-use dsde_lists::Memory;
-use dsde_names::Names;
+use dsde_language::given::names::Names;
+use dsde_language::{Act, ExprId, Tables};
+use dsde_program_expressions::given::check_tables::Member;
+use dsde_program_expressions::given::program_slots::{bind, item_in, slot_of};
 use dsde_program_expressions::{Laid, Resolver};
-use dsde_program_nodes::{Act, ExprId, Tables};
-use dsde_program_slots::{bind, item_in, slot_of};
+use dsde_syntax::given::lists::Memory;
 use dsde_syntax::{Expr, Id};
 
 /// Lays an expression whose type is of no account, and gives its number.

@@ -7,12 +7,12 @@ use Rattle.dsde_syntax.specs.declared.expr.Expr.TheVariants as expr
 use Rattle.dsde_syntax.specs.declared.expr.Expr.TheFolds.{the_lemmas}
 use Rattle.dsde_values.specs.declared.types.Ty.{Ty}
 use Rattle.dsde_values.specs.declared.types.Ty.TheVariants as ty
-use Rattle.dsde_check_rules.specs.declared.known.Known.{Known}
-use Rattle.dsde_program_nodes.specs.declared.ids.ExprId.{ExprId}
-use Rattle.dsde_program_nodes.specs.declared.node.Node.TheVariants as node
-use Rattle.dsde_declared.specs.Names.{Scope, with_slot}
-use Rattle.dsde_program_nodes.specs.Typing.{item_in}
-use Rattle.dsde_program_nodes.specs.Expressions.{expr_id}
+use Rattle.dsde_language.specs.declared.known.Known.{Known}
+use Rattle.dsde_language.specs.declared.node_ids.ExprId.{ExprId}
+use Rattle.dsde_language.specs.declared.node.Node.TheVariants as node
+use Rattle.dsde_language.specs.Names.{Scope, with_slot}
+use Rattle.dsde_language.specs.Typing.{item_in}
+use Rattle.dsde_language.specs.Expressions.{expr_id}
 use Rattle.dsde_program_layout.specs.Lay.{Table, Laid, Lay, lay, lay_each, lay_cond, cond_number, roomy}
 
 -- a comprehension is laid by its parts

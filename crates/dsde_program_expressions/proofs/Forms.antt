@@ -11,11 +11,11 @@ use Rattle.dsde_syntax.specs.declared.expr.Expr.TheOpen.{Expr-F}
 use Rattle.dsde_syntax.specs.declared.expr.Expr.TheViews.{roll-Expr}
 use Rattle.dsde_syntax.specs.declared.expr.Expr.TheFolds.{map-Expr, fold-roll-Expr}
 use Rattle.dsde_values.specs.declared.types.Ty.{Ty}
-use Rattle.dsde_check_rules.specs.declared.known.Known.{Known}
-use Rattle.dsde_declared.specs.declared.operator.Binary.{Binary}
-use Rattle.dsde_program_nodes.specs.declared.ids.ExprId.{ExprId}
-use Rattle.dsde_declared.specs.Names.{Scope}
-use Rattle.dsde_program_nodes.specs.Expressions.{expr_id}
+use Rattle.dsde_language.specs.declared.known.Known.{Known}
+use Rattle.dsde_language.specs.declared.operator.Binary.{Binary}
+use Rattle.dsde_language.specs.declared.node_ids.ExprId.{ExprId}
+use Rattle.dsde_language.specs.Names.{Scope}
+use Rattle.dsde_language.specs.Expressions.{expr_id}
 use Rattle.dsde_program_layout.specs.Lay.{Table, Laid, Lay, Link, Arm, lay, lay_suffix, lay_arm, lay_set, lay_sign_tail, lay_tail, lay_step, suffix_step, arm_step, set_step, sign_tail_step, tail_of, lay_links, lay_chain, rooms}
 use Rattle.dsde_program_expressions.specs.declared.resolver.Laid as found
 

@@ -3,9 +3,9 @@ use Rattle.std.proofs.Common.{◌≡◌, ◌≤◌, length, Result, Ok, Err, ap,
 use Rattle.std.specs.Prelude.{OnOk}
 use Rattle.std.proofs.lemmas.List.{length-append}
 use Rattle.dsde_syntax.specs.declared.expr.Expr.{Expr}
-use Rattle.dsde_check_rules.specs.declared.known.Known.{Known}
-use Rattle.dsde_declared.specs.Names.{Scope}
-use Rattle.dsde_program_nodes.specs.Expressions.{resolve}
+use Rattle.dsde_language.specs.declared.known.Known.{Known}
+use Rattle.dsde_language.specs.Names.{Scope}
+use Rattle.dsde_language.specs.Expressions.{resolve}
 use Rattle.dsde_program_layout.specs.Lay.{Table, Laid, lay}
 use Rattle.dsde_program_layout.specs.LaidIs.{LaidIs}
 

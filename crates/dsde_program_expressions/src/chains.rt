@@ -5,9 +5,8 @@ ghost use Rattle.dsde_program_layout.specs.Lay.{lay_suffix, lay_sign_tail, lay_t
 
 use crate::resolver::Resolver;
 use crate::table::rooms;
-use dsde_declared::Binary;
-use dsde_lists::Memory;
-use dsde_program_nodes::Node;
+use dsde_language::{Binary, Node};
+use dsde_syntax::given::lists::Memory;
 use dsde_syntax::{SignTail, Suffix, Tail};
 use dsde_values::Seq;
 

@@ -3,25 +3,24 @@
 ghost use Rattle.std.specs.Prelude.{◌≡◌, ◌+◌, ◌-◌, ◌<◌, ◌≤◌, length, map, slice_set, take, IfOk, OnOk};
 ghost use Rattle.std.specs.Option.{option_map};
 ghost use Rattle.dsde_values.specs.declared.types.Ty.TheVariants as own;
-ghost use Rattle.dsde_program_nodes.specs.declared.node.Node.TheVariants as made;
-ghost use Rattle.dsde_program_nodes.specs.Expressions.{expr_id};
-ghost use Rattle.dsde_declared.specs.Names.{type_number, with_slot};
-ghost use Rattle.dsde_program_nodes.specs.Typing.{func_number, func_type, item_in};
+ghost use Rattle.dsde_language.specs.declared.node.Node.TheVariants as made;
+ghost use Rattle.dsde_language.specs.Expressions.{expr_id};
+ghost use Rattle.dsde_language.specs.Names.{type_number, with_slot};
+ghost use Rattle.dsde_language.specs.Typing.{func_number, func_type, item_in};
 ghost use Rattle.dsde_program_layout.specs.Lay.{lay, lay_all, numbers, head_type, lay_links, lay_parts, lay_builtin, lay_cond, cond_number, lay_arms, arm_numbers, lay_arm, lay_set, lay_suffix, lay_sign_tail, lay_tail, words_of, roomy, rooms};
 
 use crate::leaves::{elapsed, number};
 use crate::resolver::{Laid, Resolver};
 use crate::signs::{builtin_node, sign_binary};
 use crate::table::{kept, leaf, put, room};
-use dsde_check_tables::{Member, list_type};
-use dsde_declared::Binary;
-use dsde_lists::Memory;
-use dsde_names::Names;
+use dsde_language::given::names::Names;
+use dsde_language::{Binary, ExprId, Node, NodeArm};
 use dsde_program_layout::laid_is;
-use dsde_program_nodes::{ExprId, Node, NodeArm};
+use dsde_program_slots::given::check_tables::{Member, list_type};
 use dsde_program_slots::{
     bind, builtin_type, func_number, func_type, held_in, item_in, type_number,
 };
+use dsde_syntax::given::lists::Memory;
 use dsde_syntax::{Boxed, Expr, ExprArm, FieldSet, Id, Key, SignTail, Suffix, Tail};
 use dsde_values::{Seq, Ty};
 

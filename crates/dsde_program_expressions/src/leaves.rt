@@ -2,21 +2,21 @@
 
 ghost use Rattle.std.specs.Prelude.{◌≡◌, ◌-◌, ◌<◌, ◌∷◌, [], ◌++◌, pos, length, slice_set, IfOk, OnOk};
 ghost use Rattle.dsde_values.specs.declared.types.Ty.TheVariants as own;
-ghost use Rattle.dsde_check_rules.specs.Tables.{by_text};
-ghost use Rattle.dsde_program_nodes.specs.declared.node.Node.TheVariants as made;
-ghost use Rattle.dsde_program_nodes.specs.Expressions.{expr_id};
-ghost use Rattle.dsde_declared.specs.Names.{slot_of, type_number, variant_number, elapsed_name};
-ghost use Rattle.dsde_program_nodes.specs.Typing.{slot_type, field_number, field_type};
+ghost use Rattle.dsde_language.specs.RuleTables.{by_text};
+ghost use Rattle.dsde_language.specs.declared.node.Node.TheVariants as made;
+ghost use Rattle.dsde_language.specs.Expressions.{expr_id};
+ghost use Rattle.dsde_language.specs.Names.{slot_of, type_number, variant_number, elapsed_name};
+ghost use Rattle.dsde_language.specs.Typing.{slot_type, field_number, field_type};
 
 use crate::resolver::{Laid, Resolver};
 use crate::table::{leaf, put};
-use dsde_check_tables::{Member, list_type, option_type};
-use dsde_lists::Memory;
-use dsde_names::Names;
-use dsde_program_nodes::{ExprId, Node};
+use dsde_language::given::names::Names;
+use dsde_language::{ExprId, Node};
+use dsde_program_slots::given::check_tables::{Member, list_type, option_type};
 use dsde_program_slots::{
     field_number, field_type, slot_of, slot_type, type_number, variant_number,
 };
+use dsde_syntax::given::lists::Memory;
 use dsde_syntax::{Id, TypeName};
 use dsde_values::{Seq, Ty};
 

@@ -3,6 +3,7 @@
 
 mod chains;
 mod expr;
+pub mod given;
 mod leaves;
 mod resolver;
 mod signs;

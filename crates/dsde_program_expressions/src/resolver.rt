@@ -2,8 +2,8 @@
 
 ghost use Rattle.std.specs.Prelude.{◌≡◌};
 
-use dsde_check_tables::Known;
-use dsde_program_nodes::ExprId;
+use dsde_language::ExprId;
+use dsde_program_slots::given::check_tables::Known;
 use dsde_values::Ty;
 use std::alloc::Global;
 use std::marker::Model;
@@ -16,8 +16,8 @@ pub struct Resolver<'m> {
 }
 
 impl<'m> Model for Resolver<'m> {
-    ghost use Rattle.dsde_check_rules.specs.declared.known.Known.{Known};
-    ghost use Rattle.dsde_check_rules.specs.contracts.known.Known as whole;
+    ghost use Rattle.dsde_language.specs.declared.known.Known.{Known};
+    ghost use Rattle.dsde_language.specs.contracts.known.Known as whole;
 
     ghost Value = { Known };
 

@@ -1,11 +1,10 @@
 //! The operators and the builtins of nodes.
 
 ghost use Rattle.std.specs.Prelude.{◌≡◌};
-ghost use Rattle.dsde_declared.specs.Operators.{sign_binary, builtin_of};
-ghost use Rattle.dsde_program_nodes.specs.Expressions.{builtin_node};
+ghost use Rattle.dsde_language.specs.DeclaredOperators.{sign_binary, builtin_of};
+ghost use Rattle.dsde_language.specs.Expressions.{builtin_node};
 
-use dsde_declared::{Binary, Builtin};
-use dsde_program_nodes::{ExprId, Node};
+use dsde_language::{Binary, Builtin, ExprId, Node};
 use dsde_syntax::{Key, Sign};
 use dsde_values::Seq;
 

@@ -1,13 +1,13 @@
 //! A table of nodes, with room kept for a node in front of its parts.
 
 ghost use Rattle.std.specs.Prelude.{◌≡◌, ◌+◌, ◌∷◌, [], ◌++◌, length, slice_set, IfOk, OnOk};
-ghost use Rattle.dsde_program_nodes.specs.Expressions.{expr_id};
+ghost use Rattle.dsde_language.specs.Expressions.{expr_id};
 ghost use Rattle.dsde_program_layout.specs.Lay.{kept, roomy, rooms};
 
 use crate::resolver::Laid;
-use dsde_check_tables::narrow;
-use dsde_lists::Memory;
-use dsde_program_nodes::{ExprId, Node};
+use dsde_language::{ExprId, Node};
+use dsde_program_slots::given::check_tables::narrow;
+use dsde_syntax::given::lists::Memory;
 use dsde_values::{Seq, Ty};
 
 /// Adds a node, and gives its number.

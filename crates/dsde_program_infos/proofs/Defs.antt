@@ -4,8 +4,8 @@ use Rattle.std.proofs.Math.Seq.{drop-cons}
 use Rattle.std.proofs.Math.Numerals.{suc-eq-add-one}
 use Rattle.dsde_values.specs.declared.types.Def.{Def}
 use Rattle.dsde_values.specs.declared.types.Shape.{Shape}
-use Rattle.dsde_check_rules.specs.declared.signatures.TypeWord.{TypeWord}
-use Rattle.dsde_declared.specs.Models.{defs_from}
+use Rattle.dsde_language.specs.declared.signatures.TypeWord.{TypeWord}
+use Rattle.dsde_language.specs.DeclaredModels.{defs_from}
 
 -- the first of what is left of a list, and what is behind it
 one_of : {X : Type 0} (items : List X) (index : ℕ) (own : X) → index < length items → own ≡ get_or items index own → drop index items ≡ own ∷ drop (index + 1) items

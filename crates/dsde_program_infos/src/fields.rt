@@ -1,11 +1,11 @@
 //! Parameters, state variables and ports, each with its type by its text.
 
 ghost use Rattle.std.specs.Prelude.{◌≡◌, [], ◌∷◌, ◌++◌, IfOk, OnOk};
-ghost use Rattle.dsde_check_rules.specs.Tables.{by_text};
-ghost use Rattle.dsde_declared.specs.Models.{typed_fields, state_fields, port_fields};
+ghost use Rattle.dsde_language.specs.RuleTables.{by_text};
+ghost use Rattle.dsde_language.specs.DeclaredModels.{typed_fields, state_fields, port_fields};
 
 use dsde_check_tables::Known;
-use dsde_lists::Memory;
+use dsde_syntax::given::lists::Memory;
 use dsde_syntax::{Id, PortDecl, StateDecl, TypeName, Typed};
 use dsde_values::{Field, Seq, Text};
 use std::alloc::Global;

@@ -1,13 +1,13 @@
 //! The models that a file declares, with their parameters, ports and state variables.
 
 ghost use Rattle.std.specs.Prelude.{◌≡◌, true, false, [], IfOk, OnOk};
-ghost use Rattle.dsde_declared.specs.Models.{typed_fields, state_fields, port_fields};
-ghost use Rattle.dsde_program_nodes.specs.Models.{with_info, infos_from};
+ghost use Rattle.dsde_language.specs.DeclaredModels.{typed_fields, state_fields, port_fields};
+ghost use Rattle.dsde_language.specs.NodeModels.{with_info, infos_from};
 
 use crate::fields::{port_fields, state_fields, typed_fields};
 use dsde_check_tables::Known;
-use dsde_lists::Memory;
-use dsde_program_nodes::Info;
+use dsde_language::Info;
+use dsde_syntax::given::lists::Memory;
 use dsde_syntax::{Body, Decl, Id, PortDecl, Typed};
 use dsde_values::{Field, Seq, Text};
 use std::alloc::Global;

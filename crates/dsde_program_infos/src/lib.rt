@@ -3,6 +3,7 @@
 #![tactic(auto)]
 
 mod fields;
+pub mod given;
 mod infos;
 mod types;
 mod whole;

@@ -2,11 +2,11 @@
 
 ghost use Rattle.std.specs.Prelude.{◌≡◌, [], ◌++◌, unwrap_or, IfOk, OnOk};
 ghost use Rattle.dsde_values.specs.Value.{fields};
-ghost use Rattle.dsde_declared.specs.Models.{defs_from};
+ghost use Rattle.dsde_language.specs.DeclaredModels.{defs_from};
 
 use dsde_check_tables::{Known, Made, Member, TypeEntry, Word, copy_type};
-use dsde_lists::Memory;
-use dsde_names::{Named, Names};
+use dsde_language::given::names::{Named, Names};
+use dsde_syntax::given::lists::Memory;
 use dsde_values::{Def, Field, Seq, Shape, Text, Types};
 use std::alloc::Global;
 

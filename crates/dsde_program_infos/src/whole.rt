@@ -1,11 +1,11 @@
 //! All that is known of a file by its text.
 
 ghost use Rattle.std.specs.Prelude.{◌≡◌, IfOk, OnOk};
-ghost use Rattle.dsde_check_rules.specs.Tables.{by_text, text_params};
-ghost use Rattle.dsde_declared.specs.Models.{with_func, with_funcs, whole_of};
+ghost use Rattle.dsde_language.specs.RuleTables.{by_text, text_params};
+ghost use Rattle.dsde_language.specs.DeclaredModels.{with_func, with_funcs, whole_of};
 
 use dsde_check_tables::{Callee, Known};
-use dsde_lists::Memory;
+use dsde_syntax::given::lists::Memory;
 use dsde_syntax::{Decl, Id, Model, TypeName, Typed};
 use std::alloc::Global;
 

@@ -1,34 +1,34 @@
 -- What the items of a structure lay behind tables is their resolution.
 use Rattle.std.proofs.Common.{◌≡◌, ℕ, true, false, Bool, List, [], ◌∷◌, ◌++◌, map, length, Option, Some, None, refl, sym, ◌∙◌, ap, subst, append-nil}
-use Rattle.dsde_syntax.specs.declared.expr.Expr.{Expr}
-use Rattle.dsde_syntax.specs.declared.item.Bracket.{Bracket}
-use Rattle.dsde_syntax.specs.declared.item.End.{End}
-use Rattle.dsde_syntax.specs.declared.item.EndPart.{EndPart}
-use Rattle.dsde_syntax.specs.declared.item.EndPart.TheVariants as end_part
-use Rattle.dsde_syntax.specs.declared.item.Item.{Item}
-use Rattle.dsde_syntax.specs.declared.item.ItemArm.{ItemArm}
-use Rattle.dsde_syntax.specs.declared.item.Item.TheOpen.{Item-F, ItemArm-F}
-use Rattle.dsde_syntax.specs.declared.item.Item.TheViews.{roll-Item, roll-ItemArm}
-use Rattle.dsde_syntax.specs.declared.item.Item.TheFolds.{fold-ItemArm, map-Item, map-ItemArm, fold-roll-Item, fold-roll-ItemArm, ind-Item}
-use Rattle.dsde_syntax.specs.declared.item.ViaKey.{ViaKey}
-use Rattle.dsde_syntax.specs.declared.item.ViaPart.{ViaPart}
-use Rattle.dsde_values.specs.declared.types.Ty.{Ty}
-use Rattle.dsde_check_rules.specs.declared.known.Known.{Known}
-use Rattle.dsde_program_nodes.specs.declared.make.Make.{Make}
-use Rattle.dsde_program_nodes.specs.declared.make.Make.TheVariants as make
-use Rattle.dsde_program_nodes.specs.declared.make.MakeArm.{MakeArm}
-use Rattle.dsde_program_nodes.specs.declared.make.MakeEnd.{MakeEnd}
-use Rattle.dsde_program_nodes.specs.declared.make.MakeIndex.{MakeIndex}
-use Rattle.dsde_program_nodes.specs.declared.make.MakePart.TheVariants as make_part
-use Rattle.dsde_program_nodes.specs.declared.make.MakeVia.{MakeVia}
-use Rattle.dsde_program_nodes.specs.declared.code.ViaCode.{ViaCode}
-use Rattle.dsde_declared.specs.Names.{Scope, slot_of, with_slot}
-use Rattle.dsde_program_nodes.specs.Typing.{slot_type, item_in}
-use Rattle.dsde_program_nodes.specs.Expressions.{resolve, expr_id}
-use Rattle.dsde_program_nodes.specs.Pieces as piece
-use Rattle.dsde_program_nodes.specs.Items as said
-use Rattle.dsde_declared.specs.Structures.{Place, end_ports}
-use Rattle.dsde_declared.specs.Models.{model_id}
+use Rattle.dsde_language.specs.given.syntax.expr_Expr.{Expr}
+use Rattle.dsde_language.specs.given.syntax.item_Bracket.{Bracket}
+use Rattle.dsde_language.specs.given.syntax.item_End.{End}
+use Rattle.dsde_language.specs.given.syntax.item_EndPart.{EndPart}
+use Rattle.dsde_language.specs.given.syntax.item_EndPart_TheVariants as end_part
+use Rattle.dsde_language.specs.given.syntax.item_Item.{Item}
+use Rattle.dsde_language.specs.given.syntax.item_ItemArm.{ItemArm}
+use Rattle.dsde_language.specs.given.syntax.item_Item_TheOpen.{Item-F, ItemArm-F}
+use Rattle.dsde_language.specs.given.syntax.item_Item_TheViews.{roll-Item, roll-ItemArm}
+use Rattle.dsde_language.specs.given.syntax.item_Item_TheFolds.{fold-ItemArm, map-Item, map-ItemArm, fold-roll-Item, fold-roll-ItemArm, ind-Item}
+use Rattle.dsde_language.specs.given.syntax.item_ViaKey.{ViaKey}
+use Rattle.dsde_language.specs.given.syntax.item_ViaPart.{ViaPart}
+use Rattle.dsde_language.specs.given.values.types_Ty.{Ty}
+use Rattle.dsde_language.specs.declared.known.Known.{Known}
+use Rattle.dsde_language.specs.declared.make.Make.{Make}
+use Rattle.dsde_language.specs.declared.make.Make.TheVariants as make
+use Rattle.dsde_language.specs.declared.make.MakeArm.{MakeArm}
+use Rattle.dsde_language.specs.declared.make.MakeEnd.{MakeEnd}
+use Rattle.dsde_language.specs.declared.make.MakeIndex.{MakeIndex}
+use Rattle.dsde_language.specs.declared.make.MakePart.TheVariants as make_part
+use Rattle.dsde_language.specs.declared.make.MakeVia.{MakeVia}
+use Rattle.dsde_language.specs.declared.code.ViaCode.{ViaCode}
+use Rattle.dsde_language.specs.Names.{Scope, slot_of, with_slot}
+use Rattle.dsde_language.specs.Typing.{slot_type, item_in}
+use Rattle.dsde_language.specs.Expressions.{resolve, expr_id}
+use Rattle.dsde_language.specs.Pieces as piece
+use Rattle.dsde_language.specs.Items as said
+use Rattle.dsde_language.specs.DeclaredStructures.{Place, end_ports}
+use Rattle.dsde_language.specs.DeclaredModels.{model_id}
 use Rattle.dsde_program_layout.specs.Lay.{Laid, lay}
 use Rattle.dsde_program_layout.specs.LayPieces as step
 use Rattle.dsde_program_layout.specs.LayItems as laid

@@ -1,29 +1,29 @@
 -- What is laid behind a table is the resolution.
 use Rattle.std.proofs.Common.{◌≡◌, ℕ, ◌+◌, ◌-◌, arith, List, [], ◌∷◌, ◌++◌, map, length, slice_set, unwrap_or, Option, Some, None, refl, sym, ◌∙◌, ap, subst, append_assoc, append-nil}
 use Rattle.std.proofs.lemmas.List.{length-append}
-use Rattle.dsde_syntax.specs.declared.id.Id.{Id}
-use Rattle.dsde_syntax.specs.declared.expr.Expr.{Expr}
-use Rattle.dsde_syntax.specs.declared.expr.Suffix.{Suffix}
-use Rattle.dsde_syntax.specs.declared.expr.ExprArm.{ExprArm}
-use Rattle.dsde_syntax.specs.declared.expr.FieldSet.{FieldSet}
-use Rattle.dsde_syntax.specs.declared.expr.SignTail.{SignTail}
-use Rattle.dsde_syntax.specs.declared.expr.Tail.{Tail}
-use Rattle.dsde_syntax.specs.declared.expr.Expr.TheOpen.{Expr-F, Suffix-F, ExprArm-F, FieldSet-F, SignTail-F, Tail-F}
-use Rattle.dsde_syntax.specs.declared.expr.Expr.TheViews.{roll-Expr, roll-Suffix, roll-ExprArm, roll-FieldSet, roll-SignTail, roll-Tail}
-use Rattle.dsde_syntax.specs.declared.expr.Expr.TheFolds.{fold-Suffix, fold-ExprArm, fold-FieldSet, fold-SignTail, fold-Tail, map-Expr, map-Suffix, map-ExprArm, map-FieldSet, map-SignTail, map-Tail, fold-roll-Expr, fold-roll-Suffix, fold-roll-ExprArm, fold-roll-FieldSet, fold-roll-SignTail, fold-roll-Tail, ind-Expr}
-use Rattle.dsde_values.specs.declared.types.Ty.{Ty}
-use Rattle.dsde_values.specs.declared.types.Ty.TheVariants as ty
-use Rattle.dsde_check_rules.specs.declared.known.Known.{Known}
-use Rattle.dsde_program_nodes.specs.declared.ids.ExprId.{ExprId}
-use Rattle.dsde_declared.specs.declared.operator.Binary.{Binary}
-use Rattle.dsde_program_nodes.specs.declared.node.Node.{Node}
-use Rattle.dsde_program_nodes.specs.declared.node.Node.TheVariants as node
-use Rattle.dsde_program_nodes.specs.declared.node.NodeArm.{NodeArm}
-use Rattle.dsde_declared.specs.Names.{Scope, with_slot, type_number}
-use Rattle.dsde_program_nodes.specs.Typing.{item_in, held_in, field_type, field_number, builtin_type, func_number}
-use Rattle.dsde_program_nodes.specs.Expressions as nodes
-use Rattle.dsde_declared.specs.Operators.{nested, sign_binary}
-use Rattle.dsde_program_nodes.specs.Expressions.{Resolved, expr_id, of_type, over_one, over_two, over_all, all_nodes, cond_nodes, arm_nodes, each_nodes, if_nodes, resolve, resolve_step, builtin_node}
+use Rattle.dsde_language.specs.given.syntax.id_Id.{Id}
+use Rattle.dsde_language.specs.given.syntax.expr_Expr.{Expr}
+use Rattle.dsde_language.specs.given.syntax.expr_Suffix.{Suffix}
+use Rattle.dsde_language.specs.given.syntax.expr_ExprArm.{ExprArm}
+use Rattle.dsde_language.specs.given.syntax.expr_FieldSet.{FieldSet}
+use Rattle.dsde_language.specs.given.syntax.expr_SignTail.{SignTail}
+use Rattle.dsde_language.specs.given.syntax.expr_Tail.{Tail}
+use Rattle.dsde_language.specs.given.syntax.expr_Expr_TheOpen.{Expr-F, Suffix-F, ExprArm-F, FieldSet-F, SignTail-F, Tail-F}
+use Rattle.dsde_language.specs.given.syntax.expr_Expr_TheViews.{roll-Expr, roll-Suffix, roll-ExprArm, roll-FieldSet, roll-SignTail, roll-Tail}
+use Rattle.dsde_language.specs.given.syntax.expr_Expr_TheFolds.{fold-Suffix, fold-ExprArm, fold-FieldSet, fold-SignTail, fold-Tail, map-Expr, map-Suffix, map-ExprArm, map-FieldSet, map-SignTail, map-Tail, fold-roll-Expr, fold-roll-Suffix, fold-roll-ExprArm, fold-roll-FieldSet, fold-roll-SignTail, fold-roll-Tail, ind-Expr}
+use Rattle.dsde_language.specs.given.values.types_Ty.{Ty}
+use Rattle.dsde_language.specs.given.values.types_Ty_TheVariants as ty
+use Rattle.dsde_language.specs.declared.known.Known.{Known}
+use Rattle.dsde_language.specs.declared.node_ids.ExprId.{ExprId}
+use Rattle.dsde_language.specs.declared.operator.Binary.{Binary}
+use Rattle.dsde_language.specs.declared.node.Node.{Node}
+use Rattle.dsde_language.specs.declared.node.Node.TheVariants as node
+use Rattle.dsde_language.specs.declared.node.NodeArm.{NodeArm}
+use Rattle.dsde_language.specs.Names.{Scope, with_slot, type_number}
+use Rattle.dsde_language.specs.Typing.{item_in, held_in, field_type, field_number, builtin_type, func_number}
+use Rattle.dsde_language.specs.Expressions as nodes
+use Rattle.dsde_language.specs.DeclaredOperators.{nested, sign_binary}
+use Rattle.dsde_language.specs.Expressions.{Resolved, expr_id, of_type, over_one, over_two, over_all, all_nodes, cond_nodes, arm_nodes, each_nodes, if_nodes, resolve, resolve_step, builtin_node}
 use Rattle.dsde_program_layout.specs.Lay as laid
 use Rattle.dsde_program_layout.specs.Lay.{Table, Laid, Lay, Link, lay, lay_suffix, lay_arm, lay_set, lay_sign_tail, lay_tail, lay_step, lay_all, lay_one, lay_two, lay_parts, lay_each, lay_if, lay_arms, lay_cond, numbers, head_from, lay_links, lay_chain, roomy, rooms, put}
 use Rattle.dsde_program_layout.specs.LaidIs.{laid_as}

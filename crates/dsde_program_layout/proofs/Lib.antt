@@ -1,6 +1,8 @@
-mod Seams
-mod Lays
-mod PieceLays
-mod StatementLays
+mod Infos
 mod ItemLays
+mod Lays
 mod ModelLays
+mod PieceLays
+mod Seams
+mod StatementLays
+mod Tops

@@ -1,15 +1,15 @@
 -- What a whole model lays is its resolution.
 use Rattle.std.proofs.Common.{◌≡◌, List, [], ◌∷◌}
-use Rattle.dsde_syntax.specs.declared.decl.Decl.{Decl}
-use Rattle.dsde_syntax.specs.declared.decl.Decl.TheVariants as decl
-use Rattle.dsde_syntax.specs.declared.decl.Model.{Model}
-use Rattle.dsde_check_rules.specs.declared.known.Known.{Known}
-use Rattle.dsde_program_nodes.specs.Pieces as piece
-use Rattle.dsde_program_nodes.specs.Models as said
-use Rattle.dsde_declared.specs.Structures.{place_of_items}
-use Rattle.dsde_declared.specs.Models.{whole_of, model_id}
-use Rattle.dsde_program_nodes.specs.Models.{Parts, no_parts, resolved}
-use Rattle.dsde_program_nodes.specs.Statements.{body_scope}
+use Rattle.dsde_language.specs.given.syntax.decl_Decl.{Decl}
+use Rattle.dsde_language.specs.given.syntax.decl_Decl_TheVariants as decl
+use Rattle.dsde_language.specs.given.syntax.decl_Model.{Model}
+use Rattle.dsde_language.specs.declared.known.Known.{Known}
+use Rattle.dsde_language.specs.Pieces as piece
+use Rattle.dsde_language.specs.NodeModels as said
+use Rattle.dsde_language.specs.DeclaredStructures.{place_of_items}
+use Rattle.dsde_language.specs.DeclaredModels.{whole_of, model_id}
+use Rattle.dsde_language.specs.NodeModels.{Parts, no_parts, resolved}
+use Rattle.dsde_language.specs.Statements.{body_scope}
 use Rattle.dsde_program_layout.specs.LayPieces as step
 use Rattle.dsde_program_layout.specs.LayModels as laid
 use Rattle.dsde_program_layout.specs.LayModels.{lay_model, no_tables}

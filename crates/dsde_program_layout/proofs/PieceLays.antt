@@ -2,18 +2,18 @@
 use Rattle.std.proofs.Common.{◌≡◌, ℕ, ◌+◌, List, [], ◌∷◌, ◌++◌, map, length, Some, slice_set, refl, sym, ◌∙◌, ap, append_assoc, append-nil}
 use Rattle.std.proofs.lemmas.List.{length-append}
 use Rattle.std.proofs.Math.Seq.{set-append_seam}
-use Rattle.dsde_values.specs.declared.types.Ty.{Ty}
-use Rattle.dsde_program_nodes.specs.declared.code.ViaCode.{ViaCode}
-use Rattle.dsde_program_nodes.specs.declared.ids.BlockId.{BlockId}
-use Rattle.dsde_program_nodes.specs.declared.ids.ExprId.{ExprId}
-use Rattle.dsde_program_nodes.specs.declared.node.Node.{Node}
-use Rattle.dsde_declared.specs.Names.{Scope, with_slot}
-use Rattle.dsde_program_nodes.specs.Expressions.{Resolved, expr_id}
-use Rattle.dsde_program_nodes.specs.Pieces as said
-use Rattle.dsde_program_nodes.specs.Pieces.{Block, Next, Piece}
+use Rattle.dsde_language.specs.given.values.types_Ty.{Ty}
+use Rattle.dsde_language.specs.declared.code.ViaCode.{ViaCode}
+use Rattle.dsde_language.specs.declared.node_ids.BlockId.{BlockId}
+use Rattle.dsde_language.specs.declared.node_ids.ExprId.{ExprId}
+use Rattle.dsde_language.specs.declared.node.Node.{Node}
+use Rattle.dsde_language.specs.Names.{Scope, with_slot}
+use Rattle.dsde_language.specs.Expressions.{Resolved, expr_id}
+use Rattle.dsde_language.specs.Pieces as said
+use Rattle.dsde_language.specs.Pieces.{Block, Next, Piece}
 use Rattle.dsde_program_layout.specs.Lay.{Laid, Lay}
 use Rattle.dsde_program_layout.specs.LayPieces as laid
-use Rattle.dsde_program_nodes.specs.declared.tables.Tables.{Tables}
+use Rattle.dsde_language.specs.declared.tables.Tables.{Tables}
 use Rattle.dsde_program_layout.specs.LayPieces.{LaidPiece}
 use Rattle.dsde_program_layout.specs.LaidIs.{next_of, placed}
 use Rattle.dsde_program_layout.proofs.Lays as of_expr

@@ -1,15 +1,15 @@
 -- What is laid is the resolution: of an expression, and of a whole model.
 use Rattle.std.specs.Prelude.{◌≡◌, ◌++◌, length}
-use Rattle.dsde_syntax.specs.declared.expr.Expr.{Expr}
-use Rattle.dsde_check_rules.specs.declared.known.Known.{Known}
-use Rattle.dsde_syntax.specs.declared.decl.Model.{Model}
-use Rattle.dsde_program_nodes.specs.Models.{resolved}
-use Rattle.dsde_program_nodes.specs.Pieces.{Next, Piece}
-use Rattle.dsde_declared.specs.Names.{Scope}
-use Rattle.dsde_program_nodes.specs.Expressions.{Resolved, resolve}
+use Rattle.dsde_language.specs.given.syntax.expr_Expr.{Expr}
+use Rattle.dsde_language.specs.declared.known.Known.{Known}
+use Rattle.dsde_language.specs.given.syntax.decl_Model.{Model}
+use Rattle.dsde_language.specs.NodeModels.{resolved}
+use Rattle.dsde_language.specs.Pieces.{Next, Piece}
+use Rattle.dsde_language.specs.Names.{Scope}
+use Rattle.dsde_language.specs.Expressions.{Resolved, resolve}
 use Rattle.dsde_program_layout.specs.Lay.{Table, Laid, lay}
 use Rattle.dsde_program_layout.specs.LayModels.{lay_model, no_tables}
-use Rattle.dsde_program_nodes.specs.declared.tables.Tables.{Tables}
+use Rattle.dsde_language.specs.declared.tables.Tables.{Tables}
 use Rattle.dsde_program_layout.specs.LayPieces.{LaidPiece}
 
 -- the resolution behind a table

@@ -1,29 +1,29 @@
 -- The nodes of an expression laid behind a table: what the code does, step by step.
 use Rattle.std.specs.Prelude.{ℕ, zero, suc, ◌-◌, pos, List, [], ◌∷◌, ◌++◌, length, map, Option, Some, None, slice_set, unwrap_or}
-use Rattle.dsde_words.specs.declared.key.Key.{Key}
-use Rattle.dsde_syntax.specs.declared.id.Id.{Id}
-use Rattle.dsde_syntax.specs.declared.expr.Expr.{Expr}
-use Rattle.dsde_syntax.specs.declared.expr.ExprArm.{ExprArm}
-use Rattle.dsde_syntax.specs.declared.expr.FieldSet.{FieldSet}
-use Rattle.dsde_syntax.specs.declared.expr.SignTail.{SignTail}
-use Rattle.dsde_syntax.specs.declared.expr.Suffix.{Suffix}
-use Rattle.dsde_syntax.specs.declared.expr.Tail.{Tail}
-use Rattle.dsde_syntax.specs.declared.expr.Expr.TheOpen.{Expr-F, Suffix-F, ExprArm-F, FieldSet-F, SignTail-F, Tail-F}
-use Rattle.dsde_syntax.specs.declared.expr.Expr.TheFolds.{fold-Expr, fold-Suffix, fold-ExprArm, fold-FieldSet, fold-SignTail, fold-Tail}
-use Rattle.dsde_values.specs.declared.types.Ty.{Ty}
-use Rattle.dsde_values.specs.declared.types.Ty.TheVariants as ty
-use Rattle.dsde_check_rules.specs.declared.known.Known.{Known}
-use Rattle.dsde_check_rules.specs.Tables.{by_text}
-use Rattle.dsde_program_nodes.specs.declared.ids.ExprId.{ExprId}
-use Rattle.dsde_declared.specs.declared.operator.Binary.{Binary}
-use Rattle.dsde_declared.specs.declared.operator.Binary.TheVariants as binary
-use Rattle.dsde_program_nodes.specs.declared.node.Node.{Node}
-use Rattle.dsde_program_nodes.specs.declared.node.Node.TheVariants as node
-use Rattle.dsde_program_nodes.specs.declared.node.NodeArm.{NodeArm}
-use Rattle.dsde_declared.specs.Names.{Scope, with_slot, slot_of, elapsed_name, type_number, variant_number}
-use Rattle.dsde_program_nodes.specs.Typing.{slot_type, item_in, held_in, field_number, field_type, func_number, func_type, builtin_type}
-use Rattle.dsde_declared.specs.Operators.{sign_binary}
-use Rattle.dsde_program_nodes.specs.Expressions.{expr_id, builtin_node}
+use Rattle.dsde_language.specs.given.words.key_Key.{Key}
+use Rattle.dsde_language.specs.given.syntax.id_Id.{Id}
+use Rattle.dsde_language.specs.given.syntax.expr_Expr.{Expr}
+use Rattle.dsde_language.specs.given.syntax.expr_ExprArm.{ExprArm}
+use Rattle.dsde_language.specs.given.syntax.expr_FieldSet.{FieldSet}
+use Rattle.dsde_language.specs.given.syntax.expr_SignTail.{SignTail}
+use Rattle.dsde_language.specs.given.syntax.expr_Suffix.{Suffix}
+use Rattle.dsde_language.specs.given.syntax.expr_Tail.{Tail}
+use Rattle.dsde_language.specs.given.syntax.expr_Expr_TheOpen.{Expr-F, Suffix-F, ExprArm-F, FieldSet-F, SignTail-F, Tail-F}
+use Rattle.dsde_language.specs.given.syntax.expr_Expr_TheFolds.{fold-Expr, fold-Suffix, fold-ExprArm, fold-FieldSet, fold-SignTail, fold-Tail}
+use Rattle.dsde_language.specs.given.values.types_Ty.{Ty}
+use Rattle.dsde_language.specs.given.values.types_Ty_TheVariants as ty
+use Rattle.dsde_language.specs.declared.known.Known.{Known}
+use Rattle.dsde_language.specs.RuleTables.{by_text}
+use Rattle.dsde_language.specs.declared.node_ids.ExprId.{ExprId}
+use Rattle.dsde_language.specs.declared.operator.Binary.{Binary}
+use Rattle.dsde_language.specs.declared.operator.Binary.TheVariants as binary
+use Rattle.dsde_language.specs.declared.node.Node.{Node}
+use Rattle.dsde_language.specs.declared.node.Node.TheVariants as node
+use Rattle.dsde_language.specs.declared.node.NodeArm.{NodeArm}
+use Rattle.dsde_language.specs.Names.{Scope, with_slot, slot_of, elapsed_name, type_number, variant_number}
+use Rattle.dsde_language.specs.Typing.{slot_type, item_in, held_in, field_number, field_type, func_number, func_type, builtin_type}
+use Rattle.dsde_language.specs.DeclaredOperators.{sign_binary}
+use Rattle.dsde_language.specs.Expressions.{expr_id, builtin_node}
 
 abbrev pub Table : Type 0
 Table = List Node

@@ -1,32 +1,32 @@
 -- How the items of a structure are laid behind tables: what the code does, step by step.
 use Rattle.std.specs.Prelude.{◌++◌, length, ℕ, true, false, Bool, List, [], ◌∷◌, map, Option, Some, None}
 use Rattle.std.specs.Option.{option_map}
-use Rattle.dsde_syntax.specs.declared.expr.Expr.{Expr}
-use Rattle.dsde_syntax.specs.declared.item.Bracket.{Bracket}
-use Rattle.dsde_syntax.specs.declared.item.End.{End}
-use Rattle.dsde_syntax.specs.declared.item.EndPart.{EndPart}
-use Rattle.dsde_syntax.specs.declared.item.EndPart.TheVariants as end_part
-use Rattle.dsde_syntax.specs.declared.item.Item.{Item}
-use Rattle.dsde_syntax.specs.declared.item.Item.TheOpen.{Item-F, ItemArm-F}
-use Rattle.dsde_syntax.specs.declared.item.Item.TheFolds.{fold-Item}
-use Rattle.dsde_syntax.specs.declared.item.ViaKey.{ViaKey}
-use Rattle.dsde_syntax.specs.declared.item.ViaPart.{ViaPart}
-use Rattle.dsde_values.specs.declared.types.Ty.{Ty}
-use Rattle.dsde_check_rules.specs.declared.known.Known.{Known}
-use Rattle.dsde_program_nodes.specs.declared.ids.ExprId.{ExprId}
-use Rattle.dsde_program_nodes.specs.declared.make.Make.{Make}
-use Rattle.dsde_program_nodes.specs.declared.make.Make.TheVariants as make
-use Rattle.dsde_program_nodes.specs.declared.make.MakeArm.{MakeArm}
-use Rattle.dsde_program_nodes.specs.declared.make.MakeEnd.{MakeEnd}
-use Rattle.dsde_program_nodes.specs.declared.make.MakeIndex.{MakeIndex}
-use Rattle.dsde_program_nodes.specs.declared.make.MakePart.{MakePart}
-use Rattle.dsde_program_nodes.specs.declared.make.MakePart.TheVariants as make_part
-use Rattle.dsde_program_nodes.specs.declared.make.MakeVia.{MakeVia}
-use Rattle.dsde_declared.specs.Names.{with_slot, Scope, slot_of}
-use Rattle.dsde_program_nodes.specs.Typing.{slot_type, item_in}
-use Rattle.dsde_program_nodes.specs.Expressions.{expr_id}
-use Rattle.dsde_declared.specs.Structures.{Place, end_ports}
-use Rattle.dsde_declared.specs.Models.{model_id}
+use Rattle.dsde_language.specs.given.syntax.expr_Expr.{Expr}
+use Rattle.dsde_language.specs.given.syntax.item_Bracket.{Bracket}
+use Rattle.dsde_language.specs.given.syntax.item_End.{End}
+use Rattle.dsde_language.specs.given.syntax.item_EndPart.{EndPart}
+use Rattle.dsde_language.specs.given.syntax.item_EndPart_TheVariants as end_part
+use Rattle.dsde_language.specs.given.syntax.item_Item.{Item}
+use Rattle.dsde_language.specs.given.syntax.item_Item_TheOpen.{Item-F, ItemArm-F}
+use Rattle.dsde_language.specs.given.syntax.item_Item_TheFolds.{fold-Item}
+use Rattle.dsde_language.specs.given.syntax.item_ViaKey.{ViaKey}
+use Rattle.dsde_language.specs.given.syntax.item_ViaPart.{ViaPart}
+use Rattle.dsde_language.specs.given.values.types_Ty.{Ty}
+use Rattle.dsde_language.specs.declared.known.Known.{Known}
+use Rattle.dsde_language.specs.declared.node_ids.ExprId.{ExprId}
+use Rattle.dsde_language.specs.declared.make.Make.{Make}
+use Rattle.dsde_language.specs.declared.make.Make.TheVariants as make
+use Rattle.dsde_language.specs.declared.make.MakeArm.{MakeArm}
+use Rattle.dsde_language.specs.declared.make.MakeEnd.{MakeEnd}
+use Rattle.dsde_language.specs.declared.make.MakeIndex.{MakeIndex}
+use Rattle.dsde_language.specs.declared.make.MakePart.{MakePart}
+use Rattle.dsde_language.specs.declared.make.MakePart.TheVariants as make_part
+use Rattle.dsde_language.specs.declared.make.MakeVia.{MakeVia}
+use Rattle.dsde_language.specs.Names.{with_slot, Scope, slot_of}
+use Rattle.dsde_language.specs.Typing.{slot_type, item_in}
+use Rattle.dsde_language.specs.Expressions.{expr_id}
+use Rattle.dsde_language.specs.DeclaredStructures.{Place, end_ports}
+use Rattle.dsde_language.specs.DeclaredModels.{model_id}
 use Rattle.dsde_program_layout.specs.LayPieces.{Step, ◌>>=◌, give, all, maybe, expr, bound, binding, inside}
 use Rattle.dsde_program_layout.specs.Lay.{lay}
 

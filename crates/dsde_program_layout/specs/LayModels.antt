@@ -1,17 +1,17 @@
 -- How a whole model is laid into tables: what the code does, step by step.
 use Rattle.std.specs.Prelude.{List, [], ◌∷◌}
-use Rattle.dsde_syntax.specs.declared.decl.Decl.{Decl}
-use Rattle.dsde_syntax.specs.declared.decl.Decl.TheVariants as decl
-use Rattle.dsde_syntax.specs.declared.decl.Model.{Model}
-use Rattle.dsde_check_rules.specs.declared.known.Known.{Known}
-use Rattle.dsde_declared.specs.Structures.{place_of_items}
-use Rattle.dsde_declared.specs.Models.{whole_of, model_id}
-use Rattle.dsde_program_nodes.specs.Models.{Parts, no_parts}
-use Rattle.dsde_program_nodes.specs.declared.tables.Tables.{Tables}
+use Rattle.dsde_language.specs.given.syntax.decl_Decl.{Decl}
+use Rattle.dsde_language.specs.given.syntax.decl_Decl_TheVariants as decl
+use Rattle.dsde_language.specs.given.syntax.decl_Model.{Model}
+use Rattle.dsde_language.specs.declared.known.Known.{Known}
+use Rattle.dsde_language.specs.DeclaredStructures.{place_of_items}
+use Rattle.dsde_language.specs.DeclaredModels.{whole_of, model_id}
+use Rattle.dsde_language.specs.NodeModels.{Parts, no_parts}
+use Rattle.dsde_language.specs.declared.tables.Tables.{Tables}
 use Rattle.dsde_program_layout.specs.LayPieces.{LaidPiece, Step, ◌>>=◌, give, over}
 use Rattle.dsde_program_layout.specs.LayStatements.{lay_func, lay_body}
 use Rattle.dsde_program_layout.specs.LayItems.{lay_all, lay_items}
-use Rattle.dsde_program_nodes.specs.Statements.{body_scope}
+use Rattle.dsde_language.specs.Statements.{body_scope}
 
 -- a declaration, before those behind it
 abbrev pub lay_decl : Known → Decl → Step Parts → Step Parts

@@ -1,12 +1,12 @@
 -- How a piece of text is laid behind the tables of a model: what the code does, step by step.
 use Rattle.std.specs.Prelude.{ℕ, List, [], ◌∷◌, ◌++◌, length, Option, Some, None, slice_set}
-use Rattle.dsde_values.specs.declared.types.Ty.{Ty}
-use Rattle.dsde_program_nodes.specs.declared.ids.BlockId.{BlockId}
-use Rattle.dsde_program_nodes.specs.declared.ids.ExprId.{ExprId}
-use Rattle.dsde_program_nodes.specs.declared.tables.Tables.{Tables}
-use Rattle.dsde_declared.specs.Names.{Scope, with_slot}
-use Rattle.dsde_program_nodes.specs.Expressions.{expr_id}
-use Rattle.dsde_program_nodes.specs.Pieces.{Block}
+use Rattle.dsde_language.specs.given.values.types_Ty.{Ty}
+use Rattle.dsde_language.specs.declared.node_ids.BlockId.{BlockId}
+use Rattle.dsde_language.specs.declared.node_ids.ExprId.{ExprId}
+use Rattle.dsde_language.specs.declared.tables.Tables.{Tables}
+use Rattle.dsde_language.specs.Names.{Scope, with_slot}
+use Rattle.dsde_language.specs.Expressions.{expr_id}
+use Rattle.dsde_language.specs.Pieces.{Block}
 use Rattle.dsde_program_layout.specs.Lay.{Lay}
 
 -- what stands for a piece of text, the tables behind it, and the names that are seen there

@@ -1,30 +1,30 @@
 -- How statements, functions and bodies are laid behind tables: what the code does, step by step.
 use Rattle.std.specs.Prelude.{ℕ, length, true, false, List, [], ◌∷◌, map, Option}
 use Rattle.std.specs.Option.{option_map}
-use Rattle.dsde_syntax.specs.declared.expr.Expr.{Expr}
-use Rattle.dsde_syntax.specs.declared.stmt.Stmt.{Stmt}
-use Rattle.dsde_syntax.specs.declared.stmt.Stmt.TheOpen.{Stmt-F, StmtArm-F}
-use Rattle.dsde_syntax.specs.declared.stmt.Stmt.TheFolds.{fold-Stmt}
-use Rattle.dsde_syntax.specs.declared.decl.Body.{Body}
-use Rattle.dsde_syntax.specs.declared.decl.Phase.{Phase}
-use Rattle.dsde_syntax.specs.declared.decl.StateDecl.{StateDecl}
-use Rattle.dsde_syntax.specs.declared.decl.Typed.{Typed}
-use Rattle.dsde_values.specs.declared.types.Field.{Field}
-use Rattle.dsde_check_rules.specs.declared.known.Known.{Known}
-use Rattle.dsde_check_rules.specs.Tables.{by_text}
-use Rattle.dsde_program_nodes.specs.declared.act.Act.{Act}
-use Rattle.dsde_program_nodes.specs.declared.act.Act.TheVariants as act
-use Rattle.dsde_program_nodes.specs.declared.act.ActArm.{ActArm}
-use Rattle.dsde_program_nodes.specs.declared.code.Code.{Code}
-use Rattle.dsde_program_nodes.specs.declared.code.FnCode.{FnCode}
-use Rattle.dsde_program_nodes.specs.declared.ids.BlockId.{BlockId}
-use Rattle.dsde_program_nodes.specs.declared.ids.ExprId.{ExprId}
-use Rattle.dsde_declared.specs.Names.{with_slots, Scope, slot_of}
-use Rattle.dsde_program_nodes.specs.Typing.{item_in}
-use Rattle.dsde_declared.specs.Models.{typed_fields, port_fields}
-use Rattle.dsde_program_nodes.specs.Statements.{FuncParts, Blocks, phase_at, input_fields, body_scope}
+use Rattle.dsde_language.specs.given.syntax.expr_Expr.{Expr}
+use Rattle.dsde_language.specs.given.syntax.stmt_Stmt.{Stmt}
+use Rattle.dsde_language.specs.given.syntax.stmt_Stmt_TheOpen.{Stmt-F, StmtArm-F}
+use Rattle.dsde_language.specs.given.syntax.stmt_Stmt_TheFolds.{fold-Stmt}
+use Rattle.dsde_language.specs.given.syntax.decl_Body.{Body}
+use Rattle.dsde_language.specs.given.syntax.decl_Phase.{Phase}
+use Rattle.dsde_language.specs.given.syntax.decl_StateDecl.{StateDecl}
+use Rattle.dsde_language.specs.given.syntax.decl_Typed.{Typed}
+use Rattle.dsde_language.specs.given.values.types_Field.{Field}
+use Rattle.dsde_language.specs.declared.known.Known.{Known}
+use Rattle.dsde_language.specs.RuleTables.{by_text}
+use Rattle.dsde_language.specs.declared.act.Act.{Act}
+use Rattle.dsde_language.specs.declared.act.Act.TheVariants as act
+use Rattle.dsde_language.specs.declared.act.ActArm.{ActArm}
+use Rattle.dsde_language.specs.declared.code.Code.{Code}
+use Rattle.dsde_language.specs.declared.code.FnCode.{FnCode}
+use Rattle.dsde_language.specs.declared.node_ids.BlockId.{BlockId}
+use Rattle.dsde_language.specs.declared.node_ids.ExprId.{ExprId}
+use Rattle.dsde_language.specs.Names.{with_slots, Scope, slot_of}
+use Rattle.dsde_language.specs.Typing.{item_in}
+use Rattle.dsde_language.specs.DeclaredModels.{typed_fields, port_fields}
+use Rattle.dsde_language.specs.Statements.{FuncParts, Blocks, phase_at, input_fields, body_scope}
 use Rattle.dsde_program_layout.specs.Lay.{lay}
-use Rattle.dsde_program_nodes.specs.Pieces.{Block}
+use Rattle.dsde_language.specs.Pieces.{Block}
 use Rattle.dsde_program_layout.specs.LayPieces.{Step, ◌>>=◌, give, all, maybe, expr, bound, binding, seeing, over, braced, roomy, put}
 
 -- over what is known of the file, and the out ports of the body

@@ -1,6 +1,7 @@
-pub mod Lay
+pub mod Declared
 pub mod LaidIs
-pub mod LayPieces
-pub mod LayStatements
+pub mod Lay
 pub mod LayItems
 pub mod LayModels
+pub mod LayPieces
+pub mod LayStatements

@@ -1,14 +1,14 @@
 //! The names that the parts of functions and bodies see.
 
 ghost use Rattle.std.specs.Prelude.{◌≡◌, [], ◌∷◌, length, take, false, IfOk, OnOk};
-ghost use Rattle.dsde_declared.specs.Names.{with_slots};
-ghost use Rattle.dsde_declared.specs.Models.{typed_fields, state_fields, port_fields};
-ghost use Rattle.dsde_program_nodes.specs.Statements.{list_fields, input_fields};
+ghost use Rattle.dsde_language.specs.Names.{with_slots};
+ghost use Rattle.dsde_language.specs.DeclaredModels.{typed_fields, state_fields, port_fields};
+ghost use Rattle.dsde_language.specs.Statements.{list_fields, input_fields};
 
 use crate::scope::bind;
 use dsde_check_tables::{Known, Member, list_type};
-use dsde_lists::Memory;
-use dsde_names::Names;
+use dsde_language::given::names::Names;
+use dsde_syntax::given::lists::Memory;
 use dsde_syntax::{PortDecl, StateDecl, Typed};
 use dsde_values::Ty;
 use std::alloc::Global;

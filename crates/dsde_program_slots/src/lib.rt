@@ -3,6 +3,7 @@
 #![tactic(auto)]
 
 mod bodies;
+pub mod given;
 mod numbers;
 mod scope;
 mod typing;

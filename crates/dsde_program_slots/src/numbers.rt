@@ -2,15 +2,15 @@
 
 ghost use Rattle.std.specs.Prelude.{◌≡◌, position, unwrap_or, IfOk};
 ghost use Rattle.std.specs.Str.{bytes_eq};
-ghost use Rattle.dsde_declared.specs.Names.{type_number, variant_number};
-ghost use Rattle.dsde_program_nodes.specs.Typing.{field_number, func_number};
-ghost use Rattle.dsde_declared.specs.Models.{model_id, model_number};
+ghost use Rattle.dsde_language.specs.Names.{type_number, variant_number};
+ghost use Rattle.dsde_language.specs.Typing.{field_number, func_number};
+ghost use Rattle.dsde_language.specs.DeclaredModels.{model_id, model_number};
 
 use crate::scope::slot_of;
 use dsde_check_tables::{Known, Word, narrow};
-use dsde_declared::ModelId;
-use dsde_lists::Memory;
-use dsde_names::Names;
+use dsde_language::ModelId;
+use dsde_language::given::names::Names;
+use dsde_syntax::given::lists::Memory;
 use dsde_values::Ty;
 
 /// The number of a type.

@@ -1,12 +1,12 @@
 //! Names that are seen, each at its slot.
 
 ghost use Rattle.std.specs.Prelude.{◌≡◌, length, take, IfOk, OnOk, OnErr};
-ghost use Rattle.dsde_declared.specs.Names.{with_slot, slot_of};
-ghost use Rattle.dsde_program_nodes.specs.Typing.{slot_type};
+ghost use Rattle.dsde_language.specs.Names.{with_slot, slot_of};
+ghost use Rattle.dsde_language.specs.Typing.{slot_type};
 
 use dsde_check_tables::{Member, copy_type, narrow};
-use dsde_lists::Memory;
-use dsde_names::Names;
+use dsde_language::given::names::Names;
+use dsde_syntax::given::lists::Memory;
 use dsde_values::Ty;
 use std::alloc::Global;
 

@@ -1,13 +1,13 @@
 //! The types of expressions in which nothing is wrong, by what the file says.
 
 ghost use Rattle.std.specs.Prelude.{◌≡◌, IfOk};
-ghost use Rattle.dsde_program_nodes.specs.Typing.{item_in, held_in, field_type, func_type, first_type, builtin_type};
+ghost use Rattle.dsde_language.specs.Typing.{item_in, held_in, field_type, func_type, first_type, builtin_type};
 
 use crate::scope::slot_type;
-use dsde_check_rules::Part;
 use dsde_check_tables::{Known, copy_type, given_type, row_of};
-use dsde_lists::Memory;
+use dsde_language::Part;
 use dsde_syntax::Key;
+use dsde_syntax::given::lists::Memory;
 use dsde_values::Ty;
 use std::alloc::Global;
 

@@ -10,13 +10,13 @@ use Rattle.dsde_syntax.specs.declared.item.Item.TheOpen.{Item-F}
 use Rattle.dsde_syntax.specs.declared.item.Item.TheFolds.{fold-roll-Item, the_lemmas}
 use Rattle.dsde_syntax.specs.declared.item.ItemArm.{ItemArm}
 use Rattle.dsde_syntax.specs.declared.item.ViaPart.{ViaPart}
-use Rattle.dsde_program_nodes.specs.declared.make.Make.{Make}
-use Rattle.dsde_program_nodes.specs.declared.make.MakeArm.{MakeArm}
-use Rattle.dsde_program_nodes.specs.declared.tables.Tables.{Tables}
-use Rattle.dsde_declared.specs.Names.{Scope}
-use Rattle.dsde_declared.specs.Structures.{Place}
-use Rattle.dsde_program_layout.specs.LayPieces.{Step}
-use Rattle.dsde_program_layout.specs.LayItems.{item_arm_step, item_step, lay_item}
+use Rattle.dsde_language.specs.declared.make.Make.{Make}
+use Rattle.dsde_language.specs.declared.make.MakeArm.{MakeArm}
+use Rattle.dsde_language.specs.declared.tables.Tables.{Tables}
+use Rattle.dsde_language.specs.Names.{Scope}
+use Rattle.dsde_language.specs.DeclaredStructures.{Place}
+use Rattle.dsde_program_expressions.specs.given.program_layout.LayPieces.{Step}
+use Rattle.dsde_program_expressions.specs.given.program_layout.LayItems.{item_arm_step, item_step, lay_item}
 use Rattle.dsde_program_structures.specs.Parts.{lay_arm, lay_arm_by, lay_comp, lay_for, lay_let, lay_link}
 
 pub item_link : (place : Place) (at : ℕ) (source target : End) (via : Option ViaPart) → lay_item place (item.Link at source target via) ≡ lay_link place at source target via

@@ -8,18 +8,18 @@ use Rattle.dsde_syntax.specs.declared.item.Item.{Item}
 use Rattle.dsde_syntax.specs.declared.item.ItemArm.{ItemArm}
 use Rattle.dsde_syntax.specs.declared.item.ViaPart.{ViaPart}
 use Rattle.dsde_syntax.specs.declared.item.Item.TheFolds.{fold-ItemArm}
-use Rattle.dsde_check_rules.specs.declared.known.Known.{Known}
-use Rattle.dsde_program_nodes.specs.declared.ids.ExprId.{ExprId}
-use Rattle.dsde_program_nodes.specs.declared.make.Make.{Make}
-use Rattle.dsde_program_nodes.specs.declared.make.Make.TheVariants as make
-use Rattle.dsde_program_nodes.specs.declared.make.MakeArm.{MakeArm}
-use Rattle.dsde_program_nodes.specs.declared.make.MakeVia.{MakeVia}
-use Rattle.dsde_program_nodes.specs.Typing.{item_in, slot_type}
-use Rattle.dsde_declared.specs.Structures.{Kin, Place, end_ports, kin_step, kin_arm_step}
-use Rattle.dsde_declared.specs.Models.{model_id}
-use Rattle.dsde_program_layout.specs.Lay.{lay}
-use Rattle.dsde_program_layout.specs.LayPieces.{Step, ◌>>=◌, all, bound, expr, give, inside}
-use Rattle.dsde_program_layout.specs.LayItems.{item_step, item_arm_step, lay_all, lay_end, lay_index, lay_items, maybe_via}
+use Rattle.dsde_language.specs.declared.known.Known.{Known}
+use Rattle.dsde_language.specs.declared.node_ids.ExprId.{ExprId}
+use Rattle.dsde_language.specs.declared.make.Make.{Make}
+use Rattle.dsde_language.specs.declared.make.Make.TheVariants as make
+use Rattle.dsde_language.specs.declared.make.MakeArm.{MakeArm}
+use Rattle.dsde_language.specs.declared.make.MakeVia.{MakeVia}
+use Rattle.dsde_language.specs.Typing.{item_in, slot_type}
+use Rattle.dsde_language.specs.DeclaredStructures.{Kin, Place, end_ports, kin_step, kin_arm_step}
+use Rattle.dsde_language.specs.DeclaredModels.{model_id}
+use Rattle.dsde_program_expressions.specs.given.program_layout.Lay.{lay}
+use Rattle.dsde_program_expressions.specs.given.program_layout.LayPieces.{Step, ◌>>=◌, all, bound, expr, give, inside}
+use Rattle.dsde_program_expressions.specs.given.program_layout.LayItems.{item_step, item_arm_step, lay_all, lay_end, lay_index, lay_items, maybe_via}
 
 -- the models of the components in an arm of a choice
 abbrev pub kin_arm : Known → ItemArm → Kin

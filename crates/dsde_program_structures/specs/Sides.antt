@@ -1,12 +1,12 @@
 -- The ports of models, and of components by their identifiers.
 use Rattle.std.specs.Prelude.{ℕ, true, false, Bool, if◌then◌else◌, List, [], map, Option, Some, None, slice_get}
-use Rattle.dsde_names.specs.Table.{named}
+use Rattle.dsde_language.specs.given.names.Table.{named}
 use Rattle.dsde_values.specs.declared.types.Field.{Field}
-use Rattle.dsde_check_rules.specs.declared.known.Known.{Known}
-use Rattle.dsde_check_rules.specs.declared.signatures.ModelSig.{ModelSig}
-use Rattle.dsde_check_rules.specs.Tables.{family_name}
-use Rattle.dsde_declared.specs.Structures.{Place, directed}
-use Rattle.dsde_declared.specs.Names.{with_slots}
+use Rattle.dsde_language.specs.declared.known.Known.{Known}
+use Rattle.dsde_language.specs.declared.signatures.ModelSig.{ModelSig}
+use Rattle.dsde_language.specs.RuleTables.{family_name}
+use Rattle.dsde_language.specs.DeclaredStructures.{Place, directed}
+use Rattle.dsde_language.specs.Names.{with_slots}
 use Rattle.dsde_program_structures.specs.declared.gate.Gate.{Gate}
 
 -- the ports of a model

@@ -3,11 +3,11 @@ use Rattle.std.specs.Prelude.{List, refl}
 use Rattle.std.specs.Coded.{Coded, code_by, coded×, coded_list}
 use Rattle.dsde_values.specs.declared.types.Field.{Field}
 use Rattle.dsde_values.specs.contracts.types.Field as field
-use Rattle.dsde_check_rules.specs.declared.known.Known.{Known}
-use Rattle.dsde_check_rules.specs.contracts.known.Known as known
-use Rattle.dsde_check_rules.specs.declared.signatures.Family.{Family}
-use Rattle.dsde_check_rules.specs.contracts.signatures.Family as family
-use Rattle.dsde_declared.specs.Structures.{Place}
+use Rattle.dsde_language.specs.declared.known.Known.{Known}
+use Rattle.dsde_language.specs.contracts.known.Known as known
+use Rattle.dsde_language.specs.declared.signatures.Family.{Family}
+use Rattle.dsde_language.specs.contracts.signatures.Family as family
+use Rattle.dsde_language.specs.DeclaredStructures.{Place}
 
 abbrev Fields : Type 0
 Fields = List Field

@@ -1,16 +1,16 @@
 //! Expressions, one after another.
 
 ghost use Rattle.std.specs.Prelude.{◌≡◌, ◌++◌, length, IfOk, OnOk};
-ghost use Rattle.dsde_program_nodes.specs.Expressions.{expr_id};
-ghost use Rattle.dsde_program_layout.specs.Lay.{lay};
-ghost use Rattle.dsde_program_layout.specs.LayItems.{lay_all};
+ghost use Rattle.dsde_language.specs.Expressions.{expr_id};
+ghost use Rattle.dsde_program_expressions.specs.given.program_layout.Lay.{lay};
+ghost use Rattle.dsde_program_expressions.specs.given.program_layout.LayItems.{lay_all};
 ghost use Rattle.dsde_program_structures.specs.Parts.{lay_number};
 
-use dsde_check_tables::Member;
+use dsde_language::given::names::Names;
+use dsde_language::{ExprId, Tables};
 use dsde_lists::Memory;
-use dsde_names::Names;
+use dsde_program_expressions::given::check_tables::Member;
 use dsde_program_expressions::{Laid, Resolver};
-use dsde_program_nodes::{ExprId, Tables};
 use dsde_syntax::Expr;
 use dsde_values::Seq;
 

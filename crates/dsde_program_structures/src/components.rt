@@ -5,12 +5,12 @@ ghost use Rattle.dsde_program_structures.specs.Parts.{lay_comp};
 
 use crate::arguments::exprs;
 use crate::ends::index;
-use dsde_check_tables::Member;
+use dsde_language::given::names::Names;
+use dsde_language::{Make, Tables};
 use dsde_lists::Memory;
-use dsde_names::Names;
 use dsde_program_expressions::Resolver;
-use dsde_program_nodes::{Make, Tables};
-use dsde_program_slots::model_id;
+use dsde_program_expressions::given::check_tables::Member;
+use dsde_program_expressions::given::program_slots::model_id;
 use dsde_syntax::{Bracket, Expr, Id};
 use dsde_values::Text;
 

@@ -2,16 +2,16 @@
 
 ghost use Rattle.std.specs.Prelude.{◌≡◌, IfOk, OnOk};
 ghost use Rattle.dsde_syntax.specs.declared.item.EndPart.TheVariants as end_part;
-ghost use Rattle.dsde_program_layout.specs.LayItems.{lay_end, lay_index, lay_part};
+ghost use Rattle.dsde_program_expressions.specs.given.program_layout.LayItems.{lay_end, lay_index, lay_part};
 
 use crate::arguments::number;
 use crate::place::Place;
-use dsde_check_tables::Member;
+use dsde_language::given::names::Names;
+use dsde_language::{MakeEnd, MakeIndex, MakePart, Tables};
 use dsde_lists::Memory;
-use dsde_names::Names;
 use dsde_program_expressions::Resolver;
-use dsde_program_nodes::{MakeEnd, MakeIndex, MakePart, Tables};
-use dsde_program_slots::slot_of;
+use dsde_program_expressions::given::check_tables::Member;
+use dsde_program_expressions::given::program_slots::slot_of;
 use dsde_syntax::{Bracket, End, EndPart, Id};
 use dsde_values::Text;
 

@@ -1,15 +1,15 @@
 //! The models of the components of a structure, by their identifiers.
 
 ghost use Rattle.std.specs.Prelude.{◌≡◌, [], map, IfOk, OnOk};
-ghost use Rattle.dsde_check_rules.specs.Tables.{added, family_name};
-ghost use Rattle.dsde_declared.specs.Structures.{kin_all, kin_of};
-ghost use Rattle.dsde_declared.specs.Models.{model_number};
+ghost use Rattle.dsde_language.specs.RuleTables.{added, family_name};
+ghost use Rattle.dsde_language.specs.DeclaredStructures.{kin_all, kin_of};
+ghost use Rattle.dsde_language.specs.DeclaredModels.{model_number};
 ghost use Rattle.dsde_program_structures.specs.Parts.{kin_arm};
 
-use dsde_check_tables::{FamilyEntry, Known};
+use dsde_language::given::names::Names;
 use dsde_lists::{Boxed, Memory};
-use dsde_names::Names;
-use dsde_program_slots::model_number;
+use dsde_program_expressions::given::check_tables::{FamilyEntry, Known};
+use dsde_program_expressions::given::program_slots::model_number;
 use dsde_syntax::{Id, Item, ItemArm};
 use std::alloc::Global;
 

@@ -2,8 +2,8 @@
 
 ghost use Rattle.std.specs.Prelude.{◌≡◌, if◌then◌else◌};
 
-use dsde_check_tables::Member;
-use dsde_names::Names;
+use dsde_language::given::names::Names;
+use dsde_program_expressions::given::check_tables::Member;
 
 /// In ports and out ports, each at its number among those of its direction.
 #[derive(Drop)]

@@ -1,16 +1,18 @@
 //! The ports of networks, executives and components, in tables by name.
 
 ghost use Rattle.std.specs.Prelude.{◌≡◌, [], ◌∷◌, ◌++◌, false, true, map, IfOk, OnOk};
-ghost use Rattle.dsde_declared.specs.Names.{with_slots};
-ghost use Rattle.dsde_declared.specs.Models.{port_fields};
-ghost use Rattle.dsde_declared.specs.Structures.{directed};
+ghost use Rattle.dsde_language.specs.Names.{with_slots};
+ghost use Rattle.dsde_language.specs.DeclaredModels.{port_fields};
+ghost use Rattle.dsde_language.specs.DeclaredStructures.{directed};
 ghost use Rattle.dsde_program_structures.specs.Sides.{gate_of, gates_of};
 
 use crate::gate::Gate;
-use dsde_check_tables::{Known, Member, ModelEntry, PortEntry, copy_type};
+use dsde_language::given::names::{Entry, Names};
 use dsde_lists::{Boxed, Memory};
-use dsde_names::{Entry, Names};
-use dsde_program_slots::{bind, ports_scope};
+use dsde_program_expressions::given::check_tables::{
+    Known, Member, ModelEntry, PortEntry, copy_type,
+};
+use dsde_program_expressions::given::program_slots::{bind, ports_scope};
 use dsde_syntax::PortDecl;
 use dsde_values::Seq;
 use std::alloc::Global;

@@ -1,20 +1,20 @@
 //! The items of a structure.
 
 ghost use Rattle.std.specs.Prelude.{◌≡◌, length, take, IfOk, OnOk};
-ghost use Rattle.dsde_program_layout.specs.LayPieces.{inside};
-ghost use Rattle.dsde_program_layout.specs.LayItems.{lay_item, lay_items};
+ghost use Rattle.dsde_program_expressions.specs.given.program_layout.LayPieces.{inside};
+ghost use Rattle.dsde_program_expressions.specs.given.program_layout.LayItems.{lay_item, lay_items};
 ghost use Rattle.dsde_program_structures.specs.Parts.{lay_arm, lay_arms, lay_for, lay_head, lay_let};
 
 use crate::arguments::{laid, number};
 use crate::components::comp;
 use crate::links::link;
 use crate::place::Place;
-use dsde_check_tables::Member;
+use dsde_language::given::names::Names;
+use dsde_language::{ExprId, Make, MakeArm, Tables};
 use dsde_lists::Memory;
-use dsde_names::Names;
 use dsde_program_expressions::Laid;
-use dsde_program_nodes::{ExprId, Make, MakeArm, Tables};
-use dsde_program_slots::{bind, item_in};
+use dsde_program_expressions::given::check_tables::Member;
+use dsde_program_expressions::given::program_slots::{bind, item_in};
 use dsde_syntax::{Expr, Id, Item, ItemArm};
 use dsde_values::Seq;
 

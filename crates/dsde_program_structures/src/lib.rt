@@ -15,4 +15,6 @@ mod structures;
 mod translations;
 
 pub use arguments::exprs;
+pub use dsde_program_expressions::Resolver;
+pub use dsde_program_expressions::given::program_slots::model_id;
 pub use structures::Structures;

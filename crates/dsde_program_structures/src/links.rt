@@ -6,10 +6,10 @@ ghost use Rattle.dsde_program_structures.specs.Parts.{lay_link};
 use crate::ends::end;
 use crate::place::Place;
 use crate::translations::through;
-use dsde_check_tables::Member;
+use dsde_language::given::names::Names;
+use dsde_language::{Make, Tables};
 use dsde_lists::Memory;
-use dsde_names::Names;
-use dsde_program_nodes::{Make, Tables};
+use dsde_program_expressions::given::check_tables::Member;
 use dsde_syntax::{End, ViaPart};
 
 /// Lays a link: its ends, and then its translation.

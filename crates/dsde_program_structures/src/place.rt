@@ -2,17 +2,17 @@
 
 ghost use Rattle.std.specs.Prelude.{◌≡◌, IfOk};
 ghost use Rattle.std.specs.Option.{option_copied};
-ghost use Rattle.dsde_declared.specs.Structures.{end_ports, kid_ports, place_of_items};
+ghost use Rattle.dsde_language.specs.DeclaredStructures.{end_ports, kid_ports, place_of_items};
 ghost use Rattle.dsde_program_structures.specs.Sides.{gate_at};
 
 use crate::families::families;
 use crate::gate::Gate;
 use crate::gates::declared;
 use crate::structures::Structures;
-use dsde_check_tables::{FamilyEntry, Member};
+use dsde_language::given::names::Names;
 use dsde_lists::{Boxed, Memory};
-use dsde_names::Names;
 use dsde_program_expressions::Resolver;
+use dsde_program_expressions::given::check_tables::{FamilyEntry, Member};
 use dsde_syntax::{Body, EndPart, Item, PortDecl};
 use std::marker::Model;
 
@@ -26,7 +26,7 @@ pub(crate) struct Place<'p, 'm> {
 }
 
 impl<'p, 'm> Model for Place<'p, 'm> {
-    ghost use Rattle.dsde_declared.specs.Structures.{Place};
+    ghost use Rattle.dsde_language.specs.DeclaredStructures.{Place};
     ghost use Rattle.dsde_program_structures.specs.Stored.{place_code};
 
     ghost Value = { Place };

@@ -2,22 +2,22 @@
 
 ghost use Rattle.std.specs.Prelude.{◌≡◌, [], slice_get, IfOk, OnOk};
 ghost use Rattle.std.specs.Option.{option_copied};
-ghost use Rattle.dsde_declared.specs.Structures.{place_of_items};
-ghost use Rattle.dsde_program_nodes.specs.Statements.{body_scope};
-ghost use Rattle.dsde_program_layout.specs.LayPieces.{over};
-ghost use Rattle.dsde_program_layout.specs.LayItems.{lay_items};
+ghost use Rattle.dsde_language.specs.DeclaredStructures.{place_of_items};
+ghost use Rattle.dsde_language.specs.Statements.{body_scope};
+ghost use Rattle.dsde_program_expressions.specs.given.program_layout.LayPieces.{over};
+ghost use Rattle.dsde_program_expressions.specs.given.program_layout.LayItems.{lay_items};
 ghost use Rattle.dsde_program_structures.specs.Sides.{gates_of};
 
 use crate::gate::Gate;
 use crate::gates::gates;
 use crate::items::items;
 use crate::place::Place;
-use dsde_check_tables::Member;
+use dsde_language::given::names::Names;
+use dsde_language::{Make, Tables};
 use dsde_lists::Memory;
-use dsde_names::Names;
 use dsde_program_expressions::Resolver;
-use dsde_program_nodes::{Make, Tables};
-use dsde_program_slots::body_scope;
+use dsde_program_expressions::given::check_tables::Member;
+use dsde_program_expressions::given::program_slots::body_scope;
 use dsde_syntax::{Body, Item, PortDecl, Typed};
 use dsde_values::Seq;
 use std::marker::Model;
@@ -34,8 +34,8 @@ pub struct Structures<'m> {
 
 impl<'m> Model for Structures<'m> {
     ghost use Rattle.std.specs.Prelude.{◌≡◌, []};
-    ghost use Rattle.dsde_check_rules.specs.declared.known.Known.{Known};
-    ghost use Rattle.dsde_check_rules.specs.contracts.known.Known as whole;
+    ghost use Rattle.dsde_language.specs.declared.known.Known.{Known};
+    ghost use Rattle.dsde_language.specs.contracts.known.Known as whole;
     ghost use Rattle.dsde_program_structures.specs.Sides.{gates_of};
 
     ghost Value = { Known };

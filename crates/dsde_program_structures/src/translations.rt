@@ -1,19 +1,18 @@
 //! The translations of links.
 
 ghost use Rattle.std.specs.Prelude.{◌≡◌, [], None, Some, false, true, length, IfOk, OnOk};
-ghost use Rattle.dsde_declared.specs.Names.{with_slot};
-ghost use Rattle.dsde_program_layout.specs.LayItems.{lay_via, via_body, via_by};
+ghost use Rattle.dsde_language.specs.Names.{with_slot};
+ghost use Rattle.dsde_program_expressions.specs.given.program_layout.LayItems.{lay_via, via_body, via_by};
 ghost use Rattle.dsde_program_structures.specs.Parts.{lay_through};
 
 use crate::arguments::{laid, number};
 use crate::place::Place;
-use dsde_check_tables::{Member, narrow};
-use dsde_declared::ViaId;
+use dsde_language::given::names::Names;
+use dsde_language::{MakeVia, Tables, ViaCode, ViaId};
 use dsde_lists::Memory;
-use dsde_names::Names;
+use dsde_program_expressions::given::check_tables::{Member, narrow};
+use dsde_program_expressions::given::program_slots::{bind, slot_type};
 use dsde_program_expressions::{Laid, Resolver};
-use dsde_program_nodes::{MakeVia, Tables, ViaCode};
-use dsde_program_slots::{bind, slot_type};
 use dsde_syntax::{End, ViaKey, ViaPart};
 use dsde_values::Ty;
 

@@ -4,7 +4,7 @@ use Rattle.std.specs.Prelude.{IsPermutation}
 use Rattle.std.specs.List.{flat_map, AllByRecursion}
 use Rattle.dsde_bank.specs.declared.handle.Handle.{Handle}
 use Rattle.dsde_values.specs.declared.name.Name.{Name}
-use Rattle.dsde_structure.specs.declared.plan.Link.{Link}
+use Rattle.dsde_routes_wiring.specs.given.structure.plan_Link.{Link}
 use Rattle.dsde_routes_wiring.specs.declared.row.Row.{Row}
 use Rattle.dsde_routes_wiring.specs.declared.wiring.WiredKid.{WiredKid}
 use Rattle.dsde_routes_wiring.specs.declared.wiring.Wiring.{Wiring}
@@ -14,19 +14,19 @@ use Rattle.dsde_routes_wiring.specs.Routes.{own, row_of, routes, routed}
 use Rattle.dsde_routes_wiring.specs.Places.{changed, bared, renewed, nets_at, kids_at, has_name, going, staying, inside, through}
 use Rattle.dsde_routes_wiring.specs.Touched.{handles_of, handles_of_kid, is_touched}
 use Rattle.dsde_routes_wiring.specs.Rows.{among}
-use Rattle.dsde_repair_laws.specs.Weights.{weight}
-use Rattle.dsde_repair_laws.specs.Bounds.{AreDistinct, count}
+use Rattle.dsde_repair_walks.specs.Weights.{weight}
+use Rattle.dsde_repair_walks.specs.Bounds.{AreDistinct, count}
 use Rattle.dsde_routes_wiring.specs.Wired.{IsWired, AreWired, LeadsInside}
-use Rattle.dsde_structure.specs.Survival.{AreInOrder}
+use Rattle.dsde_routes_wiring.specs.given.structure.Survival.{AreInOrder}
 use Rattle.std.specs.List.Sorted.{IsStrictlySortedBy}
 use Rattle.dsde_routes_wiring.specs.Opened.{Beneath}
-use Rattle.dsde_repair_laws.proofs.Counting.{wired-named}
-use Rattle.dsde_repair_laws.proofs.Changes.{changed-chain, kids-there, me-after}
-use Rattle.dsde_repair_laws.proofs.Shapes.{KidEach, net-of, changed-each, nets-each}
-use Rattle.dsde_repair_laws.proofs.Repairs.{rows-after}
-use Rattle.dsde_repair_laws.proofs.Sets.{in-flatten}
-use Rattle.dsde_repair_laws.proofs.Sizes.{changes-count}
-use Rattle.dsde_repair_laws.proofs.Each.{each-append, each-filter}
+use Rattle.dsde_repair_walks.proofs.Counting.{wired-named}
+use Rattle.dsde_repair_walks.proofs.Changes.{changed-chain, kids-there, me-after}
+use Rattle.dsde_repair_walks.proofs.Shapes.{KidEach, net-of, changed-each, nets-each}
+use Rattle.dsde_repair_walks.proofs.Repairs.{rows-after}
+use Rattle.dsde_repair_walks.proofs.Sets.{in-flatten}
+use Rattle.dsde_repair_walks.proofs.Sizes.{changes-count}
+use Rattle.dsde_repair_walks.proofs.Each.{each-append, each-filter}
 use Rattle.dsde_repair.proofs.Crossings.{kids-below-wired}
 use Rattle.dsde_repair_walks.specs.Found.{InOrder}
 use Rattle.dsde_repair_walks.specs.Places.{BelowWired, IsBelowWired}

@@ -4,7 +4,7 @@ use Rattle.std.proofs.lemmas.List.{map-append}
 use Rattle.std.specs.List.{flat_map, enumerate_from, AllByRecursion}
 use Rattle.dsde_bank.specs.declared.handle.Handle.{Handle}
 use Rattle.dsde_values.specs.declared.name.Name.{Name}
-use Rattle.dsde_structure.specs.declared.plan.Link.{Link}
+use Rattle.dsde_routes_wiring.specs.given.structure.plan_Link.{Link}
 use Rattle.dsde_routes_wiring.specs.declared.row.Row.{Row}
 use Rattle.dsde_routes_wiring.specs.declared.side.Side.TheVariants.{Out, Into}
 use Rattle.dsde_routes_wiring.specs.declared.wiring.WiredKid.{WiredKid}
@@ -15,9 +15,9 @@ use Rattle.dsde_routes_wiring.specs.Routes.{Step, Around, Inner, Numbered, row_o
 use Rattle.dsde_routes_wiring.specs.Places.{inside}
 use Rattle.dsde_routes_wiring.specs.Touched.{handles_of, handles_of_kid}
 use Rattle.dsde_routes_wiring.specs.Wired.{IsWired, AreWired}
-use Rattle.dsde_repair_laws.proofs.Handles.{handles-is}
+use Rattle.dsde_repair_walks.proofs.Handles.{handles-is}
 use Rattle.dsde_routes_wiring.specs.Opened.{Beneath}
-use Rattle.dsde_repair_laws.proofs.Shapes.{KidEach, net-below}
+use Rattle.dsde_repair_walks.proofs.Shapes.{KidEach, net-below}
 use Rattle.dsde_repair_walks.specs.declared.way.Way.{Way}
 use Rattle.dsde_repair_walks.specs.Places.{BelowWired, IsBelowWired}
 use Rattle.dsde_repair_walks.specs.Walks.{ranked, met_row, met_rows, crossed_rows, beyond}

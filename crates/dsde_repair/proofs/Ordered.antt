@@ -10,11 +10,11 @@ use Rattle.std.proofs.lemmas.List.Sorted.{sum_by-IsPermutation, All-permutation,
 use Rattle.std.proofs.lemmas.List.Elements.{All-from_recursion, recursion_from_All}
 use Rattle.dsde_values.specs.declared.name.Name.{Name}
 use Rattle.dsde_values.specs.Path.{name_cmp}
-use Rattle.dsde_structure.specs.Gather.{is_same_name}
+use Rattle.dsde_routes_wiring.specs.given.structure.Gather.{is_same_name}
 use Rattle.dsde_routes_wiring.specs.declared.wiring.WiredKid.{WiredKid}
-use Rattle.dsde_repair_laws.specs.Weights.{weight, weight-append}
-use Rattle.dsde_repair_laws.specs.Bounds.{count}
-use Rattle.dsde_repair_laws.proofs.Counting.{total, same-names, one-each}
+use Rattle.dsde_repair_walks.specs.Weights.{weight, weight-append}
+use Rattle.dsde_repair_walks.specs.Bounds.{count}
+use Rattle.dsde_repair_walks.proofs.Counting.{total, same-names, one-each}
 use Rattle.dsde_repair_walks.specs.Found.{InOrder, name_of, is_named}
 
 weight-sum : {X : Type 0} (g : X → ℕ) (xs : List X) → weight g xs ≡ sum_by g xs

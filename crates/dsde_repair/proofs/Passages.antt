@@ -3,11 +3,11 @@ use Rattle.std.proofs.Common.{◌≡◌, ℕ, Bool, true, false, if◌then◌els
 use Rattle.std.specs.List.{flat_map, enumerate_from, AllByRecursion}
 use Rattle.dsde_bank.specs.declared.handle.Handle.{Handle}
 use Rattle.dsde_values.specs.declared.name.Name.{Name}
-use Rattle.dsde_structure.specs.declared.plan.End.{End}
-use Rattle.dsde_structure.specs.declared.plan.Link.{Link}
-use Rattle.dsde_structure.specs.declared.plan.Part.{Part}
-use Rattle.dsde_structure.specs.declared.plan.Part.TheVariants as part
-use Rattle.dsde_structure.specs.Gather.{is_same_name}
+use Rattle.dsde_routes_wiring.specs.given.structure.plan_End.{End}
+use Rattle.dsde_routes_wiring.specs.given.structure.plan_Link.{Link}
+use Rattle.dsde_routes_wiring.specs.given.structure.plan_Part.{Part}
+use Rattle.dsde_routes_wiring.specs.given.structure.plan_Part_TheVariants as part
+use Rattle.dsde_routes_wiring.specs.given.structure.Gather.{is_same_name}
 use Rattle.dsde_routes_wiring.specs.declared.side.Side.{Side}
 use Rattle.dsde_routes_wiring.specs.declared.wiring.WiredKid.{WiredKid}
 use Rattle.dsde_routes_wiring.specs.declared.wiring.Wiring.{Wiring}
@@ -18,8 +18,8 @@ use Rattle.dsde_routes_wiring.specs.Side.{near, far}
 use Rattle.dsde_routes_wiring.specs.Routes.{Ways, Around, Inner, is_border, extended, ways_by, net_ways, at_part, at_end, of_kid, links_of, step_from, within, no_ways, inner_of, inner_of_kid}
 use Rattle.dsde_routes_wiring.specs.Places.{changed, bared, kid_changed, only, passing, passing_kid}
 use Rattle.dsde_routes_wiring.specs.Wired.{AreWired}
-use Rattle.dsde_repair_laws.proofs.Opens.{inner-roll, kid-is}
-use Rattle.dsde_repair_laws.proofs.Shapes.{same-name}
+use Rattle.dsde_repair_walks.proofs.Opens.{inner-roll, kid-is}
+use Rattle.dsde_repair_walks.proofs.Shapes.{same-name}
 use Rattle.dsde_repair_walks.specs.declared.way.Way.{Way}
 use Rattle.dsde_repair_walks.specs.Found.{is_named, IsAt}
 use Rattle.dsde_repair_walks.specs.Places.{IsBelowWired}

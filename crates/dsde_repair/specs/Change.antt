@@ -1,7 +1,7 @@
 -- A change of one network.
 use Rattle.std.specs.Prelude.{◌≡◌, List, [], ◌∷◌, ◌++◌}
 use Rattle.dsde_values.specs.declared.name.Name.{Name}
-use Rattle.dsde_structure.specs.declared.plan.Link.{Link}
+use Rattle.dsde_routes_wiring.specs.given.structure.plan_Link.{Link}
 use Rattle.dsde_routes_wiring.specs.declared.wiring.WiredKid.{WiredKid}
 use Rattle.dsde_routes_wiring.specs.declared.wiring.Wiring.{Wiring}
 use Rattle.std.specs.FinSet as set

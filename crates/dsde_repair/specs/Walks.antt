@@ -3,8 +3,8 @@ use Rattle.std.specs.Prelude.{ℕ, Bool, List, map, drop}
 use Rattle.std.specs.List.{flat_map, enumerate_from}
 use Rattle.dsde_bank.specs.declared.handle.Handle.{Handle}
 use Rattle.dsde_values.specs.declared.name.Name.{Name}
-use Rattle.dsde_structure.specs.declared.plan.End.{End}
-use Rattle.dsde_structure.specs.declared.plan.Link.{Link}
+use Rattle.dsde_routes_wiring.specs.given.structure.plan_End.{End}
+use Rattle.dsde_routes_wiring.specs.given.structure.plan_Link.{Link}
 use Rattle.dsde_routes_wiring.specs.declared.row.Row.{Row}
 use Rattle.dsde_routes_wiring.specs.declared.side.Side.{Side}
 use Rattle.dsde_routes_wiring.specs.declared.wiring.WiredKid.{WiredKid}

@@ -2,7 +2,7 @@
 
 ghost use Rattle.std.specs.Prelude.{◌++◌, map, IfOk, IsPermutation};
 ghost use Rattle.std.specs.List.{IsDistinct};
-ghost use Rattle.dsde_structure.specs.Gather.{is_same_name};
+ghost use Rattle.dsde_routes_wiring.specs.given.structure.Gather.{is_same_name};
 ghost use Rattle.dsde_repair_walks.specs.Found.{InOrder, name_of};
 
 use crate::parts::together;

@@ -3,15 +3,15 @@
 ghost use Rattle.std.specs.Prelude.{◌≡◌, ◌+◌, ◌&&◌, ◌||◌, not, ◌++◌, IfOk, OnOk};
 ghost use Rattle.dsde_routes_wiring.specs.declared.row.Row.{Row};
 ghost use Rattle.std.specs.FinSet as set;
-ghost use Rattle.dsde_structure.specs.Survival.{AreInOrder};
+ghost use Rattle.dsde_routes_wiring.specs.given.structure.Survival.{AreInOrder};
 ghost use Rattle.dsde_routes_wiring.specs.Places.{going, staying};
 ghost use Rattle.dsde_routes_wiring.specs.Rows.{among};
 ghost use Rattle.dsde_repair.specs.Change.{without};
 
 use dsde_base::Steps;
 use dsde_lists::Memory;
+use dsde_repair_walks::given::routes_table::RouteTable;
 use dsde_repair_walks::{insert_all, is_among, remove_all};
-use dsde_routes_table::RouteTable;
 use dsde_routes_wiring::{Row, WiredKid};
 use dsde_values::{Name, Seq};
 use std::alloc::Global;

@@ -11,8 +11,8 @@ ghost use Rattle.dsde_repair.specs.Walks.{at_ways, over_link, past_around, past_
 
 use dsde_lists::Memory;
 use dsde_repair_walks::{Way, extend_all, find_kid, is_border_end, one_way, ways_of_kid};
+use dsde_routes_wiring::given::structure::{End, Link, Part};
 use dsde_routes_wiring::{Side, WiredKid, Wiring, far, near};
-use dsde_structure::{End, Link, Part};
 use dsde_values::{Name, Seq};
 use std::alloc::Global;
 

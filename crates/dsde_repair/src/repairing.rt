@@ -2,10 +2,10 @@
 
 ghost use Rattle.std.specs.Prelude.{◌≡◌, ◌+◌, List, [], ◌∷◌, ◌++◌, map, IsPermutation, OnOk};
 ghost use Rattle.std.specs.List.{flat_map, AllByRecursion, IsDistinct};
-ghost use Rattle.dsde_repair_laws.specs.Bounds.{count};
+ghost use Rattle.dsde_repair_walks.specs.Bounds.{count};
 ghost use Rattle.dsde_routes_wiring.specs.Wired.{AreWired, LeadsInside, is_same_handle};
-ghost use Rattle.dsde_structure.specs.Gather.{is_same_name};
-ghost use Rattle.dsde_structure.specs.Survival.{AreInOrder};
+ghost use Rattle.dsde_routes_wiring.specs.given.structure.Gather.{is_same_name};
+ghost use Rattle.dsde_routes_wiring.specs.given.structure.Survival.{AreInOrder};
 ghost use Rattle.dsde_routes_wiring.specs.declared.wiring.WiredKid.{WiredKid};
 ghost use Rattle.dsde_routes_wiring.specs.declared.wiring.Wiring.{Wiring};
 ghost use Rattle.dsde_routes_wiring.specs.declared.wiring.WiredKid.TheViews.{out-Wiring};
@@ -23,8 +23,8 @@ use crate::rows::inside_rows;
 use crate::through::passing_rows;
 use dsde_base::Steps;
 use dsde_lists::Memory;
+use dsde_repair_walks::given::routes_table::RouteTable;
 use dsde_repair_walks::{renew, take_out};
-use dsde_routes_table::RouteTable;
 use dsde_routes_wiring::{Links, WiredKid, Wiring};
 use dsde_values::{Name, Seq};
 use std::alloc::Global;

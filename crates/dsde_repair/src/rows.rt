@@ -12,8 +12,8 @@ ghost use Rattle.dsde_repair.specs.Walks.{at_ways, crossed_link, open_around};
 
 use dsde_lists::Memory;
 use dsde_repair_walks::{Way, cross, one_way, ways_of_end};
+use dsde_routes_wiring::given::structure::{End, Link, Part};
 use dsde_routes_wiring::{Row, Side, WiredKid, Wiring};
-use dsde_structure::{End, Link, Part};
 use dsde_values::Seq;
 use std::alloc::Global;
 

@@ -14,8 +14,8 @@ use crate::past::open_past;
 use crate::rows::{crossing_rows, open_ways};
 use dsde_lists::Memory;
 use dsde_repair_walks::{cross, find_kid};
+use dsde_routes_wiring::given::structure::{Link, Part};
 use dsde_routes_wiring::{Row, Side, Wiring};
-use dsde_structure::{Link, Part};
 use dsde_values::{Name, Seq};
 use std::alloc::Global;
 

@@ -4,7 +4,7 @@ use Rattle.std.specs.Bool.{OnTrue}
 use Rattle.std.specs.List.{AllByRecursion, flat_map}
 use Rattle.dsde_bank.specs.declared.handle.Handle.{Handle}
 use Rattle.dsde_values.specs.declared.name.Name.{Name}
-use Rattle.dsde_structure.specs.Survival.{AreInOrder}
+use Rattle.dsde_routes_wiring.specs.given.structure.Survival.{AreInOrder}
 use Rattle.dsde_routes_wiring.specs.declared.wiring.WiredKid.{WiredKid}
 use Rattle.dsde_routes_wiring.specs.declared.wiring.Wiring.{Wiring}
 use Rattle.dsde_routes_wiring.specs.declared.wiring.WiredKid.TheViews.{out-Wiring, out-WiredKid, roll-out-Wiring}
@@ -12,8 +12,8 @@ use Rattle.dsde_routes_wiring.specs.Opened.{Beneath}
 use Rattle.dsde_routes_wiring.specs.Places.{below_at, nets_at, kid_at}
 use Rattle.dsde_routes_wiring.specs.Touched.{handles_of, handles_of_kid}
 use Rattle.dsde_routes_wiring.specs.Wired.{AreWired, IsWired, LeadsInside}
-use Rattle.dsde_repair_laws.proofs.Handles.{handles-is, below_known, kid-handles}
-use Rattle.dsde_repair_laws.proofs.Shapes.{net-of}
+use Rattle.dsde_repair_walks.proofs.Handles.{handles-is, below_known, kid-handles}
+use Rattle.dsde_repair_walks.proofs.Shapes.{net-of}
 use Rattle.dsde_repair_walks.specs.Found.{IsAt, IsOne, InOrder, is_named}
 use Rattle.dsde_repair_walks.specs.Places.{BelowWired, IsBelowWired}
 use Rattle.dsde_repair_walks.proofs.Finding.{names-of, some-one, kid-at}

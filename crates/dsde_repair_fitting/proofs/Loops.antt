@@ -9,7 +9,7 @@ use Rattle.std.proofs.lemmas.Map.Keys.{IsDistinct-cons}
 use Rattle.dsde_bank.specs.declared.handle.Handle.{Handle}
 use Rattle.dsde_values.specs.declared.name.Name.{Name}
 use Rattle.dsde_values.specs.Path.{name_cmp}
-use Rattle.dsde_structure.specs.Survival.{AreInOrder}
+use Rattle.dsde_routes_wiring.specs.given.structure.Survival.{AreInOrder}
 use Rattle.dsde_routes_wiring.specs.Wired.{is_same_handle}
 use Rattle.dsde_repair_fitting.specs.Rising.{AreRising, IsBefore, IsOlder}
 

@@ -3,8 +3,8 @@
 ghost use Rattle.std.specs.Prelude.{◌++◌, map, IfOk};
 ghost use Rattle.std.specs.Bool.{OnTrue};
 ghost use Rattle.std.specs.List.{flat_map, AllByRecursion, IsDistinct};
-ghost use Rattle.dsde_structure.specs.Gather.{is_same_name};
-ghost use Rattle.dsde_structure.specs.Survival.{AreInOrder};
+ghost use Rattle.dsde_routes_wiring.specs.given.structure.Gather.{is_same_name};
+ghost use Rattle.dsde_routes_wiring.specs.given.structure.Survival.{AreInOrder};
 ghost use Rattle.dsde_routes_wiring.specs.Wired.{AreWired, LeadsInside, is_same_handle};
 ghost use Rattle.dsde_routes_wiring.specs.Touched.{handles_of, handles_of_kid};
 ghost use Rattle.dsde_repair_walks.specs.Found.{name_of};
@@ -17,8 +17,8 @@ use crate::handles::{add_beneath, add_handles};
 use crate::names::{add_names, add_staying, are_different, are_in_order};
 use crate::wired::{are_wired_below, is_wired, lead_inside, net_at};
 use dsde_lists::Memory;
+use dsde_routes_wiring::given::structure::Link;
 use dsde_routes_wiring::{WiredKid, Wiring};
-use dsde_structure::Link;
 use dsde_values::{Name, Seq};
 use std::alloc::Global;
 

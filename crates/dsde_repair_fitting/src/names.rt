@@ -3,8 +3,8 @@
 ghost use Rattle.std.specs.Prelude.{◌≡◌, [], ◌∷◌, ◌++◌, map, IfOk, OnOk};
 ghost use Rattle.std.specs.Bool.{OnTrue};
 ghost use Rattle.std.specs.List.{IsDistinct};
-ghost use Rattle.dsde_structure.specs.Gather.{is_same_name};
-ghost use Rattle.dsde_structure.specs.Survival.{AreInOrder};
+ghost use Rattle.dsde_routes_wiring.specs.given.structure.Gather.{is_same_name};
+ghost use Rattle.dsde_routes_wiring.specs.given.structure.Survival.{AreInOrder};
 ghost use Rattle.dsde_routes_wiring.specs.Places.{staying};
 ghost use Rattle.dsde_repair_walks.specs.Found.{name_of};
 ghost use Rattle.dsde_repair_fitting.specs.Rising.{IsBefore};

@@ -10,8 +10,8 @@ ghost use Rattle.dsde_repair_walks.specs.Places.{IsBelowWired};
 use crate::names::{add_names, are_in_order};
 use dsde_lists::Memory;
 use dsde_repair_walks::find_kid;
+use dsde_routes_wiring::given::structure::{Link, Part};
 use dsde_routes_wiring::{WiredKid, Wiring};
-use dsde_structure::{Link, Part};
 use dsde_values::{Name, Seq};
 use std::alloc::Global;
 

@@ -4,14 +4,14 @@ use Rattle.std.specs.List.{flat_map, AllByRecursion}
 use Rattle.dsde_values.specs.declared.name.Name.{Name}
 use Rattle.dsde_routes_wiring.specs.declared.wiring.WiredKid.{WiredKid}
 use Rattle.dsde_routes_wiring.specs.declared.wiring.Wiring.{Wiring}
-use Rattle.dsde_structure.specs.declared.plan.Link.{Link}
+use Rattle.dsde_routes_wiring.specs.given.structure.plan_Link.{Link}
 use Rattle.dsde_routes_wiring.specs.declared.wiring.WiredKid.TheOpen.{Wiring-F}
 use Rattle.dsde_routes_wiring.specs.declared.wiring.WiredKid.TheViews.{out-Wiring, out-WiredKid, roll-Wiring, roll-out-Wiring, out-roll-Wiring}
 use Rattle.dsde_routes_wiring.specs.Places.{changed, renewed, kid_changed, kid_at, kids_at}
 use Rattle.dsde_routes_wiring.specs.Wired.{Wired, IsWired, AreWired}
 use Rattle.dsde_routes_wiring.specs.Opened.{Beneath}
-use Rattle.dsde_repair_laws.proofs.Shapes.{wired_of, net-here, net-below}
-use Rattle.dsde_structure.specs.Survival.{AreInOrder}
+use Rattle.dsde_repair_walks.proofs.Shapes.{wired_of, net-here, net-below}
+use Rattle.dsde_routes_wiring.specs.given.structure.Survival.{AreInOrder}
 use Rattle.dsde_repair_walks.specs.Found.{name_of, is_named, InOrder, IsAt, IsOne}
 use Rattle.dsde_repair_walks.proofs.Searching.{Found}
 use Rattle.dsde_repair_walks.specs.Places.{BelowWired, IsBelowWired, kid_with, kids_below}

@@ -1,5 +1,24 @@
-pub mod Serving
-pub mod Searching
+pub mod Adding
+pub mod Bridging
+pub mod Changes
+pub mod Counting
+pub mod Distinct
+pub mod Each
+pub mod Elsewhere
 pub mod Finding
-pub mod Walking
+pub mod Gathers
+pub mod Handles
+pub mod Keeping
+pub mod Opens
+pub mod Passes
+pub mod Repairs
+pub mod Searching
+pub mod Serving
+pub mod Sets
+pub mod Shapes
+pub mod Sizes
 mod Ticking
+pub mod Touches
+pub mod Touching
+pub mod Uses
+pub mod Walking

@@ -12,7 +12,7 @@ use Rattle.std.proofs.lemmas.List.Sorted.{searchable_from_sorted}
 use Rattle.std.proofs.lemmas.Map.Keys.{sorted_head, sorted_tail}
 use Rattle.dsde_values.specs.declared.name.Name.{Name}
 use Rattle.dsde_values.specs.Path.{name_cmp}
-use Rattle.dsde_structure.specs.Gather.{is_same_name}
+use Rattle.dsde_routes_wiring.specs.given.structure.Gather.{is_same_name}
 
 pub total : IsTotalOrder name_cmp
 total = search (comparing, rules)

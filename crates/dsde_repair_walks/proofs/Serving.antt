@@ -1,9 +1,9 @@
 -- The links with an end at a part serve for all, where nothing comes of the others.
 use Rattle.std.proofs.Common.{◌≡◌, ℕ, zero, suc, ◌+◌, ◌<◌, ◌≤◌, get_or, drop, arith, append-nil, Bool, true, false, if◌then◌else◌, List, [], ◌∷◌, ◌++◌, length, slice_get, refl, sym, ap, ◌∙◌, append_assoc, length-append, Option, Some, None}
 use Rattle.std.specs.List.{flat_map, enumerate_from}
-use Rattle.dsde_structure.specs.declared.plan.Link.{Link}
-use Rattle.dsde_structure.specs.declared.plan.Part.{Part}
-use Rattle.dsde_structure.specs.Gather.{is_part}
+use Rattle.dsde_routes_wiring.specs.given.structure.plan_Link.{Link}
+use Rattle.dsde_routes_wiring.specs.given.structure.plan_Part.{Part}
+use Rattle.dsde_routes_wiring.specs.given.structure.Gather.{is_part}
 use Rattle.dsde_routes_wiring.specs.declared.side.Side.{Side}
 use Rattle.dsde_routes_wiring.specs.Side.{near}
 use Rattle.dsde_routes_wiring.specs.Numbers.{number_if, numbers_at}

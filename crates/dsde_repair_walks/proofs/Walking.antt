@@ -5,10 +5,10 @@ use Rattle.std.specs.List.{flat_map, enumerate_from, AllByRecursion}
 use Rattle.std.specs.Option.{option_to_list}
 use Rattle.dsde_bank.specs.declared.handle.Handle.{Handle}
 use Rattle.dsde_values.specs.declared.name.Name.{Name}
-use Rattle.dsde_structure.specs.declared.plan.End.{End}
-use Rattle.dsde_structure.specs.declared.plan.Link.{Link}
-use Rattle.dsde_structure.specs.declared.plan.Part.TheVariants as part
-use Rattle.dsde_structure.specs.Gather.{is_part, is_same_name}
+use Rattle.dsde_routes_wiring.specs.given.structure.plan_End.{End}
+use Rattle.dsde_routes_wiring.specs.given.structure.plan_Link.{Link}
+use Rattle.dsde_routes_wiring.specs.given.structure.plan_Part_TheVariants as part
+use Rattle.dsde_routes_wiring.specs.given.structure.Gather.{is_part, is_same_name}
 use Rattle.dsde_routes_wiring.specs.declared.side.Side.{Side}
 use Rattle.dsde_routes_wiring.specs.declared.side.Side.TheVariants.{Out, Into}
 use Rattle.dsde_routes_wiring.specs.declared.wiring.WiredKid.{WiredKid}
@@ -19,10 +19,10 @@ use Rattle.dsde_routes_wiring.specs.Routes as route
 use Rattle.dsde_routes_wiring.specs.Side.{near, far}
 use Rattle.dsde_routes_wiring.specs.Numbers.{numbers_at}
 use Rattle.dsde_routes_wiring.specs.Routes.{Step, Inner, Numbered, is_border, extended, ways_by, at_part, at_end, of_kid, no_ways, around_of, links_of, step_from, inner_of, inner_of_kid}
-use Rattle.dsde_structure.specs.declared.plan.Part.{Part}
+use Rattle.dsde_routes_wiring.specs.given.structure.plan_Part.{Part}
 use Rattle.dsde_routes_wiring.specs.Touched.{handles_of, handles_of_kid}
-use Rattle.dsde_repair_laws.proofs.Opens.{inner-is, kid-is}
-use Rattle.dsde_repair_laws.proofs.Handles.{handles-is, kid-handles, below_known}
+use Rattle.dsde_repair_walks.proofs.Opens.{inner-is, kid-is}
+use Rattle.dsde_repair_walks.proofs.Handles.{handles-is, kid-handles, below_known}
 use Rattle.dsde_repair_walks.specs.declared.way.Way.{Way}
 use Rattle.dsde_repair_walks.specs.Found.{is_named, IsAt}
 use Rattle.dsde_repair_walks.specs.Walks.{link_at, ranked, extended_way, ways_over, ways_at, kid_ways}

@@ -2,8 +2,8 @@
 use Rattle.std.specs.Prelude.{◌≡◌, ℕ, ◌++◌, Bool, true, false, List, ◌∷◌, length, map, slice_get, Some}
 use Rattle.std.specs.List.{AllByRecursion}
 use Rattle.dsde_values.specs.declared.name.Name.{Name}
-use Rattle.dsde_structure.specs.Gather.{is_same_name}
-use Rattle.dsde_structure.specs.Survival.{AreInOrder}
+use Rattle.dsde_routes_wiring.specs.given.structure.Gather.{is_same_name}
+use Rattle.dsde_routes_wiring.specs.given.structure.Survival.{AreInOrder}
 use Rattle.dsde_routes_wiring.specs.declared.wiring.WiredKid.{WiredKid}
 use Rattle.dsde_routes_wiring.specs.declared.wiring.WiredKid.TheViews.{out-WiredKid}
 

@@ -5,8 +5,8 @@ ghost use Rattle.dsde_repair_walks.specs.Walks.{extended_way, met_row, met_rows,
 
 use crate::way::Way;
 use dsde_lists::Memory;
+use dsde_routes_wiring::given::structure::Link;
 use dsde_routes_wiring::{Chain, Row, Side};
-use dsde_structure::Link;
 use dsde_values::Seq;
 use std::alloc::Global;
 

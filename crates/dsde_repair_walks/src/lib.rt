@@ -1,9 +1,12 @@
-//! Routes of a wiring are kept where one of its networks changes.
+//! Routes of a wiring where one of its networks changes: the laws of what the definitions of routes
+//! keep, and the walks that take rows out and put rows in.
 #![tactic(auto)]
 
 mod crossing;
 mod ends;
 mod found;
+pub mod given;
+mod laws;
 mod place;
 mod table;
 mod taking;
@@ -13,6 +16,10 @@ mod way;
 pub use crossing::{cross, extend_all};
 pub use ends::is_border_end;
 pub use found::{find_kid, index_of, is_among};
+pub use laws::{
+    a_change_leaves_the_others, a_change_touches_few, a_change_touches_these, routes_are_gathered,
+    rows_are_counted, rows_are_routes, rows_follow_a_change,
+};
 pub use place::renew;
 pub use table::{insert_all, remove_all};
 pub use taking::take_out;

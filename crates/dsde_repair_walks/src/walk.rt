@@ -13,8 +13,8 @@ use crate::found::index_of;
 use crate::way::{Way, one_way};
 use dsde_bank::Handle;
 use dsde_lists::Memory;
+use dsde_routes_wiring::given::structure::{End, Link, Part};
 use dsde_routes_wiring::{Side, WiredKid, Wiring, far, near};
-use dsde_structure::{End, Link, Part};
 use dsde_values::Seq;
 use std::alloc::Global;
 

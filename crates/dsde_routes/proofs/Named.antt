@@ -7,7 +7,7 @@ use Rattle.std.specs.Cmp.{IsTotalOrder}
 use Rattle.std.specs.Cmp.Rules.{comparing}
 use Rattle.dsde_values.specs.declared.name.Name.{Name}
 use Rattle.dsde_values.specs.Path.{name_cmp}
-use Rattle.dsde_structure.specs.Gather.{is_same_name}
+use Rattle.dsde_routes_wiring.specs.given.structure.Gather.{is_same_name}
 use Rattle.dsde_routes.specs.declared.sent.Sent.{Sent}
 use Rattle.dsde_routes_wiring.specs.declared.row.Passing.{Passing}
 use Rattle.dsde_routes.specs.Passing.{found, is_name, in_list, comes_to}

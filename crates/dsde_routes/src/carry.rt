@@ -9,7 +9,7 @@ use crate::ways::{begin_over, go_over};
 use dsde_bank::Handle;
 use dsde_lists::Memory;
 use dsde_routes_wiring::Passing;
-use dsde_structure::{Link, Part};
+use dsde_routes_wiring::given::structure::{Link, Part};
 use dsde_values::Seq;
 use std::alloc::Global;
 

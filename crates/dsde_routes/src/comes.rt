@@ -2,7 +2,7 @@
 
 ghost use Rattle.std.specs.Prelude.{◌≡◌, [], ◌++◌, OnOk, if◌then◌else◌};
 ghost use Rattle.dsde_values.specs.declared.name.Name.{Name};
-ghost use Rattle.dsde_structure.specs.Gather.{is_same_name};
+ghost use Rattle.dsde_routes_wiring.specs.given.structure.Gather.{is_same_name};
 ghost use Rattle.dsde_routes.specs.Passing.{comes_to};
 
 use dsde_lists::Memory;

@@ -2,8 +2,8 @@
 
 ghost use Rattle.std.specs.Prelude.{◌≡◌, ◌+◌, ◌++◌, ℕ, [], IfOk, OnOk, if◌then◌else◌, map};
 ghost use Rattle.std.specs.FinSet as set;
-ghost use Rattle.dsde_structure.specs.Gather.{is_part};
-ghost use Rattle.dsde_structure.specs.declared.plan.Part.TheVariants as part;
+ghost use Rattle.dsde_routes_wiring.specs.given.structure.Gather.{is_part};
+ghost use Rattle.dsde_routes_wiring.specs.given.structure.plan_Part_TheVariants as part;
 ghost use Rattle.dsde_values.specs.declared.name.Name.{Name};
 ghost use Rattle.dsde_routes_wiring.specs.Flatten.{flatten, flow, row_of};
 ghost use Rattle.dsde_routes.specs.Passing.{carry, comes_to, from_parts, passing, rows_by, ways_got};
@@ -19,8 +19,8 @@ use dsde_bank::Handle;
 use dsde_base::Steps;
 use dsde_lists::Memory;
 use dsde_routes_table::RouteTable;
+use dsde_routes_wiring::given::structure::{Link, Part};
 use dsde_routes_wiring::{Passing, Row, WiredKid, Wiring};
-use dsde_structure::{Link, Part};
 use dsde_values::Seq;
 use std::alloc::Global;
 use std::sync::ledger::Ledger;

@@ -4,6 +4,7 @@
 mod carry;
 mod comes;
 mod flowing;
+pub mod given;
 mod ports;
 mod sending;
 mod sent;

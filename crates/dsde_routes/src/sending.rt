@@ -1,8 +1,8 @@
 //! The ways that the networks of a wiring send.
 
 ghost use Rattle.std.specs.Prelude.{◌≡◌, ◌++◌, ℕ, [], IfOk, OnOk, if◌then◌else◌, map};
-ghost use Rattle.dsde_structure.specs.Gather.{is_part};
-ghost use Rattle.dsde_structure.specs.declared.plan.Part.TheVariants as part;
+ghost use Rattle.dsde_routes_wiring.specs.given.structure.Gather.{is_part};
+ghost use Rattle.dsde_routes_wiring.specs.given.structure.plan_Part_TheVariants as part;
 ghost use Rattle.dsde_routes_wiring.specs.Ways.{nowhere};
 ghost use Rattle.dsde_routes_wiring.specs.Flatten.{flow, flow_of_kid, ways_at};
 ghost use Rattle.dsde_routes.specs.Passing.{carry, from_parts, passing, ways_in, ways_of};
@@ -14,8 +14,8 @@ use crate::ports::{GotWays, SentWays};
 use crate::sent::{Sent, Sents};
 use dsde_bank::Handle;
 use dsde_lists::Memory;
+use dsde_routes_wiring::given::structure::{Link, Part};
 use dsde_routes_wiring::{Passing, WiredKid, Wiring};
-use dsde_structure::{Link, Part};
 use dsde_values::Seq;
 use std::alloc::Global;
 

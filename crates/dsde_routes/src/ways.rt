@@ -7,8 +7,8 @@ ghost use Rattle.dsde_routes.specs.Ports.{numbers_at, way_at};
 
 use dsde_bank::Handle;
 use dsde_lists::Memory;
+use dsde_routes_wiring::given::structure::Link;
 use dsde_routes_wiring::{Chain, Passing, Rank, Way};
-use dsde_structure::Link;
 use dsde_values::Seq;
 use std::alloc::Global;
 

@@ -9,13 +9,13 @@ use Rattle.std.proofs.lemmas.Grind.{flat_map-append}
 use Rattle.std.specs.Prelude.{◌==◌, ◌&&◌, option_and_then, option_to_list, filter}
 use Rattle.std.specs.List.{flat_map, filter_map, range_with_len, cons_option}
 use Rattle.dsde_values.specs.declared.value.Value.{Value}
-use Rattle.dsde_structure.specs.declared.plan.End.{End}
-use Rattle.dsde_structure.specs.declared.plan.Link.{Link}
-use Rattle.dsde_structure.specs.declared.plan.Part.{Part}
-use Rattle.dsde_structure.specs.declared.plan.Via.{Via}
-use Rattle.dsde_structure.specs.declared.sources.Sources.{Sources}
-use Rattle.dsde_structure.specs.Gather as gather
-use Rattle.dsde_structure.specs.Gather.{Translation, Ports, through, carried, gather, gathered, is_end, is_part, is_same_name}
+use Rattle.dsde_routes_wiring.specs.given.structure.plan_End.{End}
+use Rattle.dsde_routes_wiring.specs.given.structure.plan_Link.{Link}
+use Rattle.dsde_routes_wiring.specs.given.structure.plan_Part.{Part}
+use Rattle.dsde_routes_wiring.specs.given.structure.plan_Via.{Via}
+use Rattle.dsde_routes_wiring.specs.given.structure.sources_Sources.{Sources}
+use Rattle.dsde_routes_wiring.specs.given.structure.Gather as gather
+use Rattle.dsde_routes_wiring.specs.given.structure.Gather.{Translation, Ports, through, carried, gather, gathered, is_end, is_part, is_same_name}
 use Rattle.dsde_routes_wiring.specs.Ways as ways
 use Rattle.dsde_routes_wiring.specs.declared.row.Way.{Way}
 use Rattle.dsde_routes_wiring.specs.Ways.{Ways, Sent, onward, begin, over, coming}

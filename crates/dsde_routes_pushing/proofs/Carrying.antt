@@ -6,12 +6,12 @@ use Rattle.std.specs.List.{flat_map, filter_map, AllByRecursion}
 use Rattle.dsde_bank.specs.declared.handle.Handle.{Handle}
 use Rattle.dsde_values.specs.declared.name.Name.{Name}
 use Rattle.dsde_values.specs.declared.value.Value.{Value}
-use Rattle.dsde_structure.specs.declared.plan.Link.{Link}
-use Rattle.dsde_structure.specs.declared.plan.Part.TheVariants as part
-use Rattle.dsde_structure.specs.declared.sources.Given.{Given}
-use Rattle.dsde_structure.specs.declared.sources.Sources.{Sources}
-use Rattle.dsde_structure.specs.Gather as gather
-use Rattle.dsde_structure.specs.Gather.{Ports, gathered, is_same_name}
+use Rattle.dsde_routes_wiring.specs.given.structure.plan_Link.{Link}
+use Rattle.dsde_routes_wiring.specs.given.structure.plan_Part_TheVariants as part
+use Rattle.dsde_routes_wiring.specs.given.structure.sources_Given.{Given}
+use Rattle.dsde_routes_wiring.specs.given.structure.sources_Sources.{Sources}
+use Rattle.dsde_routes_wiring.specs.given.structure.Gather as gather
+use Rattle.dsde_routes_wiring.specs.given.structure.Gather.{Ports, gathered, is_same_name}
 use Rattle.dsde_routes_wiring.specs.declared.wiring.Wiring.{Wiring}
 use Rattle.dsde_routes_wiring.specs.declared.wiring.WiredKid.{WiredKid}
 use Rattle.dsde_routes_wiring.specs.declared.wiring.WiredKid.TheViews.{out-Wiring, out-WiredKid}

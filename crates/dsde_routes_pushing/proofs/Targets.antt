@@ -2,9 +2,9 @@
 use Rattle.std.proofs.Common.{◌≡◌, ℕ, ◌+◌, Bool, true, false, cond, List, [], ◌∷◌, map, sym, ap, subst, ◌∙◌, inl, inr}
 use Rattle.std.specs.FinSet as set
 use Rattle.dsde_bank.specs.declared.handle.Handle.{Handle}
-use Rattle.dsde_structure.specs.declared.plan.Link.{Link}
-use Rattle.dsde_structure.specs.declared.plan.Part.{Part}
-use Rattle.dsde_structure.specs.Gather.{is_part}
+use Rattle.dsde_routes_wiring.specs.given.structure.plan_Link.{Link}
+use Rattle.dsde_routes_wiring.specs.given.structure.plan_Part.{Part}
+use Rattle.dsde_routes_wiring.specs.given.structure.Gather.{is_part}
 use Rattle.dsde_routes_wiring.specs.declared.row.Row.{Row}
 use Rattle.dsde_routes_wiring.specs.declared.row.Way.{Way}
 use Rattle.dsde_routes_wiring.specs.declared.wiring.Wiring.{Wiring}

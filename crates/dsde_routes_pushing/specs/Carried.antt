@@ -5,12 +5,12 @@ use Rattle.std.specs.List.{flat_map, filter_map}
 use Rattle.dsde_bank.specs.declared.handle.Handle.{Handle}
 use Rattle.dsde_values.specs.declared.name.Name.{Name}
 use Rattle.dsde_values.specs.declared.value.Value.{Value}
-use Rattle.dsde_structure.specs.declared.plan.Link.{Link}
-use Rattle.dsde_structure.specs.declared.plan.Part.TheVariants as part
-use Rattle.dsde_structure.specs.declared.plan.Via.{Via}
-use Rattle.dsde_structure.specs.declared.sources.Given.{Given}
-use Rattle.dsde_structure.specs.declared.sources.Sources.{Sources}
-use Rattle.dsde_structure.specs.Gather.{Translation, Ports, gathered}
+use Rattle.dsde_routes_wiring.specs.given.structure.plan_Link.{Link}
+use Rattle.dsde_routes_wiring.specs.given.structure.plan_Part_TheVariants as part
+use Rattle.dsde_routes_wiring.specs.given.structure.plan_Via.{Via}
+use Rattle.dsde_routes_wiring.specs.given.structure.sources_Given.{Given}
+use Rattle.dsde_routes_wiring.specs.given.structure.sources_Sources.{Sources}
+use Rattle.dsde_routes_wiring.specs.given.structure.Gather.{Translation, Ports, gathered}
 use Rattle.dsde_routes_wiring.specs.declared.row.Row.{Row}
 use Rattle.dsde_routes_wiring.specs.declared.wiring.Wiring.{Wiring}
 use Rattle.dsde_routes_wiring.specs.declared.wiring.WiredKid.{WiredKid}

@@ -1,10 +1,10 @@
 -- Traffic that fits a wiring.
 use Rattle.std.specs.Prelude.{◌≡◌, ℕ, ◌<◌, true, List}
 use Rattle.std.specs.List.{AllByRecursion}
-use Rattle.dsde_structure.specs.declared.plan.Link.{Link}
-use Rattle.dsde_structure.specs.declared.plan.Part.{Part}
-use Rattle.dsde_structure.specs.declared.plan.Part.TheVariants as part
-use Rattle.dsde_structure.specs.Gather.{is_part}
+use Rattle.dsde_routes_wiring.specs.given.structure.plan_Link.{Link}
+use Rattle.dsde_routes_wiring.specs.given.structure.plan_Part.{Part}
+use Rattle.dsde_routes_wiring.specs.given.structure.plan_Part_TheVariants as part
+use Rattle.dsde_routes_wiring.specs.given.structure.Gather.{is_part}
 use Rattle.dsde_routes_wiring.specs.declared.wiring.Wiring.{Wiring}
 use Rattle.dsde_routes_wiring.specs.Wired.{Shape, shapes}
 use Rattle.dsde_routes_pushing.specs.Carried.{Traffic}

@@ -2,3 +2,4 @@ pub mod Carried
 pub mod Fitting
 pub mod Pushed
 pub mod lemmas
+pub mod given

@@ -9,7 +9,7 @@ use Rattle.std.specs.Cmp.{eq_by_cmp_equiv}
 use Rattle.std.specs.Map.{lookup}
 use Rattle.std.specs.BTreeMap.{BTreeMap, get_by, is_at}
 use Rattle.std.proofs.lemmas.Map.Views.{Contains-from_any, list_any-from_Contains}
-use Rattle.dsde_bank.specs.declared.handle.Handle.{Handle}
+use Rattle.dsde_routes_wiring.specs.given.bank.handle_Handle.{Handle}
 use Rattle.dsde_routes_wiring.specs.declared.row.Row.{Row}
 use Rattle.dsde_routes_wiring.specs.Sets.{row_cmp-total}
 use Rattle.dsde_routes_wiring.specs.Flatten.{is_from}

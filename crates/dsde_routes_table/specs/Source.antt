@@ -2,7 +2,7 @@
 use Rattle.std.specs.Prelude.{ℕ}
 use Rattle.std.specs.Ordering.{nat_cmp, on, then_cmp}
 use Rattle.std.specs.declared.cmp.Ordering.{Ordering}
-use Rattle.dsde_bank.specs.declared.handle.Handle.{Handle}
+use Rattle.dsde_routes_wiring.specs.given.bank.handle_Handle.{Handle}
 use Rattle.dsde_routes_wiring.specs.declared.row.Row.{Row}
 use Rattle.dsde_routes_table.specs.declared.source.Source.{Source}
 

@@ -4,9 +4,9 @@ ghost use Rattle.std.specs.Prelude.{◌≡◌, ◌↔◌, IsTrue};
 ghost use Rattle.dsde_routes_table.specs.Order.{target_cmp};
 
 use dsde_routes_wiring::Row;
-use dsde_structure::Via;
+use dsde_routes_wiring::given::structure::Via;
+use dsde_routes_wiring::given::values_equality::are_same;
 use dsde_values::{Value, equal};
-use dsde_values_equality::are_same;
 use std::cmp::Ordering;
 
 /// The order of two rows from one port: by the birth of the target, its port, and the rank.

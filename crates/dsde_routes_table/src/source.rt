@@ -7,7 +7,7 @@ ghost use Rattle.std.specs.Cmp.Rules.{comparing};
 ghost use Rattle.std.specs.Ordering.{as_partial_cmp};
 ghost use Rattle.dsde_routes_table.specs.Source.{source_at, source_cmp};
 
-use dsde_bank::Handle;
+use dsde_routes_wiring::given::bank::Handle;
 use std::cmp::Ordering;
 
 /// A port of a source.

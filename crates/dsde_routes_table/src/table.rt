@@ -8,10 +8,10 @@ ghost use Rattle.dsde_routes_table.specs.Order.{AreInOrder, AreOnce};
 
 use crate::bucket::Bucket;
 use crate::source::Source;
-use dsde_bank::Handle;
 use dsde_base::Steps;
 use dsde_lists::Memory;
 use dsde_routes_wiring::Row;
+use dsde_routes_wiring::given::bank::Handle;
 use std::alloc::Global;
 use std::collections::BTreeMap;
 use std::marker::Model;

@@ -6,34 +6,34 @@ use Rattle.std.specs.List.{AllByRecursion, flat_map}
 use Rattle.dsde_bank.specs.declared.handle.Handle.{Handle}
 use Rattle.dsde_values.specs.declared.name.Name.{Name}
 use Rattle.dsde_values.specs.declared.path.Path.{Path}
-use Rattle.dsde_formalism.specs.declared.leaf.Leaf.{Leaf}
-use Rattle.dsde_formalism.specs.System.{System, Ports}
-use Rattle.dsde_formalism.specs.Leaf.{component_of}
+use Rattle.dsde_sim_movers.specs.given.formalism.leaf_Leaf.{Leaf}
+use Rattle.dsde_sim_movers.specs.given.formalism.System.{System, Ports}
+use Rattle.dsde_sim_movers.specs.given.formalism.Leaf.{component_of}
 use Rattle.dsde_faults.specs.declared.end.LeafEnd.{LeafEnd}
-use Rattle.dsde_structure.specs.declared.plan.Link.{Link}
-use Rattle.dsde_structure.specs.declared.plan.Part.TheVariants as part
-use Rattle.dsde_structure.specs.declared.sources.Given.{Given}
-use Rattle.dsde_structure.specs.declared.sources.Sources.{Sources}
-use Rattle.dsde_structure.specs.Gather.{gathered}
-use Rattle.dsde_sim_events.specs.declared.fault.TurnEnd.{TurnEnd}
-use Rattle.dsde_sim_events.specs.Told.{below, at, to_boss}
-use Rattle.dsde_sim_tree.specs.declared.sim.Kid.{Kid}
-use Rattle.dsde_sim_tree.specs.declared.sim.Net.{Net}
-use Rattle.dsde_sim_tree.specs.declared.sim.Sim.{Sim}
-use Rattle.dsde_sim_tree.specs.declared.sim.Sim.TheFolds.{fold-roll-Sim, fold-roll-Kid, fold-roll-Net}
-use Rattle.dsde_sim_tree.specs.declared.sim.Sim.TheOpen.{Sim-F}
-use Rattle.dsde_sim_tree.specs.declared.sim.Sim.TheOpen as layer
-use Rattle.dsde_sim_tree.specs.declared.sim.Sim.TheVariants as sim
-use Rattle.dsde_sim_tree.specs.declared.sim.Sim.TheViews.{out-Kid, out-Net, roll-out-Kid, roll-out-Net, out-roll-Sim, rolls-Leaf, rolls-Net}
-use Rattle.dsde_sim_tree.specs.Move.{ins_of}
-use Rattle.dsde_sim_tree.specs.Output.{◌>>=◌, sent, Answer, KidAnswer, asked, sources_of, output_step, output_kid, output_net, output, kid_output, output_of_net}
-use Rattle.dsde_sim_tree.specs.lemmas.Trees.{each_tree}
-use Rattle.dsde_sim_delivery.specs.Deliveries as tree
-use Rattle.dsde_sim_delivery.specs.Deliveries.{KidReceives, shared, deliveries, deliveries_of_kid}
-use Rattle.dsde_sim_delivery.specs.lemmas.Opens.{deliveries-Leaf, deliveries-Net, deliveries-kid}
-use Rattle.dsde_routes_wiring.specs.declared.wiring.Wiring.{Wiring}
-use Rattle.dsde_routes_wiring.specs.declared.wiring.WiredKid.{WiredKid}
-use Rattle.dsde_routes_wiring.specs.declared.wiring.WiredKid.TheOpen.{Wiring-F, WiredKid-F}
+use Rattle.dsde_routes_pushing.specs.given.structure.plan_Link.{Link}
+use Rattle.dsde_routes_pushing.specs.given.structure.plan_Part_TheVariants as part
+use Rattle.dsde_routes_pushing.specs.given.structure.sources_Given.{Given}
+use Rattle.dsde_routes_pushing.specs.given.structure.sources_Sources.{Sources}
+use Rattle.dsde_routes_pushing.specs.given.structure.Gather.{gathered}
+use Rattle.dsde_sim_movers.specs.given.sim_tree.fault_TurnEnd.{TurnEnd}
+use Rattle.dsde_sim_movers.specs.given.sim_tree.Told.{below, at, to_boss}
+use Rattle.dsde_sim_movers.specs.given.sim_tree.sim_Kid.{Kid}
+use Rattle.dsde_sim_movers.specs.given.sim_tree.sim_Net.{Net}
+use Rattle.dsde_sim_movers.specs.given.sim_tree.sim_Sim.{Sim}
+use Rattle.dsde_sim_movers.specs.given.sim_tree.sim_Sim_TheFolds.{fold-roll-Sim, fold-roll-Kid, fold-roll-Net}
+use Rattle.dsde_sim_movers.specs.given.sim_tree.sim_Sim_TheOpen.{Sim-F}
+use Rattle.dsde_sim_movers.specs.given.sim_tree.sim_Sim_TheOpen as layer
+use Rattle.dsde_sim_movers.specs.given.sim_tree.sim_Sim_TheVariants as sim
+use Rattle.dsde_sim_movers.specs.given.sim_tree.sim_Sim_TheViews.{out-Kid, out-Net, roll-out-Kid, roll-out-Net, out-roll-Sim, rolls-Leaf, rolls-Net}
+use Rattle.dsde_sim_movers.specs.given.sim_tree.Move.{ins_of}
+use Rattle.dsde_sim_movers.specs.given.sim_tree.Output.{◌>>=◌, sent, Answer, KidAnswer, asked, sources_of, output_step, output_kid, output_net, output, kid_output, output_of_net}
+use Rattle.dsde_sim_movers.specs.given.sim_tree.lemmas_Trees.{each_tree}
+use Rattle.dsde_sim_movers.specs.Deliveries as tree
+use Rattle.dsde_sim_movers.specs.Deliveries.{KidReceives, shared, deliveries, deliveries_of_kid}
+use Rattle.dsde_sim_movers.specs.lemmas.Opens.{deliveries-Leaf, deliveries-Net, deliveries-kid}
+use Rattle.dsde_routes_pushing.specs.given.routes_wiring.wiring_Wiring.{Wiring}
+use Rattle.dsde_routes_pushing.specs.given.routes_wiring.wiring_WiredKid.{WiredKid}
+use Rattle.dsde_routes_pushing.specs.given.routes_wiring.wiring_WiredKid_TheOpen.{Wiring-F, WiredKid-F}
 use Rattle.dsde_routes_pushing.specs.Carried as load
 use Rattle.dsde_routes_pushing.specs.Carried.{Traffic, Delivery, KidLoad, NetLoad, load, load_of_kid}
 use Rattle.dsde_routes_pushing.specs.lemmas.Opens.{load-opens, load_kid-opens}

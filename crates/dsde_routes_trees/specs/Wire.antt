@@ -5,22 +5,22 @@ use Rattle.std.specs.List.{flat_map, AllByRecursion}
 use Rattle.dsde_bank.specs.declared.handle.Handle.{Handle}
 use Rattle.dsde_values.specs.declared.path.Path.{Path}
 use Rattle.dsde_values.specs.declared.value.Value.{Value}
-use Rattle.dsde_declared.specs.declared.ids.ModelId.{ModelId}
-use Rattle.dsde_formalism.specs.declared.leaf.Leaf.{Leaf}
-use Rattle.dsde_formalism.specs.System.{System}
-use Rattle.dsde_formalism.specs.Leaf.{component_of}
-use Rattle.dsde_sim_events.specs.Told.{below, to_boss}
-use Rattle.dsde_sim_tree.specs.declared.sim.Kid.{Kid}
-use Rattle.dsde_sim_tree.specs.declared.sim.Net.{Net}
-use Rattle.dsde_sim_tree.specs.declared.sim.Sim.{Sim}
-use Rattle.dsde_sim_tree.specs.declared.sim.Sim.TheFolds.{fold-Sim, fold-Kid, fold-Net}
-use Rattle.dsde_sim_tree.specs.declared.sim.Sim.TheOpen.{Sim-F, Net-F, Kid-F}
-use Rattle.dsde_sim_tree.specs.declared.sim.Sim.TheOpen as layer
-use Rattle.dsde_sim_tree.specs.Output.{sent}
-use Rattle.dsde_sim_delivery.specs.Deliveries as tree
-use Rattle.dsde_routes_wiring.specs.declared.wiring.Wiring.{Wiring}
-use Rattle.dsde_routes_wiring.specs.declared.wiring.WiredKid.{WiredKid}
-use Rattle.dsde_routes_wiring.specs.declared.wiring.WiredKid.TheViews.{roll-Wiring, roll-WiredKid}
+use Rattle.dsde_sim_movers.specs.given.language.ids_ModelId.{ModelId}
+use Rattle.dsde_sim_movers.specs.given.formalism.leaf_Leaf.{Leaf}
+use Rattle.dsde_sim_movers.specs.given.formalism.System.{System}
+use Rattle.dsde_sim_movers.specs.given.formalism.Leaf.{component_of}
+use Rattle.dsde_sim_movers.specs.given.sim_tree.Told.{below, to_boss}
+use Rattle.dsde_sim_movers.specs.given.sim_tree.sim_Kid.{Kid}
+use Rattle.dsde_sim_movers.specs.given.sim_tree.sim_Net.{Net}
+use Rattle.dsde_sim_movers.specs.given.sim_tree.sim_Sim.{Sim}
+use Rattle.dsde_sim_movers.specs.given.sim_tree.sim_Sim_TheFolds.{fold-Sim, fold-Kid, fold-Net}
+use Rattle.dsde_sim_movers.specs.given.sim_tree.sim_Sim_TheOpen.{Sim-F, Net-F, Kid-F}
+use Rattle.dsde_sim_movers.specs.given.sim_tree.sim_Sim_TheOpen as layer
+use Rattle.dsde_sim_movers.specs.given.sim_tree.Output.{sent}
+use Rattle.dsde_sim_movers.specs.Deliveries as tree
+use Rattle.dsde_routes_pushing.specs.given.routes_wiring.wiring_Wiring.{Wiring}
+use Rattle.dsde_routes_pushing.specs.given.routes_wiring.wiring_WiredKid.{WiredKid}
+use Rattle.dsde_routes_pushing.specs.given.routes_wiring.wiring_WiredKid_TheViews.{roll-Wiring, roll-WiredKid}
 use Rattle.dsde_routes_pushing.specs.Carried.{Traffic, Delivery}
 
 -- the wiring of a part at a path, if it is a network, of a component and of a network

@@ -11,3 +11,4 @@ pub mod Places
 pub mod Touched
 pub mod Gathered
 pub mod Keys
+pub mod given

@@ -7,7 +7,7 @@ ghost use Rattle.dsde_structure.specs.Gather.{is_part, is_same_name};
 ghost use Rattle.dsde_routes_wiring.specs.Numbers.{number_if, numbers_at, numbers_named, numbers_of};
 
 use crate::side::{Side, near};
-use dsde_lists::Memory;
+use dsde_bank::given::lists::Memory;
 use dsde_structure::{Link, Part};
 use dsde_values::{Name, Seq, one_name};
 use std::alloc::Global;

@@ -2,6 +2,7 @@
 //! come to, one for each route from a source to a target.
 #![tactic(auto)]
 
+pub mod given;
 mod index;
 mod links;
 mod row;

@@ -5,7 +5,7 @@ ghost use Rattle.dsde_routes_wiring.specs.Numbers.{numbers_at};
 
 use crate::index::Index;
 use crate::side::Side;
-use dsde_lists::Memory;
+use dsde_bank::given::lists::Memory;
 use dsde_structure::{Link, Part};
 use dsde_values::Seq;
 use std::alloc::Global;

@@ -2,7 +2,7 @@
 
 ghost use Rattle.std.specs.Prelude.{◌≡◌, [], ◌∷◌, ◌++◌, OnOk, OnErr, IfOk, option_to_list};
 
-use dsde_lists::Memory;
+use dsde_bank::given::lists::Memory;
 use dsde_structure::{Link, Via};
 use dsde_values::{Value, copy_value};
 use smallvec::SmallVec;

@@ -2,7 +2,7 @@
 
 use crate::Links;
 use dsde_bank::Handle;
-use dsde_lists::Boxed;
+use dsde_bank::given::lists::Boxed;
 use dsde_values::{Name, Seq};
 
 /// A network: its own handle, its executive's, its links, and its components in the order of their

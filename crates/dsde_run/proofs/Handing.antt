@@ -4,8 +4,8 @@ use Rattle.std.specs.Prelude.{Option, Some, None}
 use Rattle.std.proofs.lemmas.List.{append-nil, take-append-drop}
 use Rattle.std.proofs.Math.Seq.{take-append-add, take-append_seam}
 use Rattle.dsde_io.specs.Bytes.{Gains, GainsFront}
-use Rattle.dsde_sim_events.specs.declared.event.Finish.{Finish}
-use Rattle.dsde_sim_turns.specs.Engine.{Engine}
+use Rattle.dsde_sim_tree.specs.declared.event.Finish.{Finish}
+use Rattle.dsde_sim_tree.specs.Engine.{Engine}
 use Rattle.dsde_trace.specs.declared.pick.Pick.{Pick}
 use Rattle.dsde_run.specs.Run.{Running, kept_text}
 use Rattle.dsde_run_meaning.specs.Run.{Run}

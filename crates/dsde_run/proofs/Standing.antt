@@ -8,13 +8,13 @@ use Rattle.dsde_input_records.specs.declared.end.InputEnd.{InputEnd}
 use Rattle.dsde_input_records.specs.declared.end.InputEnd.TheVariants as input_end
 use Rattle.dsde_input_records.specs.declared.end.InputEnd.TheVariants.{ReadFault}
 use Rattle.dsde_input_records.specs.Records.{Records, end, bad, one}
-use Rattle.dsde_sim_events.specs.declared.event.Event.TheVariants as event
-use Rattle.dsde_sim_events.specs.declared.event.Finish.{Finish}
-use Rattle.dsde_sim_events.specs.declared.event.Finish.TheVariants as how
-use Rattle.dsde_sim_events.specs.Told.{Told}
-use Rattle.dsde_sim_turns.specs.declared.step.Step.{Step}
-use Rattle.dsde_sim_turns.specs.Engine.{Engine}
-use Rattle.dsde_input.specs.Reader.{Reader, IsOffence, has_line, with_more, TakesOfLine}
+use Rattle.dsde_sim_tree.specs.declared.event.Event.TheVariants as event
+use Rattle.dsde_sim_tree.specs.declared.event.Finish.{Finish}
+use Rattle.dsde_sim_tree.specs.declared.event.Finish.TheVariants as how
+use Rattle.dsde_sim_tree.specs.Told.{Told}
+use Rattle.dsde_sim_tree.specs.declared.step.Step.{Step}
+use Rattle.dsde_sim_tree.specs.Engine.{Engine}
+use Rattle.dsde_input_skip.specs.given.input.Reader.{Reader, IsOffence, has_line, with_more, TakesOfLine}
 use Rattle.dsde_trace.specs.declared.pick.Pick.{Pick}
 use Rattle.dsde_run.specs.declared.run.Head.{Head}
 use Rattle.dsde_run.specs.declared.run.Head.TheVariants.{Wanted, Over, Is}

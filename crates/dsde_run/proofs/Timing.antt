@@ -1,13 +1,13 @@
 -- The head behind a turn, and the next record, are not before its time.
 use Rattle.std.proofs.Common.{◌≡◌, ◌≢◌, ℕ, ◌≤◌, Bool, true, false, refl, arith}
 use Rattle.std.specs.Prelude.{Some, IfSome}
-use Rattle.dsde_input.specs.Reader.{Reader, least_time}
-use Rattle.dsde_sim_turns.specs.Engine.{Engine}
+use Rattle.dsde_input_skip.specs.given.input.Reader.{Reader, least_time}
+use Rattle.dsde_sim_tree.specs.Engine.{Engine}
 use Rattle.dsde_run.specs.declared.run.Head.{Head}
 use Rattle.dsde_run.specs.declared.run.Head.TheVariants.{Wanted, Over, Is}
 use Rattle.dsde_run.specs.Run.{Running}
 use Rattle.dsde_run.specs.Steps.{ComesBy, Waits, record_of, passed}
-use Rattle.dsde_run_engine.specs.Advancing.{IsTimely}
+use Rattle.dsde_run.specs.Advancing.{IsTimely}
 
 -- the head comes by the in ports of the model
 pub waits-comes : (own : Running) (time : ℕ) (reader : Reader) (head : Head) → Waits own time reader head → IfSome (record_of head) (ComesBy own)

@@ -1,7 +1,7 @@
 -- How the turns of a run end, in one list.
 use Rattle.std.specs.Prelude.{Result, Ok, Err}
-use Rattle.dsde_sim_events.specs.declared.event.Finish.{Finish}
-use Rattle.dsde_sim_events.specs.declared.event.Finish.TheVariants as how
+use Rattle.dsde_sim_tree.specs.declared.event.Finish.{Finish}
+use Rattle.dsde_sim_tree.specs.declared.event.Finish.TheVariants as how
 use Rattle.dsde_run.specs.declared.run.Cut.{Cut}
 use Rattle.dsde_run.specs.declared.run.Cut.TheVariants as cut
 use Rattle.dsde_run.specs.declared.ends.RunEnd.{RunEnd}

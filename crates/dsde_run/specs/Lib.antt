@@ -1,5 +1,12 @@
+pub mod Advancing
+pub mod Counting
 pub mod Ends
 pub mod Reading
+pub mod Resumed
+pub mod Resuming
 pub mod Run
+pub mod Saved
+pub mod SavedRuns
 pub mod Steps
 pub mod lemmas
+pub mod given

@@ -3,14 +3,14 @@ use Rattle.std.specs.Prelude.{ℕ, Bool, List, Option}
 use Rattle.dsde_syntax.specs.declared.decl.Model.{Model}
 use Rattle.dsde_values.specs.declared.arrival.Arrival.{Arrival}
 use Rattle.dsde_input_records.specs.Records.{Records}
-use Rattle.dsde_declared.specs.Models.{top_ins, types_of}
-use Rattle.dsde_system.specs.Program.{system}
-use Rattle.dsde_sim_events.specs.declared.event.Event.{Event}
-use Rattle.dsde_sim_events.specs.declared.fault.TurnEnd.{TurnEnd}
-use Rattle.dsde_sim_turns.specs.declared.step.Step.{Step}
-use Rattle.dsde_sim_turns.specs.Engine.{Engine}
-use Rattle.dsde_sim_events.specs.Told.{Told}
-use Rattle.dsde_sim_turns.specs.Turn as turn
+use Rattle.dsde_language.specs.DeclaredModels.{top_ins, types_of}
+use Rattle.dsde_image_written.specs.given.system.Program.{system}
+use Rattle.dsde_sim_tree.specs.declared.event.Event.{Event}
+use Rattle.dsde_sim_tree.specs.declared.fault.TurnEnd.{TurnEnd}
+use Rattle.dsde_sim_tree.specs.declared.step.Step.{Step}
+use Rattle.dsde_sim_tree.specs.Engine.{Engine}
+use Rattle.dsde_sim_tree.specs.Told.{Told}
+use Rattle.dsde_sim_tree.specs.Turn as turn
 use Rattle.dsde_run_meaning.specs.Run as runs
 use Rattle.dsde_run_meaning.specs.Run.{Run, Spots}
 use Rattle.dsde_trace.specs.Pick as pick

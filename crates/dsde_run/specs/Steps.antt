@@ -3,23 +3,23 @@ use Rattle.std.specs.Prelude.{ℕ, ◌+◌, ◌≡◌, ◌≢◌, ◌≤◌, ◌
 use Rattle.dsde_io.specs.Bytes.{Gains, GainsFront}
 use Rattle.dsde_values.specs.When.{IsMoment}
 use Rattle.dsde_input_records.specs.Record.{AreItems}
-use Rattle.dsde_declared.specs.declared.ids.ModelId.{ModelId}
-use Rattle.dsde_declared.specs.Models.{top_ins, top_number, types_of}
-use Rattle.dsde_sim_working.specs.Working as sim
-use Rattle.dsde_sim_working.specs.Working.{HeadComes, working}
+use Rattle.dsde_language.specs.declared.ids.ModelId.{ModelId}
+use Rattle.dsde_language.specs.DeclaredModels.{top_ins, top_number, types_of}
+use Rattle.dsde_core.specs.given.sim_working.Working as sim
+use Rattle.dsde_core.specs.given.sim_working.Working.{HeadComes, working}
 use Rattle.dsde_values.specs.declared.arrival.Arrival.{Arrival}
 use Rattle.dsde_input_records.specs.declared.end.InputEnd.{InputEnd}
 use Rattle.dsde_input_records.specs.declared.end.InputEnd.TheVariants.{ReadFault}
 use Rattle.dsde_input_records.specs.Records.{Records, end, bad, one}
-use Rattle.dsde_sim_events.specs.Told.{Told, Tells}
-use Rattle.dsde_sim_events.specs.declared.event.Event.{Event}
-use Rattle.dsde_sim_events.specs.declared.event.Event.TheVariants as event
-use Rattle.dsde_sim_events.specs.declared.fault.TurnEnd.{TurnEnd}
-use Rattle.dsde_sim_turns.specs.declared.step.Step.{Step}
+use Rattle.dsde_sim_tree.specs.Told.{Told, Tells}
+use Rattle.dsde_sim_tree.specs.declared.event.Event.{Event}
+use Rattle.dsde_sim_tree.specs.declared.event.Event.TheVariants as event
+use Rattle.dsde_sim_tree.specs.declared.fault.TurnEnd.{TurnEnd}
+use Rattle.dsde_sim_tree.specs.declared.step.Step.{Step}
 use Rattle.dsde_syntax.specs.declared.decl.Model.{Model}
-use Rattle.dsde_sim_events.specs.declared.event.Finish.{Finish}
-use Rattle.dsde_sim_turns.specs.Engine.{Engine}
-use Rattle.dsde_input.specs.Reader.{Reader, IsOffence, least_time, to_come, records, TakesOfLine}
+use Rattle.dsde_sim_tree.specs.declared.event.Finish.{Finish}
+use Rattle.dsde_sim_tree.specs.Engine.{Engine}
+use Rattle.dsde_input_skip.specs.given.input.Reader.{Reader, IsOffence, least_time, to_come, records, TakesOfLine}
 use Rattle.dsde_trace.specs.declared.pick.Pick.{Pick}
 use Rattle.dsde_trace.specs.declared.pick.Pick.TheVariants.{Outputs}
 use Rattle.dsde_run.specs.declared.run.Head.{Head}
@@ -29,7 +29,7 @@ use Rattle.dsde_run.specs.declared.run.Unready.TheVariants as unready
 use Rattle.dsde_run.specs.declared.run.After.{After}
 use Rattle.dsde_run.specs.declared.run.After.TheVariants.{Turned, Ended}
 use Rattle.dsde_run.specs.Run.{Running, event_text, turn_by, kept_text}
-use Rattle.dsde_run_engine.specs.Advancing.{IsTurned}
+use Rattle.dsde_run.specs.Advancing.{IsTurned}
 use Rattle.dsde_run_meaning.specs.Run.{Run, offended, ended}
 use Rattle.dsde_run.specs.Reading.{feeds, IsWhole, TakesWanted, IsFront}
 use Rattle.dsde_run.specs.declared.run.Cut.{Cut}

@@ -3,17 +3,19 @@
 ghost use Rattle.std.specs.Prelude.{◌≡◌, ◌++◌, OnOk, OnErr};
 ghost use Rattle.dsde_values.specs.Value.{IsLawful};
 ghost use Rattle.dsde_input_records.specs.Record.{ArePorts};
-ghost use Rattle.dsde_declared.specs.Models.{top_ins, types_of};
+ghost use Rattle.dsde_language.specs.DeclaredModels.{top_ins, types_of};
 ghost use Rattle.dsde_run_meaning.specs.Run.{spot_at};
 ghost use Rattle.dsde_run.specs.Run.{running, event_text};
 ghost use Rattle.dsde_run.specs.Steps.{ItemsCome};
 
+use dsde_image_walk::given::sound_structures::{
+    ports_are_lawful, top_is_declared, types_are_lawful,
+};
+use dsde_image_written::given::sound_expressions::bodies_stand;
 use dsde_lexer::Places;
-use dsde_program::Program;
-use dsde_program_declared::infos_are_declared;
-use dsde_sim_events::Event;
-use dsde_sound_inputs::{ports_are_lawful, top_is_declared, types_are_lawful};
-use dsde_sound_places::bodies_stand;
+use dsde_program_layout::infos_are_declared;
+use dsde_sim_tree::Event;
+use dsde_trace::given::program::Program;
 use dsde_trace::write_event;
 use dsde_values::{Field, Memory, Seq, Text, Types};
 use std::marker::Model;
@@ -32,8 +34,8 @@ impl<'p> Model for Running<'p> {
     ghost use Rattle.std.specs.Coded.{codes};
     ghost use Rattle.dsde_syntax.specs.contracts.decl.Model as model;
     ghost use Rattle.dsde_run.specs.Run as own;
-    ghost use Rattle.dsde_check_rules.specs.Right.{IsRight};
-    ghost use Rattle.dsde_declared.specs.Models.{top_ins};
+    ghost use Rattle.dsde_language.specs.Right.{IsRight};
+    ghost use Rattle.dsde_language.specs.DeclaredModels.{top_ins};
     ghost use Rattle.dsde_input_records.specs.Record.{ArePorts};
 
     ghost Value = { own.Running };

@@ -2,19 +2,18 @@
 
 ghost use Rattle.std.specs.Prelude.{◌≡◌, ◌≤◌, ◌^◌, Ok, [], true, is_some, IfOk, IsErrOf, IsSomeAnd};
 ghost use Rattle.dsde_io.specs.Fault.{Rose};
-ghost use Rattle.dsde_sim_events.specs.Told as told;
-ghost use Rattle.dsde_sim_events.specs.declared.fault.TurnEnd.{TurnEnd};
+ghost use Rattle.dsde_sim_tree.specs.Told as told;
+ghost use Rattle.dsde_sim_tree.specs.declared.fault.TurnEnd.{TurnEnd};
 ghost use Rattle.dsde_run.specs.Run.{run, run_by, records_in};
 ghost use Rattle.dsde_run.specs.Reading.{Told, IsWhole, TakesWanted, ComesWhole, StartsFaulted};
 ghost use Rattle.dsde_run.specs.Steps.{Begins, Starts};
 
-use crate::Running;
 use crate::run::{Cut, finish, finish_of, go, hand_on, write_events};
+use crate::{Advance, Running};
 use dsde_core::Core;
-use dsde_input::InputReader;
+use dsde_input_skip::given::input::InputReader;
 use dsde_io::{Sink, Source};
-use dsde_run_engine::Advance;
-use dsde_sim_events::{Event, Finish, TurnEnd};
+use dsde_sim_tree::{Event, Finish, TurnEnd};
 use dsde_trace::Pick;
 use dsde_values::{Memory, Seq, Text};
 use std::alloc::Global;

@@ -2,20 +2,20 @@
 use Rattle.std.proofs.Common.{◌≡◌, ℕ, List, [], Result, Ok, Err, sym, ap, subst}
 use Rattle.std.specs.Prelude.{IfOk, IfErr}
 use Rattle.dsde_syntax.specs.declared.decl.Model.{Model}
-use Rattle.dsde_declared.specs.Models.{top_number}
-use Rattle.dsde_formalism.specs.System.{System}
-use Rattle.dsde_sim_events.specs.declared.event.Event.{Event}
-use Rattle.dsde_sim_events.specs.declared.fault.TurnEnd.{TurnEnd}
-use Rattle.dsde_sim_events.specs.Told.{Tells, told}
-use Rattle.dsde_sim_turns.specs.Engine.{Engine}
-use Rattle.dsde_sim_turns.specs.Turn as turning
+use Rattle.dsde_language.specs.DeclaredModels.{top_number}
+use Rattle.dsde_sim_tree.specs.given.formalism.System.{System}
+use Rattle.dsde_sim_tree.specs.declared.event.Event.{Event}
+use Rattle.dsde_sim_tree.specs.declared.fault.TurnEnd.{TurnEnd}
+use Rattle.dsde_sim_tree.specs.Told.{Tells, told}
+use Rattle.dsde_sim_tree.specs.Engine.{Engine}
+use Rattle.dsde_sim_tree.specs.Turn as turning
 use Rattle.dsde_sim_movers.specs.lemmas.Steps.{same-ok, split-then}
-use Rattle.dsde_system.specs.Program.{system}
-use Rattle.dsde_sim_working.specs.Working as sim
+use Rattle.dsde_run.specs.given.system.Program.{system}
+use Rattle.dsde_run.specs.given.sim_working.Working as sim
 use Rattle.dsde_drawing.specs.Words.{seeded}
 use Rattle.dsde_order.specs.Free as drawing
 use Rattle.dsde_order.specs.Free.{Drawing}
-use Rattle.dsde_order_free.specs.Drawn.{Drawn, engine_of}
+use Rattle.dsde_run_free.specs.Drawn.{Drawn, engine_of}
 use Rattle.dsde_run.specs.Run.{Running}
 use Rattle.dsde_run.specs.Steps.{Begins, IsBegun, Starts}
 use Rattle.dsde_run.specs.lemmas.Beginning.{begins-by, is_begun}

@@ -3,10 +3,10 @@
 use Rattle.std.specs.Prelude.{ℕ}
 use Rattle.dsde_input_records.specs.Records.{Records}
 use Rattle.dsde_order.specs.Free as drawing
-use Rattle.dsde_order_free.specs.Drawn.{engine_of}
-use Rattle.dsde_run_meaning.specs.Run.{Run}
+use Rattle.dsde_run_free.specs.Drawn.{engine_of}
+use Rattle.dsde_run.specs.given.run_meaning.Run.{Run}
 use Rattle.dsde_run.specs.Run.{Running, run_by}
-use Rattle.dsde_system.specs.Program.{system}
+use Rattle.dsde_run.specs.given.system.Program.{system}
 
 -- A run of a model with the drawn turn in place of the turn: the generator of a seed gives one word for each that moves.
 abbrev pub free_run : Running → ℕ → Records → ℕ → Run

@@ -8,19 +8,19 @@ use Rattle.dsde_input_records.specs.declared.end.InputEnd.TheVariants as input_e
 use Rattle.dsde_input_records.specs.declared.end.InputEnd.TheVariants.{BadLine, Backwards, LineTooLong, ReadFault}
 use Rattle.dsde_input_records.specs.Lines.{lines}
 use Rattle.dsde_input_records.specs.Records.{Records, end, bad, one, records_of}
-use Rattle.dsde_formalism.specs.System.{System}
-use Rattle.dsde_sim_events.specs.declared.event.Event.{Event}
-use Rattle.dsde_sim_events.specs.declared.event.Event.TheVariants as event
-use Rattle.dsde_sim_events.specs.declared.event.Finish.{Finish}
-use Rattle.dsde_sim_events.specs.declared.event.Finish.TheVariants as how
-use Rattle.dsde_sim_events.specs.declared.event.InputKind.TheVariants as kind
-use Rattle.dsde_sim_events.specs.declared.fault.TurnEnd.{TurnEnd}
-use Rattle.dsde_sim_events.specs.declared.fault.TurnEnd.TheVariants.{Fault, Memory}
-use Rattle.dsde_sim_events.specs.Told.{Told}
-use Rattle.dsde_sim_turns.specs.declared.step.Step.{Step}
-use Rattle.dsde_sim_turns.specs.declared.step.Step.TheVariants.{Turned, Quiet}
-use Rattle.dsde_sim_turns.specs.Engine.{Engine, next_of}
-use Rattle.dsde_sim_turns.specs.Turn.{start, advance, turn_time}
+use Rattle.dsde_sim_tree.specs.given.formalism.System.{System}
+use Rattle.dsde_sim_tree.specs.declared.event.Event.{Event}
+use Rattle.dsde_sim_tree.specs.declared.event.Event.TheVariants as event
+use Rattle.dsde_sim_tree.specs.declared.event.Finish.{Finish}
+use Rattle.dsde_sim_tree.specs.declared.event.Finish.TheVariants as how
+use Rattle.dsde_sim_tree.specs.declared.event.InputKind.TheVariants as kind
+use Rattle.dsde_sim_tree.specs.declared.fault.TurnEnd.{TurnEnd}
+use Rattle.dsde_sim_tree.specs.declared.fault.TurnEnd.TheVariants.{Fault, Memory}
+use Rattle.dsde_sim_tree.specs.Told.{Told}
+use Rattle.dsde_sim_tree.specs.declared.step.Step.{Step}
+use Rattle.dsde_sim_tree.specs.declared.step.Step.TheVariants.{Turned, Quiet}
+use Rattle.dsde_sim_tree.specs.Engine.{Engine, next_of}
+use Rattle.dsde_sim_tree.specs.Turn.{start, advance, turn_time}
 
 -- What a run tells, how it ended, and the engine before the turn in which it did. A run that is cut short has no end.
 pub record Run : Type 0 where

@@ -9,9 +9,9 @@ use Rattle.std.proofs.lemmas.Map.Keys.{sorted_head, sorted_tail}
 use Rattle.dsde_sim_tree.specs.Tree.{name_of}
 use Rattle.dsde_values.specs.declared.name.Name.{Name}
 use Rattle.dsde_values.specs.Path.{name_cmp}
-use Rattle.dsde_structure.specs.declared.plan.Entry.{Entry}
-use Rattle.dsde_structure.specs.Gather.{is_same_name}
-use Rattle.dsde_structure.specs.Survival.{AreInOrder, IsInOrder, names}
+use Rattle.dsde_sim_tree.specs.given.structure.plan_Entry.{Entry}
+use Rattle.dsde_sim_tree.specs.given.structure.Gather.{is_same_name}
+use Rattle.dsde_sim_tree.specs.given.structure.Survival.{AreInOrder, IsInOrder, names}
 use Rattle.dsde_sim_tree.specs.declared.sim.Kid.{Kid}
 use Rattle.dsde_sim_tree.specs.Move.{survives, take_named}
 use Rattle.dsde_sim_changing.specs.Survivors.{is_next}

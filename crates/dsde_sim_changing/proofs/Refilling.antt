@@ -7,14 +7,14 @@ use Rattle.std.proofs.lemmas.List.{map-append}
 use Rattle.std.proofs.lemmas.Map.Keys.{sorted_tail}
 use Rattle.dsde_values.specs.declared.path.Path.{Path}
 use Rattle.dsde_values.specs.Path.{name_cmp}
-use Rattle.dsde_structure.specs.declared.plan.Entry.{Entry}
+use Rattle.dsde_sim_tree.specs.given.structure.plan_Entry.{Entry}
 use Rattle.dsde_values.specs.declared.name.Name.{Name}
-use Rattle.dsde_declared.specs.declared.ids.ModelId.{ModelId}
-use Rattle.dsde_structure.specs.Survival.{AreInOrder, IsInOrder, names, role, roles, StaysAs, survives as stays}
-use Rattle.dsde_sim_events.specs.declared.event.Event.{Event}
-use Rattle.dsde_sim_events.specs.declared.fault.TurnEnd.{TurnEnd}
-use Rattle.dsde_sim_events.specs.Told.{Told, told, ◌then◌}
-use Rattle.dsde_sim_telling.specs.lemmas.GoingOn.{GoesOn, goes-step}
+use Rattle.dsde_language.specs.declared.ids.ModelId.{ModelId}
+use Rattle.dsde_sim_tree.specs.given.structure.Survival.{AreInOrder, IsInOrder, names, role, roles, StaysAs, survives as stays}
+use Rattle.dsde_sim_tree.specs.declared.event.Event.{Event}
+use Rattle.dsde_sim_tree.specs.declared.fault.TurnEnd.{TurnEnd}
+use Rattle.dsde_sim_tree.specs.Told.{Told, told, ◌then◌}
+use Rattle.dsde_sim_starting.specs.given.sim_telling.lemmas_GoingOn.{GoesOn, goes-step}
 use Rattle.dsde_sim_tree.specs.declared.sim.Kid.{Kid}
 use Rattle.dsde_sim_tree.specs.Tree.{entry_of, parts_of_kid, parts_of_kids, name_of}
 use Rattle.dsde_sim_tree.specs.Start.{Starter, started_kid}

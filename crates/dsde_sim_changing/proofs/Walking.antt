@@ -10,11 +10,11 @@ use Rattle.std.proofs.lemmas.Map.Keys.{sorted_head, sorted_tail}
 use Rattle.dsde_values.specs.declared.name.Name.{Name}
 use Rattle.dsde_values.specs.declared.path.Path.{Path}
 use Rattle.dsde_values.specs.Path.{name_cmp}
-use Rattle.dsde_structure.specs.declared.plan.Entry.{Entry}
-use Rattle.dsde_structure.specs.Survival.{AreInOrder, IsInOrder, names}
-use Rattle.dsde_sim_events.specs.declared.event.Event.{Event}
-use Rattle.dsde_sim_events.specs.Told.{IsCut}
-use Rattle.dsde_sim_telling.specs.lemmas.GoingOn.{cut-within}
+use Rattle.dsde_sim_tree.specs.given.structure.plan_Entry.{Entry}
+use Rattle.dsde_sim_tree.specs.given.structure.Survival.{AreInOrder, IsInOrder, names}
+use Rattle.dsde_sim_tree.specs.declared.event.Event.{Event}
+use Rattle.dsde_sim_tree.specs.Told.{IsCut}
+use Rattle.dsde_sim_starting.specs.given.sim_telling.lemmas_GoingOn.{cut-within}
 use Rattle.dsde_sim_tree.specs.declared.sim.Kid.{Kid}
 use Rattle.dsde_sim_tree.specs.Tree.{parts_of_kid, parts_of_kids, name_of}
 use Rattle.dsde_sim_tree.specs.Move.{gone, kept, drop_of}

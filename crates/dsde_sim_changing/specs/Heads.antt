@@ -3,8 +3,8 @@ use Rattle.std.specs.Prelude.{Bool, false, List, [], ◌∷◌, if◌then◌else
 use Rattle.std.specs.Ordering.{is_lt}
 use Rattle.dsde_values.specs.declared.name.Name.{Name}
 use Rattle.dsde_values.specs.Path.{name_cmp}
-use Rattle.dsde_structure.specs.declared.plan.Entry.{Entry}
-use Rattle.dsde_structure.specs.Survival.{survives as stays}
+use Rattle.dsde_sim_tree.specs.given.structure.plan_Entry.{Entry}
+use Rattle.dsde_sim_tree.specs.given.structure.Survival.{survives as stays}
 use Rattle.dsde_sim_tree.specs.declared.sim.Kid.{Kid}
 use Rattle.dsde_sim_tree.specs.Tree.{entry_of}
 

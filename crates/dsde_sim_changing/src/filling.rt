@@ -4,10 +4,10 @@ ghost use Rattle.std.specs.Prelude.{◌≡◌, ◌+◌, ◌<◌, ◌≤◌, ◌^
 ghost use Rattle.std.specs.Option.{option_to_list};
 ghost use Rattle.std.specs.List.{AllByRecursion};
 ghost use Rattle.dsde_values.specs.When.{IsMoment};
-ghost use Rattle.dsde_sim_events.specs.Told.{Tells};
-ghost use Rattle.dsde_structure.specs.Survival.{AreInOrder, IsInOrder, role, roles};
-ghost use Rattle.dsde_system.specs.Program.{system};
-ghost use Rattle.dsde_system.specs.Plans.{FitsEntry};
+ghost use Rattle.dsde_sim_tree.specs.Told.{Tells};
+ghost use Rattle.dsde_sim_tree.specs.given.structure.Survival.{AreInOrder, IsInOrder, role, roles};
+ghost use Rattle.dsde_sim_starting.specs.given.system.Program.{system};
+ghost use Rattle.dsde_sim_starting.specs.given.system.Plans.{FitsEntry};
 ghost use Rattle.dsde_sim_starting.specs.Fitting.{FitsKid};
 ghost use Rattle.dsde_sim_tree.specs.Tree.{entry_of, parts_of_kid, parts_of_kids, name_of};
 ghost use Rattle.dsde_sim_tree.specs.Start.{start};
@@ -15,11 +15,10 @@ ghost use Rattle.dsde_sim_tree.specs.Move.{survives, refilled, left_behind, chan
 ghost use Rattle.dsde_sim_changing.specs.Survivors.{is_next, filled, survivor_parts};
 
 use crate::splitting::split;
-use dsde_program::Program;
-use dsde_sim_events::{Event, TurnEnd};
+use dsde_sim_starting::given::program::Program;
 use dsde_sim_starting::start_kid;
-use dsde_sim_tree::{DEEPEST, Kid};
-use dsde_structure::{Entry, survivors_keep_their_roles};
+use dsde_sim_tree::given::structure::{Entry, survivors_keep_their_roles};
+use dsde_sim_tree::{DEEPEST, Event, Kid, TurnEnd};
 use dsde_values::{Name, Path, Seq};
 use std::alloc::Global;
 use std::collections::VecDeque;

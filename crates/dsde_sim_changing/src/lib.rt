@@ -4,6 +4,7 @@
 
 mod counting;
 mod filling;
+pub mod given;
 mod splitting;
 
 pub use counting::{next_time, parts};

@@ -1,20 +1,19 @@
 //! Which components of a network survive a change of its structure.
 
 ghost use Rattle.std.specs.Prelude.{◌≡◌, ◌+◌, ◌<◌, ◌^◌, [], ◌∷◌, ◌++◌, map, IfOk, OnOk};
-ghost use Rattle.dsde_sim_events.specs.Told.{IsCut};
-ghost use Rattle.dsde_structure.specs.Survival.{AreInOrder, IsInOrder, survives as stays};
+ghost use Rattle.dsde_sim_tree.specs.Told.{IsCut};
+ghost use Rattle.dsde_sim_tree.specs.given.structure.Survival.{AreInOrder, IsInOrder, survives as stays};
 ghost use Rattle.dsde_sim_tree.specs.Tree.{model_of, args_of, entry_of, parts_of_kid, parts_of_kids, name_of};
 ghost use Rattle.dsde_sim_tree.specs.Move.{gone, kept, drop_of};
 ghost use Rattle.dsde_sim_changing.specs.Heads.{from_name, is_first};
 
 use crate::counting::parts;
-use dsde_declared::ModelId;
-use dsde_sim_events::Event;
-use dsde_sim_telling::tell_drop;
-use dsde_sim_tree::{Kid, Sim};
-use dsde_structure::Entry;
+use dsde_language::ModelId;
+use dsde_sim_starting::given::sim_telling::tell_drop;
+use dsde_sim_tree::given::structure::Entry;
+use dsde_sim_tree::given::values_equality::are_same;
+use dsde_sim_tree::{Event, Kid, Sim};
 use dsde_values::{Memory, Name, Path, Seq, Value};
-use dsde_values_equality::are_same;
 use std::alloc::Global;
 
 /// The model of a simulator.

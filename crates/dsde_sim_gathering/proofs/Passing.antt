@@ -1,18 +1,18 @@
 -- What may go along links that fit.
 use Rattle.std.proofs.Common.{ℕ, zero, suc, ◌<◌, List, [], ◌∷◌, length, get_or, Option, Some, None, All, slice_index_or, arith}
 use Rattle.std.specs.List.{AllByRecursion}
-use Rattle.dsde_syntax.specs.declared.decl.Model.{Model}
+use Rattle.dsde_sim_tree.specs.given.syntax.decl_Model.{Model}
 use Rattle.dsde_values.specs.declared.types.Ty.{Ty}
 use Rattle.dsde_values.specs.declared.value.Value.{Value}
-use Rattle.dsde_declared.specs.Models.{types_of}
-use Rattle.dsde_structure.specs.declared.plan.Link.{Link}
-use Rattle.dsde_structure.specs.declared.plan.Via.{Via}
-use Rattle.dsde_structure.specs.declared.sources.Sources.{Sources}
-use Rattle.dsde_structure.specs.Gather.{from_part}
-use Rattle.dsde_eval_meaning.specs.Typed.{Typed}
-use Rattle.dsde_system.specs.Fitting.{AreOf}
-use Rattle.dsde_system.specs.Plans.{Joins}
-use Rattle.dsde_sound_links.specs.Carrying.{Carries}
+use Rattle.dsde_sim_tree.specs.given.language.DeclaredModels.{types_of}
+use Rattle.dsde_sim_tree.specs.given.structure.plan_Link.{Link}
+use Rattle.dsde_sim_tree.specs.given.structure.plan_Via.{Via}
+use Rattle.dsde_sim_tree.specs.given.structure.sources_Sources.{Sources}
+use Rattle.dsde_sim_tree.specs.given.structure.Gather.{from_part}
+use Rattle.dsde_sim_tree.specs.given.language.Typed.{Typed}
+use Rattle.dsde_sound_structures.specs.given.system.Fitting.{AreOf}
+use Rattle.dsde_sound_structures.specs.given.system.Plans.{Joins}
+use Rattle.dsde_sound_structures.specs.Carrying.{Carries}
 use Rattle.dsde_sim_gathering.specs.Passing.{AllPass, Passes}
 
 at-index : {X : Type 0} (P : X → Type 0) (xs : List X) → AllByRecursion P xs → (k : ℕ) (d : X) → k < length xs → P (get_or xs k d)

@@ -12,8 +12,8 @@ use Rattle.std.proofs.lemmas.List.Sorted.{searchable_from_sorted}
 use Rattle.std.proofs.lemmas.Map.Keys.{sorted_head, sorted_tail}
 use Rattle.dsde_values.specs.declared.name.Name.{Name}
 use Rattle.dsde_values.specs.Path.{name_cmp}
-use Rattle.dsde_structure.specs.Gather.{is_same_name, Ports, sent_by}
-use Rattle.dsde_structure.specs.declared.sources.Given.{Given}
+use Rattle.dsde_sim_tree.specs.given.structure.Gather.{is_same_name, Ports, sent_by}
+use Rattle.dsde_sim_tree.specs.given.structure.sources_Given.{Given}
 use Rattle.dsde_sim_gathering.specs.Boxes.{changed_at, place_of}
 
 total : IsTotalOrder name_cmp

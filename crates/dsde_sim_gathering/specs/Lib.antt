@@ -1,2 +1,3 @@
 pub mod Boxes
 pub mod Passing
+pub mod given

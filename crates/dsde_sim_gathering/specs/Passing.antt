@@ -1,20 +1,20 @@
 -- What may go along links.
 use Rattle.std.specs.Prelude.{◌≡◌, ◌<◌, true, List, [], length, map, Option, Some, None, slice_index_or}
 use Rattle.std.specs.List.{All}
-use Rattle.dsde_syntax.specs.declared.decl.Model.{Model}
+use Rattle.dsde_sim_tree.specs.given.syntax.decl_Model.{Model}
 use Rattle.dsde_values.specs.declared.types.Ty.{Ty}
 use Rattle.dsde_values.specs.declared.value.Value.{Value}
-use Rattle.dsde_declared.specs.Models.{types_of}
-use Rattle.dsde_program_nodes.specs.Models.{infos_of}
-use Rattle.dsde_structure.specs.declared.plan.Link.{Link}
-use Rattle.dsde_structure.specs.declared.plan.Via.{Via}
-use Rattle.dsde_structure.specs.declared.sources.Given.{Given}
-use Rattle.dsde_structure.specs.declared.sources.Sources.{Sources}
-use Rattle.dsde_structure.specs.Gather.{from_part}
-use Rattle.dsde_structure.specs.Survival.{AreInOrder}
-use Rattle.dsde_eval_meaning.specs.Typed.{Typed}
-use Rattle.dsde_system.specs.Plans.{Takes}
-use Rattle.dsde_system.specs.Program.{system}
+use Rattle.dsde_sim_tree.specs.given.language.DeclaredModels.{types_of}
+use Rattle.dsde_sim_tree.specs.given.language.NodeModels.{infos_of}
+use Rattle.dsde_sim_tree.specs.given.structure.plan_Link.{Link}
+use Rattle.dsde_sim_tree.specs.given.structure.plan_Via.{Via}
+use Rattle.dsde_sim_tree.specs.given.structure.sources_Given.{Given}
+use Rattle.dsde_sim_tree.specs.given.structure.sources_Sources.{Sources}
+use Rattle.dsde_sim_tree.specs.given.structure.Gather.{from_part}
+use Rattle.dsde_sim_tree.specs.given.structure.Survival.{AreInOrder}
+use Rattle.dsde_sim_tree.specs.given.language.Typed.{Typed}
+use Rattle.dsde_sound_structures.specs.given.system.Plans.{Takes}
+use Rattle.dsde_sound_structures.specs.given.system.Program.{system}
 use Rattle.dsde_sim_tree.specs.declared.sim.Kid.{Kid}
 use Rattle.dsde_sim_tree.specs.declared.sim.Net.{Net}
 use Rattle.dsde_sim_tree.specs.declared.sim.Sim.{Sim}

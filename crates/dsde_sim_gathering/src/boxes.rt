@@ -3,22 +3,22 @@
 ghost use Rattle.std.specs.Prelude.{◌≡◌, map, IfOk, OnOk};
 ghost use Rattle.std.specs.List.{AllByRecursion};
 ghost use Rattle.dsde_sim_tree.specs.Tree.{name_of};
-ghost use Rattle.dsde_structure.specs.declared.plan.Part.TheVariants as part;
-ghost use Rattle.dsde_structure.specs.Gather.{carried, gathered};
-ghost use Rattle.dsde_system.specs.Program.{system};
+ghost use Rattle.dsde_sim_tree.specs.given.structure.plan_Part_TheVariants as part;
+ghost use Rattle.dsde_sim_tree.specs.given.structure.Gather.{carried, gathered};
+ghost use Rattle.dsde_sound_structures.specs.given.system.Program.{system};
 ghost use Rattle.dsde_sim_tree.specs.declared.sim.Sim.TheViews.{out-Kid};
 ghost use Rattle.dsde_sim_tree.specs.Move.{ins_of};
-ghost use Rattle.dsde_sound_links.specs.Carrying.{FitsWiring};
+ghost use Rattle.dsde_sound_structures.specs.Carrying.{FitsWiring};
 ghost use Rattle.dsde_sim_gathering.specs.Boxes.{added, changed, delivered, sent_on, empty_ports};
 ghost use Rattle.dsde_sim_gathering.specs.Passing.{AllPass, AreSorted, AreSortedKids, IsOfModel};
 
 use crate::carry::carry_to;
 use crate::names::place_of_kid;
 use crate::ports::{empty_ports, ins_of};
-use dsde_program::Program;
+use dsde_atomic::given::eval::Program;
 use dsde_sim_tree::Kid;
-use dsde_sound_links::wiring_carries;
-use dsde_structure::{Link, Part, Sources, links_carry_in_order};
+use dsde_sim_tree::given::structure::{Link, Part, Sources, links_carry_in_order};
+use dsde_sound_structures::wiring_carries;
 use dsde_values::{Memory, Seq, Values, one_name};
 use std::alloc::Global;
 

@@ -1,16 +1,15 @@
 //! What one link carries.
 
 ghost use Rattle.std.specs.Prelude.{◌≡◌, [], ◌++◌, IfOk, OnOk, slice_index_or};
-ghost use Rattle.dsde_structure.specs.Gather.{carried, from_part, through};
-ghost use Rattle.dsde_system.specs.Program.{system};
+ghost use Rattle.dsde_sim_tree.specs.given.structure.Gather.{carried, from_part, through};
+ghost use Rattle.dsde_sound_structures.specs.given.system.Program.{system};
 ghost use Rattle.dsde_sim_gathering.specs.Boxes.{added};
 ghost use Rattle.dsde_sim_gathering.specs.Passing.{AllPass, AreSorted, IsTaken, Passes};
 
 use crate::names::sent_by;
-use dsde_eval::translate;
-use dsde_program::Program;
-use dsde_sound_links::{may_translate, translates_exactly};
-use dsde_structure::{End, Link, Part, Sources, Via};
+use dsde_atomic::given::eval::{Program, translate};
+use dsde_sim_tree::given::structure::{End, Link, Part, Sources, Via};
+use dsde_sound_structures::{may_translate, translates_exactly};
 use dsde_values::{Memory, Seq, Value, Values, copy_value};
 use std::alloc::Global;
 

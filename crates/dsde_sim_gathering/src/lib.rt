@@ -3,6 +3,7 @@
 
 mod boxes;
 mod carry;
+pub mod given;
 mod names;
 mod ports;
 

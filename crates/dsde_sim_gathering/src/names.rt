@@ -2,13 +2,13 @@
 
 ghost use Rattle.std.specs.Prelude.{◌≡◌, ◌<◌, map, length, IfSome};
 ghost use Rattle.dsde_sim_tree.specs.Tree.{name_of};
-ghost use Rattle.dsde_structure.specs.Gather.{sent_by};
-ghost use Rattle.dsde_structure.specs.Survival.{AreInOrder};
+ghost use Rattle.dsde_sim_tree.specs.given.structure.Gather.{sent_by};
+ghost use Rattle.dsde_sim_tree.specs.given.structure.Survival.{AreInOrder};
 ghost use Rattle.dsde_sim_gathering.specs.Boxes.{place_of};
 ghost use Rattle.dsde_sim_gathering.specs.Passing.{AreSortedKids};
 
 use dsde_sim_tree::Kid;
-use dsde_structure::Given;
+use dsde_sim_tree::given::structure::Given;
 use dsde_values::{Name, Values, compare_names, one_name};
 
 /// The index of what the component of a name sends, if it is one of these.

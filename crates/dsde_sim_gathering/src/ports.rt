@@ -1,13 +1,13 @@
 //! The ports of parts.
 
 ghost use Rattle.std.specs.Prelude.{◌≡◌, IfOk};
-ghost use Rattle.dsde_system.specs.Program.{system};
+ghost use Rattle.dsde_sound_structures.specs.given.system.Program.{system};
 ghost use Rattle.dsde_sim_tree.specs.Move.{ins_of};
 ghost use Rattle.dsde_sim_gathering.specs.Boxes.{empty_ports};
 ghost use Rattle.dsde_sim_gathering.specs.Passing.{IsOfModel};
 
+use dsde_atomic::given::eval::Program;
 use dsde_atomic::{network_in, ports_in};
-use dsde_program::Program;
 use dsde_sim_tree::{Net, Sim};
 use dsde_values::{Memory, Seq, Values};
 use std::alloc::Global;

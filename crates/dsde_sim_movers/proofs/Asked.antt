@@ -5,16 +5,16 @@ use Rattle.dsde_sim_tree.specs.Tree.{name_of}
 use Rattle.dsde_values.specs.declared.path.Path.{Path}
 use Rattle.dsde_values.specs.declared.arrival.Item.{Item}
 use Rattle.dsde_faults.specs.declared.end.LeafEnd.{LeafEnd}
-use Rattle.dsde_formalism.specs.declared.leaf.Leaf.{Leaf}
-use Rattle.dsde_formalism.specs.System.{System, Ports}
-use Rattle.dsde_formalism.specs.Leaf as formal
-use Rattle.dsde_formalism.specs.Leaf.{component_of, is_due, output_leaf, sent_at}
-use Rattle.dsde_structure.specs.declared.plan.Part.TheVariants as part
-use Rattle.dsde_structure.specs.declared.sources.Given.{Given}
-use Rattle.dsde_structure.specs.declared.sources.Sources.{Sources}
-use Rattle.dsde_structure.specs.Gather.{gathered}
-use Rattle.dsde_sim_events.specs.declared.fault.TurnEnd.{TurnEnd}
-use Rattle.dsde_sim_events.specs.Told.{at, below, to_boss}
+use Rattle.dsde_sim_tree.specs.given.formalism.leaf_Leaf.{Leaf}
+use Rattle.dsde_sim_tree.specs.given.formalism.System.{System, Ports}
+use Rattle.dsde_sim_tree.specs.given.formalism.Leaf as formal
+use Rattle.dsde_sim_tree.specs.given.formalism.Leaf.{component_of, is_due, output_leaf, sent_at}
+use Rattle.dsde_sim_tree.specs.given.structure.plan_Part_TheVariants as part
+use Rattle.dsde_sim_tree.specs.given.structure.sources_Given.{Given}
+use Rattle.dsde_sim_tree.specs.given.structure.sources_Sources.{Sources}
+use Rattle.dsde_sim_tree.specs.given.structure.Gather.{gathered}
+use Rattle.dsde_sim_tree.specs.declared.fault.TurnEnd.{TurnEnd}
+use Rattle.dsde_sim_tree.specs.Told.{at, below, to_boss}
 use Rattle.dsde_sim_tree.specs.declared.sim.Kid.{Kid}
 use Rattle.dsde_sim_tree.specs.declared.sim.Net.{Net}
 use Rattle.dsde_sim_tree.specs.declared.sim.Sim.{Sim}
@@ -24,7 +24,7 @@ use Rattle.dsde_sim_tree.specs.declared.sim.Sim.TheVariants as sim
 use Rattle.dsde_sim_tree.specs.declared.sim.Sim.TheViews.{out-Kid, out-Net, roll-out-Kid, roll-out-Net, rolls-Leaf, rolls-Net}
 use Rattle.dsde_sim_tree.specs.Output.{◌>>=◌, by_port, sent, Answer, KidAnswer, asked, sources_of, output_step, output_kid, output_net, output, kid_output, output_of_net}
 use Rattle.dsde_sim_tree.specs.lemmas.Trees.{each_tree}
-use Rattle.dsde_sim_delivery.specs.lemmas.Opens.{flat_map-map}
+use Rattle.dsde_sim_movers.specs.lemmas.Opens.{flat_map-map}
 use Rattle.dsde_sim_movers.specs.Asking.{Seated, Seatings, seated_step, seated_kid, seated_net, seated, seated_of_kid, seated_of_net, ending, ask_each, due_ones}
 
 bind-assoc : {A B C : Type 0} (result : Result A TurnEnd) (next : A → Result B TurnEnd) (last : B → Result C TurnEnd) → ((result >>= next) >>= last) ≡ (result >>= (λ value. next value >>= last))

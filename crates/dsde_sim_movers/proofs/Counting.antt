@@ -5,16 +5,16 @@ use Rattle.std.proofs.lemmas.List.Sums.{sum_by-cons}
 use Rattle.std.proofs.lemmas.Map.Keys.{IsDistinct-head}
 use Rattle.std.specs.List.{AllByRecursion, flat_map}
 use Rattle.dsde_values.specs.declared.path.Path.{Path}
-use Rattle.dsde_formalism.specs.declared.leaf.Leaf.{Leaf}
-use Rattle.dsde_formalism.specs.Leaf.{component_of}
-use Rattle.dsde_formalism.specs.System.{System, Ports}
-use Rattle.dsde_structure.specs.declared.plan.Link.{Link}
-use Rattle.dsde_structure.specs.declared.plan.Part.TheVariants as part
-use Rattle.dsde_structure.specs.declared.sources.Sources.{Sources}
-use Rattle.dsde_structure.specs.Gather.{gathered, is_same_name}
-use Rattle.dsde_sim_events.specs.declared.fault.TurnEnd.{TurnEnd}
+use Rattle.dsde_sim_tree.specs.given.formalism.leaf_Leaf.{Leaf}
+use Rattle.dsde_sim_tree.specs.given.formalism.Leaf.{component_of}
+use Rattle.dsde_sim_tree.specs.given.formalism.System.{System, Ports}
+use Rattle.dsde_sim_tree.specs.given.structure.plan_Link.{Link}
+use Rattle.dsde_sim_tree.specs.given.structure.plan_Part_TheVariants as part
+use Rattle.dsde_sim_tree.specs.given.structure.sources_Sources.{Sources}
+use Rattle.dsde_sim_tree.specs.given.structure.Gather.{gathered, is_same_name}
+use Rattle.dsde_sim_tree.specs.declared.fault.TurnEnd.{TurnEnd}
 use Rattle.dsde_values.specs.Path.{EXEC}
-use Rattle.dsde_sim_events.specs.Told.{below, to_boss}
+use Rattle.dsde_sim_tree.specs.Told.{below, to_boss}
 use Rattle.dsde_sim_tree.specs.declared.sim.Kid.{Kid}
 use Rattle.dsde_sim_tree.specs.declared.sim.Net.{Net}
 use Rattle.dsde_sim_tree.specs.declared.sim.Sim.{Sim}
@@ -24,15 +24,15 @@ use Rattle.dsde_sim_tree.specs.Move.{ins_of}
 use Rattle.dsde_sim_tree.specs.Output.{sources_of, kid_output}
 use Rattle.dsde_sim_tree.specs.Tree.{parts, parts_of_kid, parts_of_kids, name_of}
 use Rattle.dsde_sim_tree.specs.lemmas.Trees.{each_tree}
-use Rattle.dsde_sim_delivery.specs.Deliveries.{Delivery, KidReceives, shared, deliveries, deliveries_of_kid}
-use Rattle.dsde_sim_delivery.specs.lemmas.Opens.{deliveries-Leaf, deliveries-Net, deliveries-kid}
+use Rattle.dsde_sim_movers.specs.Deliveries.{Delivery, KidReceives, shared, deliveries, deliveries_of_kid}
+use Rattle.dsde_sim_movers.specs.lemmas.Opens.{deliveries-Leaf, deliveries-Net, deliveries-kid}
 use Rattle.dsde_sim_movers.specs.Movers.{Seat, seat_behind, is_mover, movers}
 use Rattle.dsde_sim_movers.specs.lemmas.Seats.{IsBehind, seat-in-net}
 use Rattle.dsde_sim_movers.specs.lemmas.Beneath.{behind-kid}
-use Rattle.dsde_sim_movers.proofs.Moving.{filter-same, seat-itself}
+use Rattle.dsde_sim_movers.proofs.MoverMoving.{filter-same, seat-itself}
 use Rattle.dsde_sim_movers.specs.lemmas.Named.{IsPlaced, names-of, net-places}
 use Rattle.dsde_sim_movers.proofs.Measuring.{parts-Net, parts-kid}
-use Rattle.dsde_sim_delivery.specs.lemmas.Events.{each-weaker}
+use Rattle.dsde_sim_movers.specs.lemmas.Events.{each-weaker}
 
 -- deliveries to executives
 abbrev pub to_bosses : Path → List Delivery → List Delivery

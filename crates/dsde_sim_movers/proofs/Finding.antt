@@ -13,16 +13,16 @@ use Rattle.dsde_values.specs.declared.name.Name.{Name}
 use Rattle.dsde_values.specs.declared.path.Path.{Path}
 use Rattle.dsde_values.specs.declared.value.Value.{Value}
 use Rattle.dsde_values.specs.Path.{name_cmp, path_cmp, root, EXEC}
-use Rattle.dsde_declared.specs.declared.ids.ModelId.{ModelId}
-use Rattle.dsde_formalism.specs.declared.leaf.Leaf.{Leaf}
-use Rattle.dsde_formalism.specs.Leaf.{component_of}
-use Rattle.dsde_formalism.specs.System.{System, Ports}
-use Rattle.dsde_structure.specs.declared.plan.Link.{Link}
-use Rattle.dsde_structure.specs.declared.plan.Part.TheVariants as part
-use Rattle.dsde_structure.specs.declared.sources.Sources.{Sources}
-use Rattle.dsde_structure.specs.Gather.{gather, gathered, is_same_name}
-use Rattle.dsde_sim_events.specs.declared.fault.TurnEnd.{TurnEnd}
-use Rattle.dsde_sim_events.specs.Told.{below, to_boss}
+use Rattle.dsde_sim_tree.specs.given.language.ids_ModelId.{ModelId}
+use Rattle.dsde_sim_tree.specs.given.formalism.leaf_Leaf.{Leaf}
+use Rattle.dsde_sim_tree.specs.given.formalism.Leaf.{component_of}
+use Rattle.dsde_sim_tree.specs.given.formalism.System.{System, Ports}
+use Rattle.dsde_sim_tree.specs.given.structure.plan_Link.{Link}
+use Rattle.dsde_sim_tree.specs.given.structure.plan_Part_TheVariants as part
+use Rattle.dsde_sim_tree.specs.given.structure.sources_Sources.{Sources}
+use Rattle.dsde_sim_tree.specs.given.structure.Gather.{gather, gathered, is_same_name}
+use Rattle.dsde_sim_tree.specs.declared.fault.TurnEnd.{TurnEnd}
+use Rattle.dsde_sim_tree.specs.Told.{below, to_boss}
 use Rattle.dsde_sim_tree.specs.declared.sim.Kid.{Kid}
 use Rattle.dsde_sim_tree.specs.declared.sim.Net.{Net}
 use Rattle.dsde_sim_tree.specs.declared.sim.Sim.{Sim}
@@ -33,14 +33,14 @@ use Rattle.dsde_sim_tree.specs.declared.sim.Sim.TheViews.{out-Kid, out-Net}
 use Rattle.dsde_sim_tree.specs.Move.{ins_of}
 use Rattle.dsde_sim_tree.specs.Output.{sources_of, kid_output}
 use Rattle.dsde_sim_tree.specs.lemmas.Trees.{each_tree}
-use Rattle.dsde_sim_delivery.specs.Deliveries.{Delivery, KidReceives, shared, deliveries, deliveries_of_kid, is_same_path, meant, received}
-use Rattle.dsde_sim_delivery.specs.lemmas.Events.{each-append}
-use Rattle.dsde_sim_delivery.specs.lemmas.Opens.{deliveries-Leaf, deliveries-Net, deliveries-kid}
+use Rattle.dsde_sim_movers.specs.Deliveries.{Delivery, KidReceives, shared, deliveries, deliveries_of_kid, is_same_path, meant, received}
+use Rattle.dsde_sim_movers.specs.lemmas.Events.{each-append}
+use Rattle.dsde_sim_movers.specs.lemmas.Opens.{deliveries-Leaf, deliveries-Net, deliveries-kid}
 use Rattle.dsde_sim_movers.specs.Movers.{Seat, seat_of, seat_behind, leaf_in, leaf_at, AreInPathOrder}
 use Rattle.dsde_sim_movers.specs.Found.{IsFound}
 use Rattle.dsde_sim_movers.specs.lemmas.Seats.{out-Leaf, whole, whole-of, same-kid, NoneNamed, boss-at-whole, drop-front, IsBehind, net_with, seat-in-net, leaf-within}
 use Rattle.dsde_sim_movers.specs.lemmas.Beneath.{behind-kid}
-use Rattle.dsde_sim_movers.proofs.Moving.{none-before, seat-itself}
+use Rattle.dsde_sim_movers.proofs.MoverMoving.{none-before, seat-itself}
 use Rattle.dsde_sim_movers.specs.lemmas.Named.{same_name, IsPlaced, names-of, net-places}
 
 each-both : {X : Type 0} (P Q R : X → Type 0) → ((x : X) → P x → Q x → R x) → (xs : List X) → AllByRecursion P xs → AllByRecursion Q xs → AllByRecursion R xs

@@ -6,8 +6,8 @@ use Rattle.std.specs.List.{AllByRecursion, flat_map}
 use Rattle.dsde_values.specs.declared.path.Path.{Path}
 use Rattle.dsde_values.specs.declared.when.When.{When}
 use Rattle.dsde_values.specs.declared.when.When.TheVariants.{At, Never}
-use Rattle.dsde_formalism.specs.declared.leaf.Leaf.{Leaf}
-use Rattle.dsde_sim_events.specs.Told.{below, to_boss}
+use Rattle.dsde_sim_tree.specs.given.formalism.leaf_Leaf.{Leaf}
+use Rattle.dsde_sim_tree.specs.Told.{below, to_boss}
 use Rattle.dsde_sim_tree.specs.declared.sim.Kid.{Kid}
 use Rattle.dsde_sim_tree.specs.declared.sim.Net.{Net}
 use Rattle.dsde_sim_tree.specs.declared.sim.Sim.{Sim}
@@ -17,9 +17,9 @@ use Rattle.dsde_sim_tree.specs.declared.sim.Sim.TheVariants as sim
 use Rattle.dsde_sim_tree.specs.declared.sim.Sim.TheViews.{out-Kid, out-Net, roll-out-Kid, roll-out-Net, rolls-Leaf, rolls-Net}
 use Rattle.dsde_sim_tree.specs.Tree.{parts_step, kid_parts, net_parts, parts, parts_of_kid, parts_of_net, soonest, next_step, next_kid, next_net, next_time, next_of_kid, name_of}
 use Rattle.dsde_sim_tree.specs.lemmas.Trees.{each_tree}
-use Rattle.dsde_sim_delivery.specs.Places.{paths_from, paths_of_kid}
-use Rattle.dsde_sim_delivery.specs.lemmas.Events.{Among, among-left, among-right, contains-from, each-append, each-weaker}
-use Rattle.dsde_sim_delivery.specs.lemmas.Opens.{paths-Leaf, paths-Net, paths-kid}
+use Rattle.dsde_sim_movers.specs.Places.{paths_from, paths_of_kid}
+use Rattle.dsde_sim_movers.specs.lemmas.Events.{Among, among-left, among-right, contains-from, each-append, each-weaker}
+use Rattle.dsde_sim_movers.specs.lemmas.Opens.{paths-Leaf, paths-Net, paths-kid}
 use Rattle.dsde_sim_movers.specs.Asking.{Seated, seated, seated_of_kid, IsFrom, IsNext}
 use Rattle.dsde_sim_movers.proofs.Asked.{seated-Leaf, seated-Net, seated-kid}
 

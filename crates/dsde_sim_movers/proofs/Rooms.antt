@@ -7,17 +7,17 @@ use Rattle.dsde_values.specs.declared.name.Name.{Name}
 use Rattle.dsde_values.specs.declared.path.Path.{Path}
 use Rattle.dsde_values.specs.declared.value.Value.{Value}
 use Rattle.dsde_values.specs.Path.{root}
-use Rattle.dsde_declared.specs.declared.ids.ModelId.{ModelId}
-use Rattle.dsde_formalism.specs.declared.leaf.Leaf.{Leaf}
-use Rattle.dsde_formalism.specs.declared.leaf.MoveKind.{MoveKind}
-use Rattle.dsde_formalism.specs.Leaf.{kind_of, start_leaf}
-use Rattle.dsde_formalism.specs.System.{System, Ports}
-use Rattle.dsde_structure.specs.declared.plan.Entry.{Entry}
-use Rattle.dsde_structure.specs.declared.plan.Link.{Link}
-use Rattle.dsde_structure.specs.declared.plan.Plan.{Plan}
-use Rattle.dsde_structure.specs.Gather.{is_same_name}
-use Rattle.dsde_sim_events.specs.declared.event.Event.TheVariants.{AddLeaf}
-use Rattle.dsde_sim_events.specs.Told.{Told, told, quietly, ◌then◌, at, below, to_boss}
+use Rattle.dsde_sim_tree.specs.given.language.ids_ModelId.{ModelId}
+use Rattle.dsde_sim_tree.specs.given.formalism.leaf_Leaf.{Leaf}
+use Rattle.dsde_sim_tree.specs.given.formalism.leaf_MoveKind.{MoveKind}
+use Rattle.dsde_sim_tree.specs.given.formalism.Leaf.{kind_of, start_leaf}
+use Rattle.dsde_sim_tree.specs.given.formalism.System.{System, Ports}
+use Rattle.dsde_sim_tree.specs.given.structure.plan_Entry.{Entry}
+use Rattle.dsde_sim_tree.specs.given.structure.plan_Link.{Link}
+use Rattle.dsde_sim_tree.specs.given.structure.plan_Plan.{Plan}
+use Rattle.dsde_sim_tree.specs.given.structure.Gather.{is_same_name}
+use Rattle.dsde_sim_tree.specs.declared.event.Event.TheVariants.{AddLeaf}
+use Rattle.dsde_sim_tree.specs.Told.{Told, told, quietly, ◌then◌, at, below, to_boss}
 use Rattle.dsde_sim_tree.specs.declared.sim.Kid.{Kid}
 use Rattle.dsde_sim_tree.specs.declared.sim.Net.{Net}
 use Rattle.dsde_sim_tree.specs.declared.sim.Sim.{Sim}
@@ -29,9 +29,9 @@ use Rattle.dsde_sim_tree.specs.Opened.{as_leaf, as_net}
 use Rattle.dsde_sim_tree.specs.Output.{output}
 use Rattle.dsde_sim_tree.specs.Start.{entered, kid_of, net_of, start_leaf_at, Starter, started_kid, starts, structure_of, with_plan, with_boss, start_net, start_net_at, start_atomic, start}
 use Rattle.dsde_sim_tree.specs.Tree.{parts, parts_of_kid, parts_of_kids, name_of}
-use Rattle.dsde_sim_turns.specs.declared.step.TheConstants.{MOST_PARTS}
-use Rattle.dsde_sim_turns.specs.Turn.{without_room}
-use Rattle.dsde_sim_delivery.specs.Deliveries.{Delivery}
+use Rattle.dsde_sim_tree.specs.declared.step.TheConstants.{MOST_PARTS}
+use Rattle.dsde_sim_tree.specs.Turn.{without_room}
+use Rattle.dsde_sim_movers.specs.Deliveries.{Delivery}
 use Rattle.dsde_sim_movers.specs.Parts.{kid_named, with_named, part_at, with_part}
 use Rattle.dsde_sim_movers.specs.Movers.{Step, moves_in, moves, path_behind, seat_behind, move_one, move_each}
 use Rattle.dsde_sim_movers.specs.Turns.{free_phase, free_turn}

@@ -5,19 +5,19 @@ use Rattle.std.specs.Prelude.{if◌then◌else◌, option_and_then}
 use Rattle.dsde_sim_tree.specs.Tree.{name_of}
 use Rattle.dsde_values.specs.declared.name.Name.{Name}
 use Rattle.dsde_values.specs.declared.path.Path.{Path}
-use Rattle.dsde_formalism.specs.declared.leaf.Leaf.{Leaf}
-use Rattle.dsde_structure.specs.Gather.{is_same_name}
+use Rattle.dsde_sim_tree.specs.given.formalism.leaf_Leaf.{Leaf}
+use Rattle.dsde_sim_tree.specs.given.structure.Gather.{is_same_name}
 use Rattle.dsde_values.specs.Path.{EXEC}
-use Rattle.dsde_sim_events.specs.Told.{below, to_boss}
+use Rattle.dsde_sim_tree.specs.Told.{below, to_boss}
 use Rattle.dsde_sim_tree.specs.declared.sim.Kid.{Kid}
 use Rattle.dsde_sim_tree.specs.declared.sim.Net.{Net}
 use Rattle.dsde_sim_tree.specs.declared.sim.Sim.{Sim}
 use Rattle.dsde_sim_tree.specs.declared.sim.Sim.TheVariants as sim
 use Rattle.dsde_sim_tree.specs.declared.sim.Sim.TheViews.{out-Sim, out-Kid, out-Net}
 use Rattle.dsde_sim_tree.specs.lemmas.Trees.{each_tree}
-use Rattle.dsde_sim_delivery.specs.Places.{leaves_from, leaves_of_kid}
-use Rattle.dsde_sim_delivery.specs.lemmas.Events.{Among, among-left, among-right}
-use Rattle.dsde_sim_delivery.specs.lemmas.Opens.{leaves-Leaf, leaves-Net, leaves-kid}
+use Rattle.dsde_sim_movers.specs.Places.{leaves_from, leaves_of_kid}
+use Rattle.dsde_sim_movers.specs.lemmas.Events.{Among, among-left, among-right}
+use Rattle.dsde_sim_movers.specs.lemmas.Opens.{leaves-Leaf, leaves-Net, leaves-kid}
 use Rattle.dsde_sim_movers.specs.Parts.{kid_named, part_in, part_at}
 use Rattle.dsde_sim_movers.specs.Movers.{Seat, seat_within, seat_of, leaf_in, leaf_at, path_behind}
 use Rattle.dsde_sim_movers.specs.lemmas.Seats.{out-Leaf, out-Net-of, seat-within}

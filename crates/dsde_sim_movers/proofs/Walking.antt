@@ -13,16 +13,16 @@ use Rattle.dsde_sim_tree.specs.Tree.{name_of}
 use Rattle.dsde_values.specs.declared.name.Name.{Name}
 use Rattle.dsde_values.specs.declared.path.Path.{Path}
 use Rattle.dsde_values.specs.Path.{EXEC, is_executive, name_cmp, path_cmp}
-use Rattle.dsde_formalism.specs.declared.leaf.Leaf.{Leaf}
-use Rattle.dsde_formalism.specs.Leaf.{component_of}
-use Rattle.dsde_formalism.specs.System.{System, Ports}
-use Rattle.dsde_structure.specs.declared.plan.Link.{Link}
-use Rattle.dsde_structure.specs.declared.plan.Part.TheVariants as part
-use Rattle.dsde_structure.specs.declared.sources.Sources.{Sources}
-use Rattle.dsde_structure.specs.Gather.{gathered, is_same_name}
-use Rattle.dsde_structure.specs.Survival.{AreInOrder}
-use Rattle.dsde_sim_events.specs.declared.fault.TurnEnd.{TurnEnd}
-use Rattle.dsde_sim_events.specs.Told.{below, to_boss}
+use Rattle.dsde_sim_tree.specs.given.formalism.leaf_Leaf.{Leaf}
+use Rattle.dsde_sim_tree.specs.given.formalism.Leaf.{component_of}
+use Rattle.dsde_sim_tree.specs.given.formalism.System.{System, Ports}
+use Rattle.dsde_sim_tree.specs.given.structure.plan_Link.{Link}
+use Rattle.dsde_sim_tree.specs.given.structure.plan_Part_TheVariants as part
+use Rattle.dsde_sim_tree.specs.given.structure.sources_Sources.{Sources}
+use Rattle.dsde_sim_tree.specs.given.structure.Gather.{gathered, is_same_name}
+use Rattle.dsde_sim_tree.specs.given.structure.Survival.{AreInOrder}
+use Rattle.dsde_sim_tree.specs.declared.fault.TurnEnd.{TurnEnd}
+use Rattle.dsde_sim_tree.specs.Told.{below, to_boss}
 use Rattle.dsde_sim_tree.specs.declared.sim.Kid.{Kid}
 use Rattle.dsde_sim_tree.specs.declared.sim.Net.{Net}
 use Rattle.dsde_sim_tree.specs.declared.sim.Sim.{Sim}
@@ -31,9 +31,9 @@ use Rattle.dsde_sim_tree.specs.declared.sim.Sim.TheViews.{out-Kid, out-Net}
 use Rattle.dsde_sim_tree.specs.Move.{ins_of}
 use Rattle.dsde_sim_tree.specs.Output.{sources_of, kid_output}
 use Rattle.dsde_sim_tree.specs.lemmas.Trees.{each_tree}
-use Rattle.dsde_sim_delivery.specs.Deliveries.{Delivery, KidReceives, shared, deliveries, deliveries_of_kid}
-use Rattle.dsde_sim_delivery.specs.lemmas.Events.{each-append, each-weaker, each-filter}
-use Rattle.dsde_sim_delivery.specs.lemmas.Opens.{deliveries-Leaf, deliveries-Net, deliveries-kid}
+use Rattle.dsde_sim_movers.specs.Deliveries.{Delivery, KidReceives, shared, deliveries, deliveries_of_kid}
+use Rattle.dsde_sim_movers.specs.lemmas.Events.{each-append, each-weaker, each-filter}
+use Rattle.dsde_sim_movers.specs.lemmas.Opens.{deliveries-Leaf, deliveries-Net, deliveries-kid}
 use Rattle.dsde_sim_movers.specs.Names.{IsNamed}
 use Rattle.dsde_sim_movers.specs.Movers.{is_mover, movers, AreInPathOrder}
 use Rattle.dsde_sim_movers.specs.lemmas.Seats.{IsBehind}

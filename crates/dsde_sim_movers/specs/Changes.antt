@@ -3,12 +3,12 @@ use Rattle.std.specs.Prelude.{ℕ, ◌+◌, Bool, if◌then◌else◌, List, [],
 use Rattle.std.specs.List.{list_any}
 use Rattle.dsde_values.specs.declared.name.Name.{Name}
 use Rattle.dsde_values.specs.declared.path.Path.{Path}
-use Rattle.dsde_formalism.specs.System.{System}
-use Rattle.dsde_structure.specs.declared.plan.Change.{Change}
-use Rattle.dsde_structure.specs.declared.plan.Entry.{Entry}
-use Rattle.dsde_structure.specs.Gather.{is_same_name}
-use Rattle.dsde_structure.specs.Survival.{names}
-use Rattle.dsde_sim_events.specs.Told.{Told, told, telling, ◌then◌}
+use Rattle.dsde_sim_tree.specs.given.formalism.System.{System}
+use Rattle.dsde_sim_tree.specs.given.structure.plan_Change.{Change}
+use Rattle.dsde_sim_tree.specs.given.structure.plan_Entry.{Entry}
+use Rattle.dsde_sim_tree.specs.given.structure.Gather.{is_same_name}
+use Rattle.dsde_sim_tree.specs.given.structure.Survival.{names}
+use Rattle.dsde_sim_tree.specs.Told.{Told, told, telling, ◌then◌}
 use Rattle.dsde_sim_tree.specs.declared.sim.Kid.{Kid}
 use Rattle.dsde_sim_tree.specs.declared.sim.Sim.TheViews.{out-Kid}
 use Rattle.dsde_sim_tree.specs.Move.{drop_of, left_behind}

@@ -4,11 +4,11 @@ use Rattle.std.specs.List.{range_with_len}
 use Rattle.dsde_values.specs.declared.name.Name.{Name}
 use Rattle.dsde_values.specs.declared.path.Path.{Path}
 use Rattle.dsde_values.specs.Path.{root}
-use Rattle.dsde_formalism.specs.declared.leaf.Leaf.{Leaf}
-use Rattle.dsde_formalism.specs.Leaf.{component_of, is_due, has_come}
-use Rattle.dsde_formalism.specs.System.{System, Ports}
+use Rattle.dsde_sim_tree.specs.given.formalism.leaf_Leaf.{Leaf}
+use Rattle.dsde_sim_tree.specs.given.formalism.Leaf.{component_of, is_due, has_come}
+use Rattle.dsde_sim_tree.specs.given.formalism.System.{System, Ports}
 use Rattle.dsde_sim_tree.specs.declared.sim.Sim.{Sim}
-use Rattle.dsde_sim_delivery.specs.Deliveries.{Delivery, received}
+use Rattle.dsde_sim_movers.specs.Deliveries.{Delivery, received}
 use Rattle.dsde_sim_movers.specs.Movers.{leaf_at, path_behind, seat_behind, seat_of}
 
 -- what the links of a tree carry to a component or an executive at a path, port by port

@@ -6,12 +6,12 @@ use Rattle.std.specs.Ordering.{on}
 use Rattle.dsde_values.specs.declared.name.Name.{Name}
 use Rattle.dsde_values.specs.declared.path.Path.{Path}
 use Rattle.dsde_values.specs.Path.{path_cmp}
-use Rattle.dsde_formalism.specs.declared.leaf.Leaf.{Leaf}
-use Rattle.dsde_formalism.specs.System.{System, Ports}
-use Rattle.dsde_formalism.specs.Leaf.{is_due, has_come}
-use Rattle.dsde_structure.specs.Gather.{is_same_name}
+use Rattle.dsde_sim_tree.specs.given.formalism.leaf_Leaf.{Leaf}
+use Rattle.dsde_sim_tree.specs.given.formalism.System.{System, Ports}
+use Rattle.dsde_sim_tree.specs.given.formalism.Leaf.{is_due, has_come}
+use Rattle.dsde_sim_tree.specs.given.structure.Gather.{is_same_name}
 use Rattle.dsde_values.specs.Path.{EXEC}
-use Rattle.dsde_sim_events.specs.Told.{Told, told, ◌then◌}
+use Rattle.dsde_sim_tree.specs.Told.{Told, told, ◌then◌}
 use Rattle.dsde_sim_tree.specs.declared.sim.Kid.{Kid}
 use Rattle.dsde_sim_tree.specs.declared.sim.Net.{Net}
 use Rattle.dsde_sim_tree.specs.declared.sim.Sim.{Sim}
@@ -20,7 +20,7 @@ use Rattle.dsde_sim_tree.specs.declared.sim.Sim.TheOpen.{Sim-F}
 use Rattle.dsde_sim_tree.specs.declared.sim.Sim.TheViews.{out-Sim, out-Net}
 use Rattle.dsde_sim_tree.specs.Move.{move_leaf_at, boss_moves}
 use Rattle.dsde_sim_tree.specs.Opened.{as_leaf, as_net}
-use Rattle.dsde_sim_delivery.specs.Deliveries.{Delivery, deliveries}
+use Rattle.dsde_sim_movers.specs.Deliveries.{Delivery, deliveries}
 use Rattle.dsde_sim_movers.specs.Parts.{part_at, with_part}
 
 -- where a component or an executive has its seat: the names of the part that it is, or of the network

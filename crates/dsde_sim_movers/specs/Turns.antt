@@ -2,16 +2,16 @@
 use Rattle.std.specs.Prelude.{ℕ, ◌-◌, List, [], ◌∷◌}
 use Rattle.dsde_values.specs.declared.arrival.Item.{Item}
 use Rattle.dsde_values.specs.Path.{root}
-use Rattle.dsde_formalism.specs.System.{System, Ports}
-use Rattle.dsde_sim_events.specs.declared.event.Event.TheVariants.{Turn}
-use Rattle.dsde_sim_events.specs.Told.{Told, quietly, telling, ◌then◌}
+use Rattle.dsde_sim_tree.specs.given.formalism.System.{System, Ports}
+use Rattle.dsde_sim_tree.specs.declared.event.Event.TheVariants.{Turn}
+use Rattle.dsde_sim_tree.specs.Told.{Told, quietly, telling, ◌then◌}
 use Rattle.dsde_sim_tree.specs.declared.sim.Sim.{Sim}
 use Rattle.dsde_sim_tree.specs.Move.{ins_of}
 use Rattle.dsde_sim_tree.specs.Output.{by_port, output, outs_from}
 use Rattle.dsde_sim_tree.specs.Tree.{parts}
-use Rattle.dsde_sim_turns.specs.declared.step.TheConstants.{MOST_PARTS}
-use Rattle.dsde_sim_turns.specs.Turn.{without_room}
-use Rattle.dsde_sim_delivery.specs.Deliveries.{Delivery}
+use Rattle.dsde_sim_tree.specs.declared.step.TheConstants.{MOST_PARTS}
+use Rattle.dsde_sim_tree.specs.Turn.{without_room}
+use Rattle.dsde_sim_movers.specs.Deliveries.{Delivery}
 use Rattle.dsde_sim_movers.specs.Movers.{move_each, movers}
 
 -- the movers of a tree in a turn with these items of input, in path order

@@ -2,37 +2,37 @@
 use Rattle.std.proofs.Common.{◌≡◌, ℕ, suc, ◌<◌, arith, true, false, List, [], ◌∷◌, length, map, Result, Ok, Err, IfOk, slice_get, refl, sym, ap, subst, ◌∙◌}
 use Rattle.std.specs.List.{AllByRecursion, Contains}
 use Rattle.std.proofs.lemmas.List.FromFn.{length-map-range_with_len}
-use Rattle.dsde_sim_gathering.specs.Boxes.{box_of}
-use Rattle.dsde_syntax.specs.declared.decl.Model.{Model}
+use Rattle.dsde_sim_changing.specs.given.sim_gathering.Boxes.{box_of}
+use Rattle.dsde_language.specs.given.syntax.decl_Model.{Model}
 use Rattle.dsde_values.specs.declared.name.Name.{Name}
 use Rattle.dsde_values.specs.declared.types.Field.{Field}
 use Rattle.dsde_values.specs.declared.value.Value.{Value}
-use Rattle.dsde_declared.specs.declared.ids.ModelId.{ModelId}
-use Rattle.dsde_declared.specs.Models.{types_of, Own, owns_of, body_ins}
-use Rattle.dsde_check_rules.specs.Right.{IsRight}
-use Rattle.dsde_structure.specs.declared.plan.Entry.{Entry}
-use Rattle.dsde_structure.specs.declared.plan.Link.{Link}
-use Rattle.dsde_structure.specs.declared.plan.Part.{Part}
-use Rattle.dsde_structure.specs.declared.plan.Part.TheVariants as part
-use Rattle.dsde_structure.specs.declared.sources.Sources.{Sources}
-use Rattle.dsde_structure.specs.Gather.{gather, gathered}
-use Rattle.dsde_structure.specs.Survival.{AreInOrder, names}
-use Rattle.dsde_formalism.specs.System.{Ports}
-use Rattle.dsde_sim_events.specs.declared.fault.TurnEnd.{TurnEnd}
-use Rattle.dsde_system.specs.Program.{system}
-use Rattle.dsde_system.specs.Fitting.{FitsInputs, Reach}
-use Rattle.dsde_system.specs.Plans.{ArePortsOf, Cover, FitsSources, HasKid, ways, body_ways}
+use Rattle.dsde_language.specs.declared.ids.ModelId.{ModelId}
+use Rattle.dsde_language.specs.DeclaredModels.{types_of, Own, owns_of, body_ins}
+use Rattle.dsde_language.specs.Right.{IsRight}
+use Rattle.dsde_sim_tree.specs.given.structure.plan_Entry.{Entry}
+use Rattle.dsde_sim_tree.specs.given.structure.plan_Link.{Link}
+use Rattle.dsde_sim_tree.specs.given.structure.plan_Part.{Part}
+use Rattle.dsde_sim_tree.specs.given.structure.plan_Part_TheVariants as part
+use Rattle.dsde_sim_tree.specs.given.structure.sources_Sources.{Sources}
+use Rattle.dsde_sim_tree.specs.given.structure.Gather.{gather, gathered}
+use Rattle.dsde_sim_tree.specs.given.structure.Survival.{AreInOrder, names}
+use Rattle.dsde_sim_tree.specs.given.formalism.System.{Ports}
+use Rattle.dsde_sim_tree.specs.declared.fault.TurnEnd.{TurnEnd}
+use Rattle.dsde_sim_changing.specs.given.system.Program.{system}
+use Rattle.dsde_sim_changing.specs.given.system.Fitting.{FitsInputs, Reach}
+use Rattle.dsde_sim_changing.specs.given.system.Plans.{ArePortsOf, Cover, FitsSources, HasKid, ways, body_ways}
 use Rattle.dsde_sim_tree.specs.declared.sim.Kid.{Kid}
 use Rattle.dsde_sim_tree.specs.declared.sim.Net.{Net}
 use Rattle.dsde_sim_tree.specs.declared.sim.Sim.TheViews.{out-Kid, out-Net}
 use Rattle.dsde_sim_tree.specs.Tree.{entry_of, model_of, name_of}
-use Rattle.dsde_sound_links.specs.Carrying.{FitsWiring, GatheredFit, ReachCovers}
-use Rattle.dsde_sim_gathering.specs.Passing.{AreSorted, AreSortedKids, IsOfModel}
-use Rattle.dsde_sim_starting.specs.Fitting.{FitsGot, FitsKid, FitsNet}
-use Rattle.dsde_sim_starting.specs.Asking.{AreSources, AreAsked}
+use Rattle.dsde_sim_changing.specs.given.sound_structures.Carrying.{FitsWiring, GatheredFit, ReachCovers}
+use Rattle.dsde_sim_changing.specs.given.sim_gathering.Passing.{AreSorted, AreSortedKids, IsOfModel}
+use Rattle.dsde_sim_changing.specs.given.sim_starting.Fitting.{FitsGot, FitsKid, FitsNet}
+use Rattle.dsde_sim_changing.specs.given.sim_starting.Asking.{AreSources, AreAsked}
 use Rattle.dsde_sim_moving.specs.Moving.{AreFew, AreGot, FitsInside, IsAsked}
-use Rattle.dsde_sim_starting.specs.lemmas.Fits.{kid-tree, net-kids, net-shape}
-use Rattle.dsde_sim_starting.specs.lemmas.Stood.{Stood, stood, same-own, component-ins}
+use Rattle.dsde_sim_changing.specs.given.sim_starting.lemmas_Fits.{kid-tree, net-kids, net-shape}
+use Rattle.dsde_sim_changing.specs.given.sim_starting.lemmas_Stood.{Stood, stood, same-own, component-ins}
 
 each-inside : (model : Model) (kids : List Kid) → AllByRecursion (FitsKid model) kids → AllByRecursion (FitsInside model) kids
 each-inside model [] all = tt

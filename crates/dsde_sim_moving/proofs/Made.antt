@@ -1,20 +1,20 @@
 -- Components and links that are made anew fit.
 use Rattle.std.proofs.Common.{◌≡◌, true, List, map, sym, ap, subst}
-use Rattle.dsde_syntax.specs.declared.decl.Model.{Model}
+use Rattle.dsde_language.specs.given.syntax.decl_Model.{Model}
 use Rattle.dsde_values.specs.declared.name.Name.{Name}
-use Rattle.dsde_declared.specs.declared.ids.ModelId.{ModelId}
-use Rattle.dsde_structure.specs.declared.plan.Plan.{Plan}
-use Rattle.dsde_structure.specs.Survival.{roles}
-use Rattle.dsde_executive.specs.Structure.{IsPlan}
-use Rattle.dsde_system.specs.Program.{system}
+use Rattle.dsde_language.specs.declared.ids.ModelId.{ModelId}
+use Rattle.dsde_sim_tree.specs.given.structure.plan_Plan.{Plan}
+use Rattle.dsde_sim_tree.specs.given.structure.Survival.{roles}
+use Rattle.dsde_sim_changing.specs.given.executive.Structure.{IsPlan}
+use Rattle.dsde_sim_changing.specs.given.system.Program.{system}
 use Rattle.dsde_sim_tree.specs.declared.sim.Kid.{Kid}
 use Rattle.dsde_sim_tree.specs.declared.sim.Sim.{Sim}
 use Rattle.dsde_sim_tree.specs.declared.sim.Sim.TheViews.{out-roll-Kid}
 use Rattle.dsde_sim_tree.specs.Start.{kid_of}
 use Rattle.dsde_sim_tree.specs.Tree.{entry_of}
-use Rattle.dsde_sim_starting.specs.Fitting.{FitsKid, FitsLinks, FitsTree}
-use Rattle.dsde_sim_starting.specs.lemmas.Fits.{tree-kid}
-use Rattle.dsde_sim_starting.specs.lemmas.Roles.{links-by-roles}
+use Rattle.dsde_sim_changing.specs.given.sim_starting.Fitting.{FitsKid, FitsLinks, FitsTree}
+use Rattle.dsde_sim_changing.specs.given.sim_starting.lemmas_Fits.{tree-kid}
+use Rattle.dsde_sim_changing.specs.given.sim_starting.lemmas_Roles.{links-by-roles}
 
 module _ (model : Model) where
   pub kid-made : (name : Name) (own : Sim) → FitsTree model own → FitsKid model (kid_of name own)

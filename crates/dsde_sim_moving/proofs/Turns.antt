@@ -2,12 +2,12 @@
 use Rattle.std.proofs.Common.{◌≡◌, ℕ, ◌+◌, ◌*◌, ◌<◌, ◌≤◌, ◌^◌, ◌⊎◌, inl, inr, arith, List, [], ◌∷◌, ◌++◌, length, map, refl, sym, ap, subst, ◌∙◌, append-nil}
 use Rattle.std.specs.List.{AllByRecursion}
 use Rattle.std.proofs.lemmas.List.Sums.{sum_by-cons}
-use Rattle.dsde_syntax.specs.declared.decl.Model.{Model}
-use Rattle.dsde_formalism.specs.System.{Ports}
+use Rattle.dsde_language.specs.given.syntax.decl_Model.{Model}
+use Rattle.dsde_sim_tree.specs.given.formalism.System.{Ports}
 use Rattle.dsde_sim_tree.specs.declared.sim.Kid.{Kid}
 use Rattle.dsde_sim_tree.specs.declared.sim.Sim.TheViews.{out-Kid}
 use Rattle.dsde_sim_tree.specs.Tree.{entry_of, model_of, parts_of_kid, parts_of_kids}
-use Rattle.dsde_sim_starting.specs.Fitting.{FitsGot}
+use Rattle.dsde_sim_changing.specs.given.sim_starting.Fitting.{FitsGot}
 use Rattle.dsde_sim_moving.specs.Moving.{AreGot, FitsInside}
 
 module _ (items : List Kid) (kid : Kid) (later : List Kid) (is : items ≡ kid ∷ later) where

@@ -1,4 +1,5 @@
-pub use Rattle.dsde_sim_starting.specs.Fitting
-pub use Rattle.dsde_sim_starting.specs.lemmas.Fits
-pub use Rattle.dsde_sim_starting.specs.lemmas.Stood
+pub use Rattle.dsde_sim_changing.specs.given.sim_starting.Fitting
+pub use Rattle.dsde_sim_changing.specs.given.sim_starting.lemmas_Fits as Fits
+pub use Rattle.dsde_sim_changing.specs.given.sim_starting.lemmas_Stood as Stood
 pub mod Moving
+pub mod given

@@ -1,15 +1,15 @@
 -- How components move that have what comes to them.
 use Rattle.std.specs.Prelude.{ℕ, ◌<◌, ◌^◌, List, [], ◌∷◌, ◌++◌, length}
 use Rattle.std.specs.List.{AllByRecursion}
-use Rattle.dsde_syntax.specs.declared.decl.Model.{Model}
+use Rattle.dsde_language.specs.given.syntax.decl_Model.{Model}
 use Rattle.dsde_values.specs.declared.name.Name.{Name}
 use Rattle.dsde_values.specs.declared.path.Path.{Path}
-use Rattle.dsde_structure.specs.declared.plan.Link.{Link}
-use Rattle.dsde_structure.specs.declared.plan.Part.TheVariants as part
-use Rattle.dsde_structure.specs.declared.sources.Sources.{Sources}
-use Rattle.dsde_structure.specs.Gather.{gathered}
-use Rattle.dsde_formalism.specs.System.{System, Ports}
-use Rattle.dsde_sim_events.specs.Told.{Told, told, ◌then◌, below}
+use Rattle.dsde_sim_tree.specs.given.structure.plan_Link.{Link}
+use Rattle.dsde_sim_tree.specs.given.structure.plan_Part_TheVariants as part
+use Rattle.dsde_sim_tree.specs.given.structure.sources_Sources.{Sources}
+use Rattle.dsde_sim_tree.specs.given.structure.Gather.{gathered}
+use Rattle.dsde_sim_tree.specs.given.formalism.System.{System, Ports}
+use Rattle.dsde_sim_tree.specs.Told.{Told, told, ◌then◌, below}
 use Rattle.dsde_sim_tree.specs.declared.sim.Kid.{Kid}
 use Rattle.dsde_sim_tree.specs.declared.sim.Net.{Net}
 use Rattle.dsde_sim_tree.specs.declared.sim.Sim.{Sim}
@@ -18,8 +18,8 @@ use Rattle.dsde_sim_tree.specs.Opened.{shape_in}
 use Rattle.dsde_sim_tree.specs.Tree.{model_of}
 use Rattle.dsde_sim_tree.specs.Start.{kid_of}
 use Rattle.dsde_sim_tree.specs.Move.{move, ins_of}
-use Rattle.dsde_sim_starting.specs.Fitting.{FitsBodySent, FitsGot, FitsShape, FitsTree}
-use Rattle.dsde_sim_starting.specs.Asking.{AreAsked}
+use Rattle.dsde_sim_changing.specs.given.sim_starting.Fitting.{FitsBodySent, FitsGot, FitsShape, FitsTree}
+use Rattle.dsde_sim_changing.specs.given.sim_starting.Asking.{AreAsked}
 
 -- a component under its name
 abbrev pub as_kid : Name → Sim × ℕ → Told (Kid × ℕ)

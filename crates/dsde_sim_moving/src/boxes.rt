@@ -2,27 +2,26 @@
 
 ghost use Rattle.std.specs.Prelude.{◌≡◌, ◌<◌, ◌^◌, length, map, IfOk};
 ghost use Rattle.std.specs.List.{AllByRecursion};
-ghost use Rattle.dsde_sim_gathering.specs.Boxes.{box_of};
-ghost use Rattle.dsde_structure.specs.declared.plan.Part.TheVariants as part;
-ghost use Rattle.dsde_structure.specs.Gather.{gathered};
-ghost use Rattle.dsde_formalism.specs.Leaf.{component_of};
-ghost use Rattle.dsde_sim_events.specs.Told.{Comes};
-ghost use Rattle.dsde_system.specs.Program.{system};
-ghost use Rattle.dsde_system.specs.Fitting.{FitsInputs};
+ghost use Rattle.dsde_sim_changing.specs.given.sim_gathering.Boxes.{box_of};
+ghost use Rattle.dsde_sim_tree.specs.given.structure.plan_Part_TheVariants as part;
+ghost use Rattle.dsde_sim_tree.specs.given.structure.Gather.{gathered};
+ghost use Rattle.dsde_sim_tree.specs.given.formalism.Leaf.{component_of};
+ghost use Rattle.dsde_sim_tree.specs.Told.{Comes};
+ghost use Rattle.dsde_sim_changing.specs.given.system.Program.{system};
+ghost use Rattle.dsde_sim_changing.specs.given.system.Fitting.{FitsInputs};
 ghost use Rattle.dsde_sim_tree.specs.declared.sim.Sim.TheViews.{out-Net};
 ghost use Rattle.dsde_sim_tree.specs.Output.{kid_output, sources_of};
-ghost use Rattle.dsde_sim_starting.specs.Fitting.{FitsGot, FitsNet};
+ghost use Rattle.dsde_sim_changing.specs.given.sim_starting.Fitting.{FitsGot, FitsNet};
 ghost use Rattle.dsde_sim_moving.specs.Moving.{AreFew, AreGot, IsAsked};
 
-use dsde_atomic::ports_in;
-use dsde_check_tables::narrow;
-use dsde_program::Program;
-use dsde_sim_events::TurnEnd;
-use dsde_sim_gathering::{Inboxes, inboxes_of};
-use dsde_sim_starting::sources_of;
-use dsde_sim_tree::Net;
-use dsde_sound_links::{gathered_fits, reach_covers};
-use dsde_structure::Sources;
+use dsde_sim_changing::given::atomic::ports_in;
+use dsde_sim_changing::given::check_tables::narrow;
+use dsde_sim_changing::given::program::Program;
+use dsde_sim_changing::given::sim_gathering::{Inboxes, inboxes_of};
+use dsde_sim_changing::given::sim_starting::sources_of;
+use dsde_sim_changing::given::sound_structures::{gathered_fits, reach_covers};
+use dsde_sim_tree::given::structure::Sources;
+use dsde_sim_tree::{Net, TurnEnd};
 use dsde_values::{Memory, Path, Seq, Values};
 use std::alloc::Global;
 

@@ -2,19 +2,19 @@
 
 ghost use Rattle.std.specs.Prelude.{◌≡◌, ◌<◌, ◌^◌, length, IfOk};
 ghost use Rattle.dsde_values.specs.When.{IsMoment};
-ghost use Rattle.dsde_formalism.specs.Leaf.{has_come, kind_of, move_leaf};
-ghost use Rattle.dsde_sim_events.specs.Told.{at, to_boss, Comes, Tells};
-ghost use Rattle.dsde_system.specs.Program.{system};
-ghost use Rattle.dsde_system.specs.Fitting.{FitsInputs, FitsLeaf};
+ghost use Rattle.dsde_sim_tree.specs.given.formalism.Leaf.{has_come, kind_of, move_leaf};
+ghost use Rattle.dsde_sim_tree.specs.Told.{at, to_boss, Comes, Tells};
+ghost use Rattle.dsde_sim_changing.specs.given.system.Program.{system};
+ghost use Rattle.dsde_sim_changing.specs.given.system.Fitting.{FitsInputs, FitsLeaf};
 ghost use Rattle.dsde_sim_tree.specs.Move.{take_move, move_leaf_at};
-ghost use Rattle.dsde_sim_starting.specs.Fitting.{FitsAtomic, FitsGot};
+ghost use Rattle.dsde_sim_changing.specs.given.sim_starting.Fitting.{FitsAtomic, FitsGot};
 
-use dsde_atomic::move_leaf;
-use dsde_formalism::{Inputs, Leaf, MoveKind};
-use dsde_program::Program;
-use dsde_sim_events::{Event, TurnEnd};
-use dsde_sim_starting::is_due;
-use dsde_sim_telling::{at, boss_of, tell_gets, tell_move};
+use dsde_sim_changing::given::atomic::move_leaf;
+use dsde_sim_changing::given::program::Program;
+use dsde_sim_changing::given::sim_starting::is_due;
+use dsde_sim_changing::given::sim_telling::{at, boss_of, tell_gets, tell_move};
+use dsde_sim_tree::given::formalism::{Inputs, Leaf, MoveKind};
+use dsde_sim_tree::{Event, TurnEnd};
 use dsde_values::{Path, Seq, Values};
 use std::alloc::Global;
 

@@ -4,14 +4,15 @@
 #![tactic(auto)]
 
 mod boxes;
+pub mod given;
 mod leaf;
 mod net;
 mod walk;
 
 pub use boxes::{boxes_in, sources_in};
+pub use dsde_sim_changing::given::sim_gathering::ins_of;
+pub use dsde_sim_changing::given::sim_starting::{by_port, output, start};
 pub use dsde_sim_changing::{next_time, parts};
-pub use dsde_sim_gathering::ins_of;
-pub use dsde_sim_starting::{by_port, output, start};
 pub use leaf::{kind_of, take_move};
 pub use net::boss_moves;
 pub use walk::move_sim;

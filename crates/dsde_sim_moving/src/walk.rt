@@ -3,25 +3,24 @@
 ghost use Rattle.std.specs.Prelude.{◌≡◌, ◌+◌, ◌<◌, ◌≤◌, ◌^◌, [], map, IfOk};
 ghost use Rattle.std.specs.List.{AllByRecursion};
 ghost use Rattle.dsde_values.specs.When.{IsMoment};
-ghost use Rattle.dsde_sim_events.specs.Told.{Tells};
-ghost use Rattle.dsde_system.specs.Program.{system};
+ghost use Rattle.dsde_sim_tree.specs.Told.{Tells};
+ghost use Rattle.dsde_sim_changing.specs.given.system.Program.{system};
 ghost use Rattle.dsde_sim_tree.specs.Tree.{parts, parts_of_net, parts_of_kid, parts_of_kids, model_of, args_of, entry_of};
 ghost use Rattle.dsde_sim_tree.specs.Move.{move, net_move, kid_move, with_sources};
 ghost use Rattle.dsde_sim_tree.specs.declared.sim.Sim.TheVariants as variant;
 ghost use Rattle.dsde_sim_tree.specs.declared.sim.Sim.TheViews.{out-Kid, out-Net};
-ghost use Rattle.dsde_sim_starting.specs.Fitting.{FitsGot, FitsKid, FitsNet, FitsTree};
-ghost use Rattle.dsde_sim_starting.specs.Starting.{IsNet};
+ghost use Rattle.dsde_sim_changing.specs.given.sim_starting.Fitting.{FitsGot, FitsKid, FitsNet, FitsTree};
+ghost use Rattle.dsde_sim_changing.specs.given.sim_starting.Starting.{IsNet};
 ghost use Rattle.dsde_sim_moving.specs.Moving.{kid_with, kids_with, AreGot, FitsInside, IsAsked};
 
 use crate::boxes::{boxes_in, sources_in};
 use crate::leaf::move_leaf_at;
 use crate::net::boss_moves;
 use dsde_lists::Boxed;
-use dsde_program::Program;
-use dsde_sim_events::{Event, TurnEnd};
-use dsde_sim_telling::below;
-use dsde_sim_tree::{Kid, Net, Sim};
-use dsde_structure::Sources;
+use dsde_sim_changing::given::program::Program;
+use dsde_sim_changing::given::sim_telling::below;
+use dsde_sim_tree::given::structure::Sources;
+use dsde_sim_tree::{Event, Kid, Net, Sim, TurnEnd};
 use dsde_values::{Path, Seq, Values};
 use std::alloc::Global;
 

@@ -3,15 +3,15 @@ use Rattle.std.proofs.Math.Seq.{drop-cons}
 use Rattle.std.proofs.Common.{◌≡◌, ℕ, ◌+◌, ◌<◌, length, drop, take, get_or, add-one, List, [], ◌∷◌, ◌++◌, map, refl, sym, ap, subst, ◌∙◌, Result, Ok}
 use Rattle.std.specs.List.{AllByRecursion}
 use Rattle.std.proofs.lemmas.List.{get_or-map, length-map, map-append, take_more}
-use Rattle.dsde_syntax.specs.declared.decl.Model.{Model}
+use Rattle.dsde_language.specs.given.syntax.decl_Model.{Model}
 use Rattle.dsde_values.specs.declared.name.Name.{Name}
 use Rattle.dsde_values.specs.declared.path.Path.{Path}
-use Rattle.dsde_formalism.specs.System.{Ports}
-use Rattle.dsde_structure.specs.declared.sources.Given.{Given}
-use Rattle.dsde_sim_events.specs.declared.fault.TurnEnd.{TurnEnd}
-use Rattle.dsde_sim_events.specs.Told.{below}
-use Rattle.dsde_system.specs.Program.{system}
-use Rattle.dsde_system.specs.Plans.{FitsGiven}
+use Rattle.dsde_sim_tree.specs.given.formalism.System.{Ports}
+use Rattle.dsde_sim_tree.specs.given.structure.sources_Given.{Given}
+use Rattle.dsde_sim_tree.specs.declared.fault.TurnEnd.{TurnEnd}
+use Rattle.dsde_sim_tree.specs.Told.{below}
+use Rattle.dsde_executive.specs.given.system.Program.{system}
+use Rattle.dsde_executive.specs.given.system.Plans.{FitsGiven}
 use Rattle.dsde_sim_tree.specs.declared.sim.Kid.{Kid}
 use Rattle.dsde_sim_tree.specs.declared.sim.Sim.TheFolds.{fold-roll-Kid}
 use Rattle.dsde_sim_tree.specs.declared.sim.Sim.TheViews.{out-Kid, roll-out-Kid}

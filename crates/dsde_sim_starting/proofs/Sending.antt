@@ -4,27 +4,27 @@ use Rattle.std.specs.Prelude.{◌^◌, IfOk, length}
 use Rattle.std.specs.Option.{option_map_or}
 use Rattle.std.proofs.lemmas.Simd.{map-map}
 use Rattle.std.proofs.lemmas.List.FromFn.{length-map-range_with_len}
-use Rattle.dsde_syntax.specs.declared.decl.Decl.{Decl}
-use Rattle.dsde_syntax.specs.declared.decl.Decl.TheVariants as decl
-use Rattle.dsde_syntax.specs.declared.decl.Model.{Model}
+use Rattle.dsde_language.specs.given.syntax.decl_Decl.{Decl}
+use Rattle.dsde_language.specs.given.syntax.decl_Decl_TheVariants as decl
+use Rattle.dsde_language.specs.given.syntax.decl_Model.{Model}
 use Rattle.dsde_values.specs.declared.arrival.Item.{Item}
 use Rattle.dsde_values.specs.declared.value.Value.{Value}
 use Rattle.dsde_faults.specs.declared.end.LeafEnd.{LeafEnd}
-use Rattle.dsde_declared.specs.declared.ids.ModelId.{ModelId}
-use Rattle.dsde_declared.specs.Models.{whole_of, types_of, port_fields, Own, owns_of}
-use Rattle.dsde_check_rules.specs.Right.{IsRight}
-use Rattle.dsde_formalism.specs.declared.leaf.Leaf.{Leaf}
-use Rattle.dsde_formalism.specs.System.{Ports}
-use Rattle.dsde_sim_events.specs.declared.fault.TurnEnd.{TurnEnd}
-use Rattle.dsde_structure.specs.declared.plan.Entry.{Entry}
-use Rattle.dsde_structure.specs.declared.plan.Part.TheVariants as part
-use Rattle.dsde_structure.specs.declared.sources.Sources.{Sources}
-use Rattle.dsde_structure.specs.Gather.{gather, gathered}
-use Rattle.dsde_structure.specs.Survival.{AreInOrder}
-use Rattle.dsde_system.specs.Program.{system, component_at, network_at}
-use Rattle.dsde_system.specs.Fitting.{FitsSends, Reach}
-use Rattle.dsde_system.specs.Plans.{Cover, FitsSources, ways, body_ways}
-use Rattle.dsde_sound_links.specs.Carrying.{FitsWiring, GatheredFit, ReachCovers, SentFit}
+use Rattle.dsde_language.specs.declared.ids.ModelId.{ModelId}
+use Rattle.dsde_language.specs.DeclaredModels.{whole_of, types_of, port_fields, Own, owns_of}
+use Rattle.dsde_language.specs.Right.{IsRight}
+use Rattle.dsde_sim_tree.specs.given.formalism.leaf_Leaf.{Leaf}
+use Rattle.dsde_sim_tree.specs.given.formalism.System.{Ports}
+use Rattle.dsde_sim_tree.specs.declared.fault.TurnEnd.{TurnEnd}
+use Rattle.dsde_sim_tree.specs.given.structure.plan_Entry.{Entry}
+use Rattle.dsde_sim_tree.specs.given.structure.plan_Part_TheVariants as part
+use Rattle.dsde_sim_tree.specs.given.structure.sources_Sources.{Sources}
+use Rattle.dsde_sim_tree.specs.given.structure.Gather.{gather, gathered}
+use Rattle.dsde_sim_tree.specs.given.structure.Survival.{AreInOrder}
+use Rattle.dsde_executive.specs.given.system.Program.{system, component_at, network_at}
+use Rattle.dsde_executive.specs.given.system.Fitting.{FitsSends, Reach}
+use Rattle.dsde_executive.specs.given.system.Plans.{Cover, FitsSources, ways, body_ways}
+use Rattle.dsde_executive.specs.given.sound_structures.Carrying.{FitsWiring, GatheredFit, ReachCovers, SentFit}
 use Rattle.dsde_sim_gathering.specs.Passing.{AreSorted}
 use Rattle.dsde_sim_tree.specs.declared.sim.Net.{Net}
 use Rattle.dsde_sim_tree.specs.declared.sim.Sim.TheViews.{out-Net}

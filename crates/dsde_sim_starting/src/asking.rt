@@ -2,11 +2,11 @@
 
 ghost use Rattle.std.specs.Prelude.{◌≡◌, ◌<◌, ◌^◌, [], length, map, IfOk};
 ghost use Rattle.std.specs.List.{AllByRecursion};
-ghost use Rattle.dsde_sim_events.specs.Told.{at, to_boss, Comes};
-ghost use Rattle.dsde_system.specs.Program.{system};
-ghost use Rattle.dsde_system.specs.Fitting.{FitsLeaf};
-ghost use Rattle.dsde_structure.specs.declared.plan.Part.TheVariants as part;
-ghost use Rattle.dsde_structure.specs.Gather.{gathered};
+ghost use Rattle.dsde_sim_tree.specs.Told.{at, to_boss, Comes};
+ghost use Rattle.dsde_executive.specs.given.system.Program.{system};
+ghost use Rattle.dsde_executive.specs.given.system.Fitting.{FitsLeaf};
+ghost use Rattle.dsde_sim_tree.specs.given.structure.plan_Part_TheVariants as part;
+ghost use Rattle.dsde_sim_tree.specs.given.structure.Gather.{gathered};
 ghost use Rattle.dsde_sim_tree.specs.declared.sim.Sim.TheVariants as sim;
 ghost use Rattle.dsde_sim_tree.specs.declared.sim.Sim.TheViews.{out-Kid, out-Net};
 ghost use Rattle.dsde_sim_tree.specs.Tree.{model_of};
@@ -15,16 +15,15 @@ ghost use Rattle.dsde_sim_starting.specs.Fitting.{FitsTree, FitsKid, FitsNet, Fi
 ghost use Rattle.dsde_sim_starting.specs.Asking.{AreAsked, AreSources};
 
 use crate::ports::sent;
-use dsde_atomic::network_out;
-use dsde_check_tables::narrow;
-use dsde_formalism::Leaf;
-use dsde_program::Program;
-use dsde_sim_events::TurnEnd;
+use dsde_executive::given::check_tables::narrow;
+use dsde_executive::given::program::Program;
+use dsde_executive::given::sound_structures::{gathered_fits, reach_covers};
+use dsde_sim_gathering::given::atomic::network_out;
 use dsde_sim_gathering::sent_by_net;
 use dsde_sim_telling::{at, below, boss_of};
-use dsde_sim_tree::{Kid, Net, Sim};
-use dsde_sound_links::{gathered_fits, reach_covers};
-use dsde_structure::{Given, Sources};
+use dsde_sim_tree::given::formalism::Leaf;
+use dsde_sim_tree::given::structure::{Given, Sources};
+use dsde_sim_tree::{Kid, Net, Sim, TurnEnd};
 use dsde_values::{Memory, Path, Seq, Values};
 use std::alloc::Global;
 

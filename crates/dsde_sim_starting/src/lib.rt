@@ -2,6 +2,7 @@
 #![tactic(auto)]
 
 mod asking;
+pub mod given;
 mod networks;
 mod parts;
 mod ports;

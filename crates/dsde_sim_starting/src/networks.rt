@@ -2,22 +2,21 @@
 
 ghost use Rattle.std.specs.Prelude.{◌≡◌, true, IfOk};
 ghost use Rattle.dsde_executive.specs.Structure.{IsPlan, in_structure};
-ghost use Rattle.dsde_sim_events.specs.Told.{Comes};
-ghost use Rattle.dsde_system.specs.Program.{system};
-ghost use Rattle.dsde_system.specs.Fitting.{FitsArgs, FitsLeaf};
+ghost use Rattle.dsde_sim_tree.specs.Told.{Comes};
+ghost use Rattle.dsde_executive.specs.given.system.Program.{system};
+ghost use Rattle.dsde_executive.specs.given.system.Fitting.{FitsArgs, FitsLeaf};
 ghost use Rattle.dsde_sim_tree.specs.Start.{net_of, structure_of};
 ghost use Rattle.dsde_sim_starting.specs.Starting.{FitsWhereItsPartsDo, IsNet};
 
-use dsde_declared::ModelId;
+use dsde_executive::given::program::Program;
 use dsde_executive::structure;
 use dsde_faults::{EvalEnd, LeafEnd, Site};
-use dsde_formalism::Leaf;
+use dsde_language::ModelId;
 use dsde_lists::Boxed;
-use dsde_program::Program;
-use dsde_sim_events::TurnEnd;
 use dsde_sim_telling::{at, boss_of};
-use dsde_sim_tree::{Kid, Net};
-use dsde_structure::{Link, Plan};
+use dsde_sim_tree::given::formalism::Leaf;
+use dsde_sim_tree::given::structure::{Link, Plan};
+use dsde_sim_tree::{Kid, Net, TurnEnd};
 use dsde_values::{Memory, Path, Seq, Values};
 use std::alloc::Global;
 

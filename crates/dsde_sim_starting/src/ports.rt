@@ -1,18 +1,18 @@
 //! What a component or an executive sends, port by port.
 
 ghost use Rattle.std.specs.Prelude.{◌≡◌, ◌<◌, ◌^◌, length, IfOk};
-ghost use Rattle.dsde_formalism.specs.Leaf.{Gives, is_due, sent_at};
-ghost use Rattle.dsde_system.specs.Program.{system};
-ghost use Rattle.dsde_system.specs.Fitting.{FitsLeaf, FitsSends};
+ghost use Rattle.dsde_sim_tree.specs.given.formalism.Leaf.{Gives, is_due, sent_at};
+ghost use Rattle.dsde_executive.specs.given.system.Program.{system};
+ghost use Rattle.dsde_executive.specs.given.system.Fitting.{FitsLeaf, FitsSends};
 ghost use Rattle.dsde_sim_tree.specs.Output.{by_port, values_at, sent};
 ghost use Rattle.dsde_sim_starting.specs.Fitting.{FitsBodySent};
 
-use dsde_atomic::{output_leaf, ports_out};
-use dsde_check_tables::narrow;
+use dsde_executive::given::check_tables::narrow;
+use dsde_executive::given::program::Program;
+use dsde_executive::given::sound_structures::{reach_covers, sent_fits};
 use dsde_faults::LeafEnd;
-use dsde_formalism::Leaf;
-use dsde_program::Program;
-use dsde_sound_links::{reach_covers, sent_fits};
+use dsde_sim_gathering::given::atomic::{output_leaf, ports_out};
+use dsde_sim_tree::given::formalism::Leaf;
 use dsde_values::{Item, Memory, Seq, Values, When, copy_value};
 use std::alloc::Global;
 

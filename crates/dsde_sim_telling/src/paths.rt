@@ -2,10 +2,10 @@
 
 ghost use Rattle.std.specs.Prelude.{◌≡◌, Ok, IfOk};
 ghost use Rattle.dsde_values.specs.Path.{EXEC};
-ghost use Rattle.dsde_sim_events.specs.Told.{at, below, to_boss, Comes};
+ghost use Rattle.dsde_sim_tree.specs.Told.{at, below, to_boss, Comes};
 
 use dsde_faults::LeafEnd;
-use dsde_sim_events::TurnEnd;
+use dsde_sim_tree::TurnEnd;
 use dsde_values::{Memory, Name, Path, Seq, Stem};
 use std::alloc::Global;
 

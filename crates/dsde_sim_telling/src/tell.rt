@@ -1,15 +1,15 @@
 //! Events, each told by a call of its own.
 
 ghost use Rattle.std.specs.Prelude.{◌≡◌, ◌<◌, ◌^◌, ◌++◌, ◌∷◌, [], length, OnOk, OnErr};
-ghost use Rattle.dsde_sim_events.specs.declared.event.Event.TheVariants.{AddNet, AddLeaf, Get, Move, Drop};
-ghost use Rattle.dsde_sim_events.specs.Told.{IsCut, below};
+ghost use Rattle.dsde_sim_tree.specs.declared.event.Event.TheVariants.{AddNet, AddLeaf, Get, Move, Drop};
+ghost use Rattle.dsde_sim_tree.specs.Told.{IsCut, below};
 ghost use Rattle.dsde_sim_tree.specs.Move.{gets_at, gets_from};
 ghost use Rattle.dsde_sim_tree.specs.Output.{outs_at, outs_from};
 
 use crate::paths::{below, copy_path};
-use dsde_declared::ModelId;
-use dsde_formalism::{Leaf, MoveKind};
-use dsde_sim_events::Event;
+use dsde_language::ModelId;
+use dsde_sim_tree::Event;
+use dsde_sim_tree::given::formalism::{Leaf, MoveKind};
 use dsde_values::{Memory, Name, Path, Seq, Value, Values, copy_value, copy_values};
 use std::alloc::Global;
 

@@ -1,7 +1,11 @@
-pub mod Tree
-pub mod Output
-pub mod Start
+pub mod Engine
 pub mod Move
-pub mod Spots
 pub mod Opened
+pub mod Output
+pub mod Spots
+pub mod Start
+pub mod Told
+pub mod Tree
+pub mod Turn
 pub mod lemmas
+pub mod given

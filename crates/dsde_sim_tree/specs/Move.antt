@@ -7,21 +7,21 @@ use Rattle.std.specs.List.{list_any}
 use Rattle.dsde_values.specs.declared.name.Name.{Name}
 use Rattle.dsde_values.specs.declared.path.Path.{Path}
 use Rattle.dsde_values.specs.declared.value.Value.{Value}
-use Rattle.dsde_declared.specs.declared.ids.ModelId.{ModelId}
+use Rattle.dsde_language.specs.declared.ids.ModelId.{ModelId}
 use Rattle.dsde_formalism.specs.declared.leaf.Leaf.{Leaf}
 use Rattle.dsde_formalism.specs.declared.leaf.MoveKind.{MoveKind}
 use Rattle.dsde_formalism.specs.System.{System, Ports}
 use Rattle.dsde_formalism.specs.Leaf.{component_of, kind_of, move_leaf}
-use Rattle.dsde_structure.specs.declared.plan.Entry.{Entry}
-use Rattle.dsde_structure.specs.declared.plan.Link.{Link}
-use Rattle.dsde_structure.specs.declared.plan.Part.TheVariants as part
-use Rattle.dsde_structure.specs.declared.plan.Plan.{Plan}
-use Rattle.dsde_structure.specs.declared.sources.Sources.{Sources}
-use Rattle.dsde_structure.specs.Gather.{gathered, is_same_name}
-use Rattle.dsde_structure.specs.Survival as entry
-use Rattle.dsde_sim_events.specs.declared.event.Event.{Event}
-use Rattle.dsde_sim_events.specs.declared.event.Event.TheVariants.{Get, Move, Drop}
-use Rattle.dsde_sim_events.specs.Told.{Told, told, quietly, telling, ◌then◌, at, below, to_boss}
+use Rattle.dsde_formalism.specs.given.structure.plan_Entry.{Entry}
+use Rattle.dsde_formalism.specs.given.structure.plan_Link.{Link}
+use Rattle.dsde_formalism.specs.given.structure.plan_Part_TheVariants as part
+use Rattle.dsde_formalism.specs.given.structure.plan_Plan.{Plan}
+use Rattle.dsde_formalism.specs.given.structure.sources_Sources.{Sources}
+use Rattle.dsde_formalism.specs.given.structure.Gather.{gathered, is_same_name}
+use Rattle.dsde_formalism.specs.given.structure.Survival as entry
+use Rattle.dsde_sim_tree.specs.declared.event.Event.{Event}
+use Rattle.dsde_sim_tree.specs.declared.event.Event.TheVariants.{Get, Move, Drop}
+use Rattle.dsde_sim_tree.specs.Told.{Told, told, quietly, telling, ◌then◌, at, below, to_boss}
 use Rattle.dsde_sim_tree.specs.declared.sim.TheConstants.{DEEPEST}
 use Rattle.dsde_sim_tree.specs.declared.sim.Kid.{Kid}
 use Rattle.dsde_sim_tree.specs.declared.sim.Net.{Net}

@@ -5,9 +5,9 @@ use Rattle.std.specs.List.{flat_map}
 use Rattle.dsde_values.specs.declared.path.Path.{Path}
 use Rattle.dsde_formalism.specs.declared.leaf.Leaf.{Leaf}
 use Rattle.dsde_formalism.specs.System.{System, Ports}
-use Rattle.dsde_structure.specs.declared.plan.Link.{Link}
-use Rattle.dsde_structure.specs.declared.sources.Sources.{Sources}
-use Rattle.dsde_sim_events.specs.Told.{Told, told, ◌then◌}
+use Rattle.dsde_formalism.specs.given.structure.plan_Link.{Link}
+use Rattle.dsde_formalism.specs.given.structure.sources_Sources.{Sources}
+use Rattle.dsde_sim_tree.specs.Told.{Told, told, ◌then◌}
 use Rattle.dsde_sim_tree.specs.declared.sim.Kid.{Kid}
 use Rattle.dsde_sim_tree.specs.declared.sim.Net.{Net}
 use Rattle.dsde_sim_tree.specs.declared.sim.Sim.{Sim}

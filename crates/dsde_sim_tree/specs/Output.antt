@@ -5,19 +5,19 @@ use Rattle.std.specs.List.{range_with_len}
 use Rattle.dsde_values.specs.declared.arrival.Item.{Item}
 use Rattle.dsde_values.specs.declared.path.Path.{Path}
 use Rattle.dsde_values.specs.declared.value.Value.{Value}
-use Rattle.dsde_faults.specs.declared.end.LeafEnd.{LeafEnd}
+use Rattle.dsde_language.specs.given.faults.end_LeafEnd.{LeafEnd}
 use Rattle.dsde_formalism.specs.declared.leaf.Leaf.{Leaf}
 use Rattle.dsde_formalism.specs.System.{System, Ports}
 use Rattle.dsde_formalism.specs.Leaf as leaf
 use Rattle.dsde_formalism.specs.Leaf.{component_of, sent_at}
-use Rattle.dsde_structure.specs.declared.plan.Part.TheVariants as part
-use Rattle.dsde_structure.specs.declared.sources.Given.{Given}
-use Rattle.dsde_structure.specs.declared.sources.Sources.{Sources}
-use Rattle.dsde_structure.specs.Gather.{gathered}
-use Rattle.dsde_sim_events.specs.declared.event.Event.{Event}
-use Rattle.dsde_sim_events.specs.declared.event.Event.TheVariants.{Out}
-use Rattle.dsde_sim_events.specs.declared.fault.TurnEnd.{TurnEnd}
-use Rattle.dsde_sim_events.specs.Told.{at, below, to_boss}
+use Rattle.dsde_formalism.specs.given.structure.plan_Part_TheVariants as part
+use Rattle.dsde_formalism.specs.given.structure.sources_Given.{Given}
+use Rattle.dsde_formalism.specs.given.structure.sources_Sources.{Sources}
+use Rattle.dsde_formalism.specs.given.structure.Gather.{gathered}
+use Rattle.dsde_sim_tree.specs.declared.event.Event.{Event}
+use Rattle.dsde_sim_tree.specs.declared.event.Event.TheVariants.{Out}
+use Rattle.dsde_sim_tree.specs.declared.fault.TurnEnd.{TurnEnd}
+use Rattle.dsde_sim_tree.specs.Told.{at, below, to_boss}
 use Rattle.dsde_sim_tree.specs.declared.sim.Kid.{Kid}
 use Rattle.dsde_sim_tree.specs.declared.sim.Net.{Net}
 use Rattle.dsde_sim_tree.specs.declared.sim.Sim.{Sim}

@@ -1,9 +1,9 @@
 //! Simulators (F. J. Barros, "Abstract Simulators for the DSDE Formalism", WSC 1998).
 
-use dsde_declared::ModelId;
 use dsde_formalism::Leaf;
-use dsde_lists::Boxed;
-use dsde_structure::Link;
+use dsde_formalism::given::structure::Link;
+use dsde_language::ModelId;
+use dsde_values::given::lists::Boxed;
 use dsde_values::{Name, Seq, Values};
 
 /// The most names of a path.

@@ -5,19 +5,19 @@ use Rattle.dsde_values.specs.declared.arrival.Arrival.{Arrival}
 use Rattle.dsde_values.specs.declared.arrival.Item.{Item}
 use Rattle.dsde_values.specs.When.{IsMoment}
 use Rattle.dsde_values.specs.declared.value.Value.{Value}
-use Rattle.dsde_declared.specs.declared.ids.ModelId.{ModelId}
-use Rattle.dsde_declared.specs.Models.{types_of, Own, owns_of}
-use Rattle.dsde_eval_meaning.specs.Typed.{AllSent}
-use Rattle.dsde_system.specs.Plans.{ways}
-use Rattle.dsde_formalism.specs.System.{Chosen}
-use Rattle.dsde_sim_events.specs.declared.fault.TurnEnd.{TurnEnd}
+use Rattle.dsde_language.specs.declared.ids.ModelId.{ModelId}
+use Rattle.dsde_language.specs.DeclaredModels.{types_of, Own, owns_of}
+use Rattle.dsde_language.specs.Typed.{AllSent}
+use Rattle.dsde_sound_forward.specs.given.system.Plans.{ways}
+use Rattle.dsde_sim_tree.specs.given.formalism.System.{Chosen}
+use Rattle.dsde_sim_tree.specs.declared.fault.TurnEnd.{TurnEnd}
 use Rattle.dsde_sim_tree.specs.declared.sim.Sim.{Sim}
 use Rattle.dsde_sim_tree.specs.Tree.{parts, model_of}
-use Rattle.dsde_sim_turns.specs.declared.step.TheConstants.{MOST_PARTS}
-use Rattle.dsde_sim_turns.specs.Engine.{Engine}
-use Rattle.dsde_system.specs.Program.{system}
+use Rattle.dsde_sim_tree.specs.declared.step.TheConstants.{MOST_PARTS}
+use Rattle.dsde_sim_tree.specs.Engine.{Engine}
+use Rattle.dsde_sound_forward.specs.given.system.Program.{system}
 use Rattle.dsde_sim_moving.specs.Fitting.{FitsTree}
-use Rattle.dsde_sim_stands.specs.Stands.{StandsEngine}
+use Rattle.dsde_sound_forward.specs.given.sim_movers.Stands.{StandsEngine}
 
 -- a program, and the engine that runs it
 pub record Working : Type 0 where

@@ -2,7 +2,7 @@
 
 ghost use Rattle.std.specs.Prelude.{◌≡◌};
 ghost use Rattle.std.specs.Option.{option_copied};
-ghost use Rattle.dsde_sim_turns.specs.Turn.{turn_time, is_taken, items_at};
+ghost use Rattle.dsde_sim_tree.specs.Turn.{turn_time, is_taken, items_at};
 
 use dsde_values::{Arrival, Item, When};
 

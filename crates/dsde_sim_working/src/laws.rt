@@ -3,7 +3,7 @@
 ghost use Rattle.dsde_syntax.specs.declared.decl.Model.{Model};
 ghost use Rattle.dsde_sim_tree.specs.declared.sim.Sim.{Sim};
 ghost use Rattle.dsde_sim_moving.specs.Fitting.{FitsTree};
-ghost use Rattle.dsde_sim_movers.specs.Names.{IsNamed};
+ghost use Rattle.dsde_sound_forward.specs.given.sim_movers.Names.{IsNamed};
 
 /// A tree that fits a program has the components of each network in the order of their names, and none
 /// of them is named as an executive.

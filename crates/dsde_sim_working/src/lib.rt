@@ -2,6 +2,7 @@
 //! the laws of what fits.
 #![tactic(auto)]
 
+pub mod given;
 mod heads;
 mod laws;
 mod phases;

@@ -2,26 +2,24 @@
 
 ghost use Rattle.std.specs.Prelude.{◌≡◌, ◌<◌, ◌^◌, length, IfOk};
 ghost use Rattle.dsde_values.specs.Path.{root};
-ghost use Rattle.dsde_declared.specs.Models.{top_number};
-ghost use Rattle.dsde_sim_events.specs.Told.{Comes, Tells, at};
-ghost use Rattle.dsde_system.specs.Program.{system};
-ghost use Rattle.dsde_system.specs.Fitting.{FitsArgs};
+ghost use Rattle.dsde_language.specs.DeclaredModels.{top_number};
+ghost use Rattle.dsde_sim_tree.specs.Told.{Comes, Tells, at};
+ghost use Rattle.dsde_sound_forward.specs.given.system.Program.{system};
+ghost use Rattle.dsde_sound_forward.specs.given.system.Fitting.{FitsArgs};
 ghost use Rattle.dsde_sim_tree.specs.Tree.{model_of};
 ghost use Rattle.dsde_sim_tree.specs.Output.{by_port, output};
 ghost use Rattle.dsde_sim_tree.specs.Move.{ins_of};
-ghost use Rattle.dsde_sim_turns.specs.Turn.{started_tree};
+ghost use Rattle.dsde_sim_tree.specs.Turn.{started_tree};
 ghost use Rattle.dsde_sim_moving.specs.Fitting.{FitsGot, FitsTree};
 ghost use Rattle.dsde_sim_working.specs.Working.{FitsItems, Stands, chosen_by};
 
-use dsde_atomic::top_args;
-use dsde_check_tables::narrow;
-use dsde_program::Program;
-use dsde_sim_events::{Event, TurnEnd};
+use dsde_sim_moving::given::atomic::top_args;
+use dsde_sim_moving::given::check_tables::narrow;
+use dsde_sim_moving::given::program::Program;
+use dsde_sim_moving::given::sim_telling::at;
+use dsde_sim_moving::given::sound_structures::sent_fits;
 use dsde_sim_moving::{by_port, ins_of, output, start};
-use dsde_sim_telling::at;
-use dsde_sim_tree::{DEEPEST, Sim};
-use dsde_sim_turns::MOST_PARTS;
-use dsde_sound_links::sent_fits;
+use dsde_sim_tree::{DEEPEST, Event, MOST_PARTS, Sim, TurnEnd};
 use dsde_values::{Item, Memory, Path, Seq, Values};
 use std::alloc::Global;
 

@@ -20,20 +20,20 @@ use Rattle.dsde_syntax.specs.declared.decl.Typed.{Typed}
 use Rattle.dsde_values.specs.declared.types.Ty.{Ty}
 use Rattle.dsde_values.specs.declared.types.Ty.TheVariants as ty
 use Rattle.dsde_names.specs.Table.{place_of, is_among}
-use Rattle.dsde_check_rules.specs.declared.known.Around.{Around}
-use Rattle.dsde_check_rules.specs.declared.known.Known.{Known}
-use Rattle.dsde_check_rules.specs.declared.known.Site.{Site}
-use Rattle.dsde_check_rules.specs.declared.signatures.Func.{Func}
-use Rattle.dsde_check_rules.specs.declared.signatures.Port.{Port}
-use Rattle.dsde_check_rules.specs.declared.wrong.Wrong.{Wrong}
-use Rattle.dsde_check_rules.specs.declared.wrong.WrongKind.TheVariants.{Limit}
-use Rattle.dsde_check_rules.specs.Steps.{within, above}
-use Rattle.dsde_check_rules.specs.Types.{wanted}
-use Rattle.dsde_check_rules.specs.Tables.{added, func_name, known_of}
-use Rattle.dsde_check_rules.specs.Judge.{Scope, judge, type_of}
-use Rattle.dsde_check_rules.specs.Blocks.{walk, params_all, ports_all, around_func, return_of, func_height, func_of, new_state, state_of, inputs_seen, phase_of, moving, advance_of, move_of, inputs_of, phases_of, external_of, body_of, body_names}
-use Rattle.dsde_check_rules.specs.Structures.{enter_all, enter, item_walk, structure_of}
-use Rattle.dsde_check_rules.specs.Rules.{apart_all, distinct, record_rule, around_with, atomic_rule, inside_rule, network_rule, top_rule, decl_rule, decls_rule, top_rules, rules, first_wrong}
+use Rattle.dsde_language.specs.declared.known.Around.{Around}
+use Rattle.dsde_language.specs.declared.known.Known.{Known}
+use Rattle.dsde_language.specs.declared.known.Site.{Site}
+use Rattle.dsde_language.specs.declared.signatures.Func.{Func}
+use Rattle.dsde_language.specs.declared.signatures.Port.{Port}
+use Rattle.dsde_language.specs.declared.wrong.Wrong.{Wrong}
+use Rattle.dsde_language.specs.declared.wrong.WrongKind.TheVariants.{Limit}
+use Rattle.dsde_language.specs.Steps.{within, above}
+use Rattle.dsde_language.specs.Types.{wanted}
+use Rattle.dsde_language.specs.RuleTables.{added, func_name, known_of}
+use Rattle.dsde_language.specs.Judge.{Scope, judge, type_of}
+use Rattle.dsde_language.specs.Blocks.{walk, params_all, ports_all, around_func, return_of, func_height, func_of, new_state, state_of, inputs_seen, phase_of, moving, advance_of, move_of, inputs_of, phases_of, external_of, body_of, body_names}
+use Rattle.dsde_language.specs.RuleStructures.{enter_all, enter, item_walk, structure_of}
+use Rattle.dsde_language.specs.Rules.{apart_all, distinct, record_rule, around_with, atomic_rule, inside_rule, network_rule, top_rule, decl_rule, decls_rule, top_rules, rules, first_wrong}
 use Rattle.dsde_sound_depth.proofs.Nests.{most, nest, stmt_nest, item_nest, state_nest, phase_nest, body_nest, decl_nest}
 use Rattle.dsde_sound_depth.proofs.Sure.{Sure, follow, pass, done, failed, weaker, tested, Under, under-zero, under-both, under-left, under-right, under-above}
 use Rattle.dsde_sound_depth.proofs.FormsTall.{HasHeights}

@@ -10,9 +10,9 @@ use Rattle.dsde_syntax.specs.declared.expr.Tail.{Tail}
 use Rattle.dsde_syntax.specs.declared.expr.Expr.TheOpen.{Expr-F, Suffix-F, ExprArm-F, FieldSet-F, SignTail-F, Tail-F}
 use Rattle.dsde_syntax.specs.declared.expr.Expr.TheViews.{roll-Expr, roll-Suffix, roll-ExprArm, roll-FieldSet, roll-SignTail, roll-Tail}
 use Rattle.dsde_syntax.specs.declared.expr.Expr.TheFolds.{fold-Suffix, fold-ExprArm, fold-FieldSet, fold-SignTail, fold-Tail, map-Expr, map-Suffix, map-ExprArm, map-FieldSet, map-SignTail, map-Tail, fold-roll-Expr, fold-roll-Suffix, fold-roll-ExprArm, fold-roll-FieldSet, fold-roll-SignTail, fold-roll-Tail, ind-Expr}
-use Rattle.dsde_check_rules.specs.declared.known.Around.{Around}
-use Rattle.dsde_check_rules.specs.Judge as rules
-use Rattle.dsde_check_rules.specs.Judge.{Judge, Link, Guarded, SetJudge, row_of, judge_step, judge}
+use Rattle.dsde_language.specs.declared.known.Around.{Around}
+use Rattle.dsde_language.specs.Judge as rules
+use Rattle.dsde_language.specs.Judge.{Judge, Link, Guarded, SetJudge, row_of, judge_step, judge}
 use Rattle.dsde_sound_depth.proofs.Nests.{nest_step, suffix_nest_step, arm_nest_step, set_nest_step, sign_tail_nest_step, tail_nest_step, nest, suffix_nest, arm_nest, set_nest, sign_tail_nest, tail_nest}
 use Rattle.dsde_sound_depth.proofs.ExprTall.{Tall, LinkTall, ArmTall, AllTall, AllLinksTall, AllArmsTall, AllSetsTall, none-tall, tail-tall, sign_tail-tall, field-tall, index-tall, unwrap-tall}
 use Rattle.dsde_sound_depth.proofs.FormsTall.{HasHeights, chain-tall, or_else-tall, compare-tall, not-tall, neg-tall, if-tall, call-tall, builtin-tall, list-tall, new-tall, no-test, some-test, arm-tall, each-tall}

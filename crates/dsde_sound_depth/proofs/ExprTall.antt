@@ -9,15 +9,15 @@ use Rattle.dsde_values.specs.declared.types.Ty.{Ty}
 use Rattle.dsde_values.specs.declared.types.Ty.TheVariants as ty
 use Rattle.std.specs.Str.{bytes_eq}
 use Rattle.std.proofs.lemmas.Bool.Decides.{nat_tests}
-use Rattle.dsde_check_rules.specs.declared.known.Around.{Around}
-use Rattle.dsde_check_rules.specs.declared.builtin.Part.{Part}
-use Rattle.dsde_check_rules.specs.declared.seen.Seen.{Seen}
-use Rattle.dsde_check_rules.specs.declared.wrong.Wrong.{Wrong}
-use Rattle.dsde_check_rules.specs.declared.wrong.WrongKind.TheVariants.{Limit, WrongType}
-use Rattle.dsde_check_rules.specs.Steps.{unless, above}
-use Rattle.dsde_check_rules.specs.Types.{wanted, depth_of, item_type, held_type}
-use Rattle.dsde_check_rules.specs.Judge as rules
-use Rattle.dsde_check_rules.specs.Judge.{Scope, Judge, Link, Guarded, SetJudge, seen_as, made, links_from, chain, test_of, guarded, fit, fit_all, all_of, list_of, operand, sign_may_fault, total, field_of, part_type, in_order, fill, fit_parts, arms_of, judge_step}
+use Rattle.dsde_language.specs.declared.known.Around.{Around}
+use Rattle.dsde_language.specs.declared.builtin.Part.{Part}
+use Rattle.dsde_language.specs.declared.seen.Seen.{Seen}
+use Rattle.dsde_language.specs.declared.wrong.Wrong.{Wrong}
+use Rattle.dsde_language.specs.declared.wrong.WrongKind.TheVariants.{Limit, WrongType}
+use Rattle.dsde_language.specs.Steps.{unless, above}
+use Rattle.dsde_language.specs.Types.{wanted, depth_of, item_type, held_type}
+use Rattle.dsde_language.specs.Judge as rules
+use Rattle.dsde_language.specs.Judge.{Scope, Judge, Link, Guarded, SetJudge, seen_as, made, links_from, chain, test_of, guarded, fit, fit_all, all_of, list_of, operand, sign_may_fault, total, field_of, part_type, in_order, fill, fit_parts, arms_of, judge_step}
 use Rattle.dsde_sound_depth.proofs.Nests.{most}
 use Rattle.dsde_sound_depth.proofs.ExprParts.{both}
 use Rattle.dsde_sound_depth.proofs.Sure.{Sure, follow, pass, done, failed, weaker, tested, Under, Nearly, under-zero, under-same, under-more, under-both, under-left, under-right, under-above, nearly-above, nearly-more, nearly-both, nearly-under}

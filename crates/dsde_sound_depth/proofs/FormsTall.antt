@@ -7,17 +7,17 @@ use Rattle.dsde_syntax.specs.declared.expr.Expr.TheOpen.{Expr-F}
 use Rattle.dsde_values.specs.declared.types.Field.{Field}
 use Rattle.dsde_values.specs.declared.types.Ty.TheVariants as ty
 use Rattle.dsde_names.specs.Table.{named}
-use Rattle.dsde_check_rules.specs.declared.builtin.Row.{Row}
-use Rattle.dsde_check_rules.specs.declared.known.Around.{Around}
-use Rattle.dsde_check_rules.specs.declared.known.Known.{Known}
-use Rattle.dsde_check_rules.specs.declared.seen.Seen.{Seen}
-use Rattle.dsde_check_rules.specs.declared.signatures.Func.{Func}
-use Rattle.dsde_check_rules.specs.declared.wrong.WrongKind.TheVariants.{Unknown, WrongType}
-use Rattle.dsde_check_rules.specs.Steps.{wrong, above}
-use Rattle.dsde_check_rules.specs.Tables.{func_name}
-use Rattle.dsde_check_rules.specs.Types.{wanted, item_type, held_type}
-use Rattle.dsde_check_rules.specs.Judge as rules
-use Rattle.dsde_check_rules.specs.Judge.{Scope, Judge, Link, Guarded, SetJudge, fresh, fixed, total, chain, test_of, guarded, list_of, call_of, call_to, compared, fields_at, declared_type, all_fields, in_order, record_of, record_at, new_of, builtin_of, given_type, each_of, if_of, judge_step}
+use Rattle.dsde_language.specs.declared.builtin.Row.{Row}
+use Rattle.dsde_language.specs.declared.known.Around.{Around}
+use Rattle.dsde_language.specs.declared.known.Known.{Known}
+use Rattle.dsde_language.specs.declared.seen.Seen.{Seen}
+use Rattle.dsde_language.specs.declared.signatures.Func.{Func}
+use Rattle.dsde_language.specs.declared.wrong.WrongKind.TheVariants.{Unknown, WrongType}
+use Rattle.dsde_language.specs.Steps.{wrong, above}
+use Rattle.dsde_language.specs.RuleTables.{func_name}
+use Rattle.dsde_language.specs.Types.{wanted, item_type, held_type}
+use Rattle.dsde_language.specs.Judge as rules
+use Rattle.dsde_language.specs.Judge.{Scope, Judge, Link, Guarded, SetJudge, fresh, fixed, total, chain, test_of, guarded, list_of, call_of, call_to, compared, fields_at, declared_type, all_fields, in_order, record_of, record_at, new_of, builtin_of, given_type, each_of, if_of, judge_step}
 use Rattle.dsde_sound_depth.proofs.Nests.{most, test_nest, nest_step, arm_nest_step}
 use Rattle.dsde_sound_depth.proofs.Sure.{Sure, follow, pass, done, failed, weaker, tested, Under, Nearly, under-zero, under-same, under-more, under-both, under-left, under-right, under-above, nearly-above, nearly-more, nearly-both, nearly-next, nearly-under}
 use Rattle.dsde_sound_depth.proofs.ExprTall.{Tall, ArmTall, AllTall, AllLinksTall, AllArmsTall, AllSetsTall, made-tall, links-tall, same-length, fit_all-tall, all_of-tall, fill-tall, fit_parts-tall, arms_of-tall}

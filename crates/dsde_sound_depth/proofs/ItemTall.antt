@@ -17,19 +17,19 @@ use Rattle.dsde_syntax.specs.declared.item.Item.TheFolds.{fold-ItemArm, map-Item
 use Rattle.dsde_values.specs.declared.types.Ty.{Ty}
 use Rattle.dsde_values.specs.declared.types.Ty.TheVariants as ty
 use Rattle.dsde_names.specs.Table.{named}
-use Rattle.dsde_check_rules.specs.declared.known.Around.{Around}
-use Rattle.dsde_check_rules.specs.declared.known.Site.{Site}
-use Rattle.dsde_check_rules.specs.declared.seen.EndSeen.{EndSeen}
-use Rattle.dsde_check_rules.specs.declared.signatures.Family.{Family}
-use Rattle.dsde_check_rules.specs.declared.signatures.ModelSig.{ModelSig}
-use Rattle.dsde_check_rules.specs.declared.signatures.Port.{Port}
-use Rattle.dsde_check_rules.specs.declared.wrong.WrongKind.TheVariants.{Unknown, WrongType, BadLink}
-use Rattle.dsde_check_rules.specs.Steps.{wrong, unless, above}
-use Rattle.dsde_check_rules.specs.Types.{same, wanted}
-use Rattle.dsde_check_rules.specs.Tables.{port_name}
-use Rattle.dsde_check_rules.specs.Judge.{Scope, fresh, fixed, fit_all, judge}
-use Rattle.dsde_check_rules.specs.Blocks.{Walk, ArmWalk}
-use Rattle.dsde_check_rules.specs.Structures.{model_named, family_named, index_of, args_of, comp_of, port_at, end_at, ports_at, kid_end, end_of, translating, body_via, keyed_via, via_of, through, link_of, item_step, item_arm_step, item_walk}
+use Rattle.dsde_language.specs.declared.known.Around.{Around}
+use Rattle.dsde_language.specs.declared.known.Site.{Site}
+use Rattle.dsde_language.specs.declared.seen.EndSeen.{EndSeen}
+use Rattle.dsde_language.specs.declared.signatures.Family.{Family}
+use Rattle.dsde_language.specs.declared.signatures.ModelSig.{ModelSig}
+use Rattle.dsde_language.specs.declared.signatures.Port.{Port}
+use Rattle.dsde_language.specs.declared.wrong.WrongKind.TheVariants.{Unknown, WrongType, BadLink}
+use Rattle.dsde_language.specs.Steps.{wrong, unless, above}
+use Rattle.dsde_language.specs.Types.{same, wanted}
+use Rattle.dsde_language.specs.RuleTables.{port_name}
+use Rattle.dsde_language.specs.Judge.{Scope, fresh, fixed, fit_all, judge}
+use Rattle.dsde_language.specs.Blocks.{Walk, ArmWalk}
+use Rattle.dsde_language.specs.RuleStructures.{model_named, family_named, index_of, args_of, comp_of, port_at, end_at, ports_at, kid_end, end_of, translating, body_via, keyed_via, via_of, through, link_of, item_step, item_arm_step, item_walk}
 use Rattle.dsde_sound_depth.proofs.Nests.{most, nest, index_nest, end_part_nest, key_nest, via_nest, item_nest_step, item_arm_nest_step, item_nest, item_arm_nest}
 use Rattle.dsde_sound_depth.proofs.Sure.{Sure, follow, pass, done, failed, weaker, Under, under-zero, under-both, under-left, under-right, under-above}
 use Rattle.dsde_sound_depth.proofs.ExprTall.{AllTall, fit_all-tall}

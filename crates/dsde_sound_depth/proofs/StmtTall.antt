@@ -8,15 +8,15 @@ use Rattle.dsde_syntax.specs.declared.stmt.Stmt.TheOpen.{Stmt-F, StmtArm-F}
 use Rattle.dsde_syntax.specs.declared.stmt.Stmt.TheViews.{roll-Stmt, roll-StmtArm}
 use Rattle.dsde_syntax.specs.declared.stmt.Stmt.TheFolds.{map-Stmt, map-StmtArm, fold-roll-Stmt, fold-roll-StmtArm, ind-Stmt}
 use Rattle.dsde_names.specs.Table.{named}
-use Rattle.dsde_check_rules.specs.declared.known.Around.{Around}
-use Rattle.dsde_check_rules.specs.declared.seen.Binding.{Binding}
-use Rattle.dsde_check_rules.specs.declared.signatures.Port.{Port}
-use Rattle.dsde_check_rules.specs.declared.wrong.WrongKind.TheVariants.{Unknown, WrongType}
-use Rattle.dsde_check_rules.specs.Steps.{wrong, unless}
-use Rattle.dsde_check_rules.specs.Types.{wanted, item_type}
-use Rattle.dsde_check_rules.specs.Tables.{port_name}
-use Rattle.dsde_check_rules.specs.Judge.{Scope, Judge, bound_to, fresh, fixed, judge}
-use Rattle.dsde_check_rules.specs.Blocks.{Passed, Walk, ArmWalk, walk_all, inner, may_set, let_of, set_of, set_to, send_of, send_to, arms_walk, last_walk, arm_of, if_walk, for_walk, stmt_step, stmt_arm_step, walk, walk_arm}
+use Rattle.dsde_language.specs.declared.known.Around.{Around}
+use Rattle.dsde_language.specs.declared.seen.Binding.{Binding}
+use Rattle.dsde_language.specs.declared.signatures.Port.{Port}
+use Rattle.dsde_language.specs.declared.wrong.WrongKind.TheVariants.{Unknown, WrongType}
+use Rattle.dsde_language.specs.Steps.{wrong, unless}
+use Rattle.dsde_language.specs.Types.{wanted, item_type}
+use Rattle.dsde_language.specs.RuleTables.{port_name}
+use Rattle.dsde_language.specs.Judge.{Scope, Judge, bound_to, fresh, fixed, judge}
+use Rattle.dsde_language.specs.Blocks.{Passed, Walk, ArmWalk, walk_all, inner, may_set, let_of, set_of, set_to, send_of, send_to, arms_walk, last_walk, arm_of, if_walk, for_walk, stmt_step, stmt_arm_step, walk, walk_arm}
 use Rattle.dsde_sound_depth.proofs.Nests.{most, nest, else_nest, stmt_nest_step, stmt_arm_nest_step, stmt_nest, stmt_arm_nest}
 use Rattle.dsde_sound_depth.proofs.Sure.{Sure, follow, pass, done, failed, weaker, Under, Nearly, under-zero, under-same, under-more, under-both, under-left, under-right, under-above, nearly-above, nearly-more, nearly-both, nearly-under}
 use Rattle.dsde_sound_depth.proofs.ExprTall.{Tall}

@@ -2,9 +2,9 @@
 use Rattle.std.proofs.Common.{◌≡◌, ℕ, ◌+◌, ◌≤◌, Bool, true, false, Result, Ok, Err, refl, arith}
 use Rattle.std.specs.Prelude.{max, IfOk}
 use Rattle.std.proofs.Math.Nat.{le-max_left, le-max_right}
-use Rattle.dsde_check_rules.specs.declared.wrong.Wrong.{Wrong}
-use Rattle.dsde_check_rules.specs.declared.wrong.WrongKind.{WrongKind}
-use Rattle.dsde_check_rules.specs.Steps.{◌>>=◌, unless, above}
+use Rattle.dsde_language.specs.declared.wrong.Wrong.{Wrong}
+use Rattle.dsde_language.specs.declared.wrong.WrongKind.{WrongKind}
+use Rattle.dsde_language.specs.Steps.{◌>>=◌, unless, above}
 
 pub record Sure {A : Type 0} (r : Result A Wrong) (P : A → Type 0) : Type 0 where
   pub sure : IfOk r P

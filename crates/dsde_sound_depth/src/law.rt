@@ -3,7 +3,7 @@
 ghost use Rattle.std.specs.Prelude.{ℕ, ◌≤◌, take};
 ghost use Rattle.dsde_syntax.specs.declared.decl.Model.{Model};
 ghost use Rattle.dsde_syntax.specs.Grammar.{tokens_of};
-ghost use Rattle.dsde_check_rules.specs.Right.{IsRight};
+ghost use Rattle.dsde_language.specs.Right.{IsRight};
 ghost use Rattle.dsde_parser.specs.Depth.{open_after};
 
 /// A law: at each place of a model in which nothing is wrong at most 512 conditions are open. So

@@ -1,18 +1,18 @@
 -- Nodes of one, two and three arguments.
 use Rattle.std.proofs.Common.{◌≡◌, ℕ, ◌+◌, List, [], ◌∷◌, ◌++◌, length, refl, ◌∙◌, arith}
-use Rattle.dsde_values.specs.declared.types.Field.{Field}
-use Rattle.dsde_values.specs.declared.types.Ty.{Ty}
-use Rattle.dsde_values.specs.declared.value.Value.{Value}
-use Rattle.dsde_check_rules.specs.Steps.{above}
-use Rattle.dsde_program_nodes.specs.declared.ids.ExprId.{ExprId}
-use Rattle.dsde_program_nodes.specs.declared.node.Node.{Node}
-use Rattle.dsde_program_nodes.specs.Expressions.{Resolved, expr_id, all_nodes, numbers, over_all}
-use Rattle.dsde_eval_meaning.specs.Outcome.{Outcome, ◌>>=◌}
-use Rattle.dsde_eval_meaning.specs.Meaning.{Mean}
-use Rattle.dsde_eval_meaning.specs.Tables.{Means, means_in, node_mean}
-use Rattle.dsde_eval_meaning.specs.Typed.{Typed, Sound, values_in}
-use Rattle.dsde_sound_typing.specs.lemmas.Standing.{stands-left, stands-right}
-use Rattle.dsde_sound_typing.specs.lemmas.Outcomes.{sound-then, same-then}
+use Rattle.dsde_language.specs.given.values.types_Field.{Field}
+use Rattle.dsde_language.specs.given.values.types_Ty.{Ty}
+use Rattle.dsde_language.specs.given.values.value_Value.{Value}
+use Rattle.dsde_language.specs.Steps.{above}
+use Rattle.dsde_language.specs.declared.node_ids.ExprId.{ExprId}
+use Rattle.dsde_language.specs.declared.node.Node.{Node}
+use Rattle.dsde_language.specs.Expressions.{Resolved, expr_id, all_nodes, numbers, over_all}
+use Rattle.dsde_language.specs.Outcome.{Outcome, ◌>>=◌}
+use Rattle.dsde_language.specs.Meaning.{Mean}
+use Rattle.dsde_language.specs.MeaningTables.{Means, means_in, node_mean}
+use Rattle.dsde_language.specs.Typed.{Typed, Sound, values_in}
+use Rattle.dsde_sound_expressions.specs.lemmas.Standing.{stands-left, stands-right}
+use Rattle.dsde_sound_expressions.specs.lemmas.Outcomes.{sound-then, same-then}
 use Rattle.dsde_sound_expressions.proofs.At.{Ground, At, node-reads}
 
 module _ (g : Ground) (slots : List Field) (own : List ExprId → Node) (kind : List Field → Ty) (u : Ty) (is : kind slots ≡ u) (n : ℕ) where

@@ -1,34 +1,34 @@
 -- `if` with its arms.
 use Rattle.std.proofs.Common.{◌≡◌, ℕ, ◌+◌, ◌≤◌, max, Bool, true, false, if◌then◌else◌, List, [], ◌∷◌, ◌++◌, map, length, Some, Ok, refl, sym, ap, subst, arith, append_assoc}
-use Rattle.dsde_syntax.specs.declared.expr.Expr.TheOpen.{Expr-F}
-use Rattle.dsde_syntax.specs.Levels.{has_first}
-use Rattle.dsde_values.specs.declared.types.Field.{Field}
-use Rattle.dsde_values.specs.declared.types.Ty.{Ty}
-use Rattle.dsde_values.specs.declared.types.Ty.TheVariants as ty
-use Rattle.dsde_values.specs.declared.types.Types.{Types}
-use Rattle.dsde_values.specs.declared.value.Value.{Value}
-use Rattle.dsde_check_rules.specs.declared.known.Around.{Around}
-use Rattle.dsde_check_rules.specs.declared.known.Known.{Known}
-use Rattle.dsde_check_rules.specs.declared.seen.Seen.{Seen}
-use Rattle.dsde_check_rules.specs.Steps.{above}
-use Rattle.dsde_check_rules.specs.Types.{wanted}
-use Rattle.dsde_check_rules.specs.Judge as rules
-use Rattle.dsde_check_rules.specs.Judge.{Scope, Judge, Guarded, guarded, test_of, judge_step}
-use Rattle.dsde_program_nodes.specs.declared.ids.ExprId.{ExprId}
-use Rattle.dsde_program_nodes.specs.declared.node.Node.{Node}
-use Rattle.dsde_program_nodes.specs.declared.node.Node.TheVariants as node
-use Rattle.dsde_program_nodes.specs.Expressions.{Resolved, Arm, resolve_step, of_type, expr_id, arm_nodes, arm_numbers, if_nodes}
-use Rattle.dsde_eval_meaning.specs.Outcome.{Outcome, ◌>>=◌, truth_of}
-use Rattle.dsde_eval_meaning.specs.Meaning as meaning
-use Rattle.dsde_eval_meaning.specs.Meaning.{Vars, Mean, ArmMean, Function, mean_step}
-use Rattle.dsde_eval_meaning.specs.Tables.{Coded, means_in, arms_from}
-use Rattle.dsde_eval_meaning.specs.Typed.{Typed, Sound, Fits, values_in}
-use Rattle.dsde_eval_meaning.specs.Scopes.{Stands, Sees}
-use Rattle.dsde_sound_typing.specs.lemmas.Standing.{stands-left, stands-right}
-use Rattle.dsde_sound_typing.specs.lemmas.Steps.{went, ok-is}
-use Rattle.dsde_sound_typing.specs.lemmas.Outcomes.{Any, sound-then, sound-if, same-then}
-use Rattle.dsde_sound_typing.specs.lemmas.Types.{wanted-is}
-use Rattle.dsde_sound_typing.specs.lemmas.Values.{truth-sound}
+use Rattle.dsde_language.specs.given.syntax.expr_Expr_TheOpen.{Expr-F}
+use Rattle.dsde_language.specs.given.syntax.Levels.{has_first}
+use Rattle.dsde_language.specs.given.values.types_Field.{Field}
+use Rattle.dsde_language.specs.given.values.types_Ty.{Ty}
+use Rattle.dsde_language.specs.given.values.types_Ty_TheVariants as ty
+use Rattle.dsde_language.specs.given.values.types_Types.{Types}
+use Rattle.dsde_language.specs.given.values.value_Value.{Value}
+use Rattle.dsde_language.specs.declared.known.Around.{Around}
+use Rattle.dsde_language.specs.declared.known.Known.{Known}
+use Rattle.dsde_language.specs.declared.seen.Seen.{Seen}
+use Rattle.dsde_language.specs.Steps.{above}
+use Rattle.dsde_language.specs.Types.{wanted}
+use Rattle.dsde_language.specs.Judge as rules
+use Rattle.dsde_language.specs.Judge.{Scope, Judge, Guarded, guarded, test_of, judge_step}
+use Rattle.dsde_language.specs.declared.node_ids.ExprId.{ExprId}
+use Rattle.dsde_language.specs.declared.node.Node.{Node}
+use Rattle.dsde_language.specs.declared.node.Node.TheVariants as node
+use Rattle.dsde_language.specs.Expressions.{Resolved, Arm, resolve_step, of_type, expr_id, arm_nodes, arm_numbers, if_nodes}
+use Rattle.dsde_language.specs.Outcome.{Outcome, ◌>>=◌, truth_of}
+use Rattle.dsde_language.specs.Meaning as meaning
+use Rattle.dsde_language.specs.Meaning.{Vars, Mean, ArmMean, Function, mean_step}
+use Rattle.dsde_language.specs.MeaningTables.{Coded, means_in, arms_from}
+use Rattle.dsde_language.specs.Typed.{Typed, Sound, Fits, values_in}
+use Rattle.dsde_language.specs.Scopes.{Stands, Sees}
+use Rattle.dsde_sound_expressions.specs.lemmas.Standing.{stands-left, stands-right}
+use Rattle.dsde_sound_expressions.specs.lemmas.Steps.{went, ok-is}
+use Rattle.dsde_sound_expressions.specs.lemmas.Outcomes.{Any, sound-then, sound-if, same-then}
+use Rattle.dsde_sound_expressions.specs.lemmas.Types.{wanted-is}
+use Rattle.dsde_sound_expressions.specs.lemmas.Values.{truth-sound}
 use Rattle.dsde_sound_expressions.proofs.At.{Ground, ground, At, at-typed, at-higher, at-seen, node-reads}
 use Rattle.dsde_sound_expressions.proofs.Parts.{Agreed}
 

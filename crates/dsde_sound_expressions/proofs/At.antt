@@ -1,26 +1,26 @@
 -- An expression over slots: its type, what it comes to, and what its nodes mean; nodes of one part and of two.
 use Rattle.std.proofs.Common.{◌≡◌, ℕ, zero, suc, ◌+◌, ◌≤◌, max, Bool, true, false, ◌&&◌, List, [], ◌∷◌, ◌++◌, length, Option, Some, Ok, refl, ◌∙◌, ap, subst, slice_get, arith, nat_lt}
-use Rattle.dsde_values.specs.declared.types.Field.{Field}
-use Rattle.dsde_values.specs.declared.types.Ty.{Ty}
-use Rattle.dsde_values.specs.declared.types.Types.{Types}
-use Rattle.dsde_values.specs.declared.value.Value.{Value}
-use Rattle.dsde_check_rules.specs.declared.known.Around.{Around}
-use Rattle.dsde_check_rules.specs.declared.seen.Seen.{Seen}
-use Rattle.dsde_check_rules.specs.declared.wrong.WrongKind.TheVariants.{Limit, NotTotal}
-use Rattle.dsde_check_rules.specs.Types.{depth_of}
-use Rattle.dsde_check_rules.specs.Steps.{above, unless}
-use Rattle.dsde_check_rules.specs.Judge.{seen_as, made, total}
-use Rattle.dsde_program_nodes.specs.declared.ids.ExprId.{ExprId}
-use Rattle.dsde_program_nodes.specs.declared.node.Node.{Node}
-use Rattle.dsde_program_nodes.specs.Expressions.{Resolved, Nodes, expr_id, over_one, over_two}
-use Rattle.dsde_eval_meaning.specs.Outcome.{Outcome, ◌>>=◌}
-use Rattle.dsde_eval_meaning.specs.Meaning.{Vars, Mean}
-use Rattle.dsde_eval_meaning.specs.Tables.{Coded, Means, means_in, node_mean, node_at}
-use Rattle.dsde_eval_meaning.specs.Typed.{Typed, Sound, Fits, values_in}
-use Rattle.dsde_eval_meaning.specs.Scopes.{Stands}
-use Rattle.dsde_sound_typing.specs.lemmas.Standing.{stands-head, stands-tail, stands-left, stands-right}
-use Rattle.dsde_sound_typing.specs.lemmas.Steps.{went, ok-is, unless-is}
-use Rattle.dsde_sound_typing.specs.lemmas.Outcomes.{sound-then, same-then}
+use Rattle.dsde_language.specs.given.values.types_Field.{Field}
+use Rattle.dsde_language.specs.given.values.types_Ty.{Ty}
+use Rattle.dsde_language.specs.given.values.types_Types.{Types}
+use Rattle.dsde_language.specs.given.values.value_Value.{Value}
+use Rattle.dsde_language.specs.declared.known.Around.{Around}
+use Rattle.dsde_language.specs.declared.seen.Seen.{Seen}
+use Rattle.dsde_language.specs.declared.wrong.WrongKind.TheVariants.{Limit, NotTotal}
+use Rattle.dsde_language.specs.Types.{depth_of}
+use Rattle.dsde_language.specs.Steps.{above, unless}
+use Rattle.dsde_language.specs.Judge.{seen_as, made, total}
+use Rattle.dsde_language.specs.declared.node_ids.ExprId.{ExprId}
+use Rattle.dsde_language.specs.declared.node.Node.{Node}
+use Rattle.dsde_language.specs.Expressions.{Resolved, Nodes, expr_id, over_one, over_two}
+use Rattle.dsde_language.specs.Outcome.{Outcome, ◌>>=◌}
+use Rattle.dsde_language.specs.Meaning.{Vars, Mean}
+use Rattle.dsde_language.specs.MeaningTables.{Coded, Means, means_in, node_mean, node_at}
+use Rattle.dsde_language.specs.Typed.{Typed, Sound, Fits, values_in}
+use Rattle.dsde_language.specs.Scopes.{Stands}
+use Rattle.dsde_sound_expressions.specs.lemmas.Standing.{stands-head, stands-tail, stands-left, stands-right}
+use Rattle.dsde_sound_expressions.specs.lemmas.Steps.{went, ok-is, unless-is}
+use Rattle.dsde_sound_expressions.specs.lemmas.Outcomes.{sound-then, same-then}
 
 -- the types of values, the tables of nodes, and whether there is always a value
 pub record Ground : Type 0 where

@@ -3,19 +3,19 @@ use Rattle.std.proofs.Common.{◌≡◌, ℕ, ◌^◌, ◌≤◌, min, ℤ, pos,
 use Rattle.std.specs.Prelude.{int_le, is_some}
 use Rattle.std.proofs.lemmas.List.{length-take, length-drop, length-set}
 use borrow.Author.Tests.{leb-true, lt-ltb}
-use Rattle.dsde_values.specs.declared.types.Ty.{Ty}
-use Rattle.dsde_values.specs.declared.types.Ty.TheVariants as ty
-use Rattle.dsde_values.specs.declared.types.Types.{Types}
-use Rattle.dsde_values.specs.declared.value.Value.{Value}
-use Rattle.dsde_values.specs.declared.value.Value.TheVariants as value
-use Rattle.dsde_values.specs.Value.{fits_int}
-use Rattle.dsde_faults.specs.declared.kind.FaultKind.TheVariants.{IndexOutOfRange, RangeTooLong}
-use Rattle.dsde_declared.specs.declared.operator.Builtin.TheVariants as builtin
-use Rattle.dsde_eval_meaning.specs.Outcome.{Fault, ◌>>=◌, int_of, items_of, option_of}
-use Rattle.dsde_eval_meaning.specs.Operators.{listed, truth, count_of, numbers_from, ranged, replaced, of_one, of_two, of_three}
-use Rattle.dsde_eval_meaning.specs.Typed.{Typed}
-use Rattle.dsde_sound_typing.specs.lemmas.Outcomes.{sound-then, sound-if}
-use Rattle.dsde_sound_typing.specs.lemmas.Values.{IsList, Held, typed-int, typed-bool, typed-list, int-sound, items-sound, option-sound, all-snoc}
+use Rattle.dsde_language.specs.given.values.types_Ty.{Ty}
+use Rattle.dsde_language.specs.given.values.types_Ty_TheVariants as ty
+use Rattle.dsde_language.specs.given.values.types_Types.{Types}
+use Rattle.dsde_language.specs.given.values.value_Value.{Value}
+use Rattle.dsde_language.specs.given.values.value_Value_TheVariants as value
+use Rattle.dsde_language.specs.given.values.Value.{fits_int}
+use Rattle.dsde_language.specs.given.faults.kind_FaultKind_TheVariants.{IndexOutOfRange, RangeTooLong}
+use Rattle.dsde_language.specs.declared.operator.Builtin.TheVariants as builtin
+use Rattle.dsde_language.specs.Outcome.{Fault, ◌>>=◌, int_of, items_of, option_of}
+use Rattle.dsde_language.specs.MeaningOperators.{listed, truth, count_of, numbers_from, ranged, replaced, of_one, of_two, of_three}
+use Rattle.dsde_language.specs.Typed.{Typed}
+use Rattle.dsde_sound_expressions.specs.lemmas.Outcomes.{sound-then, sound-if}
+use Rattle.dsde_sound_expressions.specs.lemmas.Values.{IsList, Held, typed-int, typed-bool, typed-list, int-sound, items-sound, option-sound, all-snoc}
 use Rattle.dsde_sound_expressions.proofs.Numbers.{fits-if, range-fits, range-long, all-take, all-drop, all-set}
 use Rattle.dsde_sound_expressions.proofs.Operators.{Fine, IsInt, listed-sound, ints-sound}
 

@@ -1,43 +1,43 @@
 -- Builtins, by the rows of their table.
 use Rattle.std.proofs.Common.{◌≡◌, ℕ, ◌==◌, ◌≤◌, max, Bool, true, false, not, List, [], ◌∷◌, map, length, Ok, refl, sym, ◌∙◌, ap, subst, arith}
 use Rattle.std.proofs.lemmas.Bool.{not-false, eqb-true}
-use Rattle.dsde_words.specs.declared.key.Key.{Key}
-use Rattle.dsde_words.specs.declared.key.Key.TheVariants as key
-use Rattle.dsde_syntax.specs.declared.expr.Expr.TheOpen.{Expr-F}
-use Rattle.dsde_syntax.specs.Levels.{is_builtin}
-use Rattle.dsde_values.specs.declared.types.Field.{Field}
-use Rattle.dsde_values.specs.declared.types.Ty.{Ty}
-use Rattle.dsde_values.specs.declared.types.Ty.TheVariants as ty
-use Rattle.dsde_values.specs.declared.types.Types.{Types}
-use Rattle.dsde_values.specs.declared.value.Value.{Value}
-use Rattle.dsde_values.specs.declared.value.Value.TheVariants as value
-use Rattle.dsde_check_rules.specs.declared.builtin.Gives.{Gives}
-use Rattle.dsde_check_rules.specs.declared.builtin.Gives.TheVariants as gives
-use Rattle.dsde_check_rules.specs.declared.builtin.Part.{Part}
-use Rattle.dsde_check_rules.specs.declared.builtin.Part.TheVariants as part
-use Rattle.dsde_check_rules.specs.declared.builtin.Row.{Row}
-use Rattle.dsde_check_rules.specs.declared.known.Around.{Around}
-use Rattle.dsde_check_rules.specs.declared.known.Known.{Known}
-use Rattle.dsde_check_rules.specs.declared.seen.Fitted.{Fitted}
-use Rattle.dsde_check_rules.specs.declared.seen.Seen.{Seen}
-use Rattle.dsde_check_rules.specs.declared.wrong.WrongKind.TheVariants.{WrongType}
-use Rattle.dsde_check_rules.specs.Steps.{unless}
-use Rattle.dsde_check_rules.specs.Types.{wanted}
-use Rattle.dsde_check_rules.specs.Judge.{Scope, Judge, judge_step, total, made, part_type, fit_parts, given_type, builtin_of}
-use Rattle.dsde_program_nodes.specs.declared.ids.ExprId.{ExprId}
-use Rattle.dsde_program_nodes.specs.declared.node.Node.{Node}
-use Rattle.dsde_declared.specs.declared.operator.Builtin.TheVariants as builtin
-use Rattle.dsde_program_nodes.specs.Typing.{first_type, item_in, held_in}
-use Rattle.dsde_program_nodes.specs.Expressions.{Resolved, resolve_step, over_all, builtin_node}
-use Rattle.dsde_eval_meaning.specs.Outcome.{Outcome, ◌>>=◌}
-use Rattle.dsde_eval_meaning.specs.Operators.{of_one, of_two, of_three}
-use Rattle.dsde_eval_meaning.specs.Meaning.{Function, Mean, mean_step}
-use Rattle.dsde_eval_meaning.specs.Tables.{Coded, Means, node_mean}
-use Rattle.dsde_eval_meaning.specs.Typed.{Typed}
-use Rattle.dsde_eval_meaning.specs.Scopes.{Sees}
-use Rattle.dsde_sound_typing.specs.lemmas.Steps.{went, well, ok-is, unless-is}
-use Rattle.dsde_sound_typing.specs.lemmas.Types.{wanted-is, item-is, held-is, item-in-list, held-in-opt}
-use Rattle.dsde_sound_typing.specs.lemmas.Values.{typed-some}
+use Rattle.dsde_language.specs.given.words.key_Key.{Key}
+use Rattle.dsde_language.specs.given.words.key_Key_TheVariants as key
+use Rattle.dsde_language.specs.given.syntax.expr_Expr_TheOpen.{Expr-F}
+use Rattle.dsde_language.specs.given.syntax.Levels.{is_builtin}
+use Rattle.dsde_language.specs.given.values.types_Field.{Field}
+use Rattle.dsde_language.specs.given.values.types_Ty.{Ty}
+use Rattle.dsde_language.specs.given.values.types_Ty_TheVariants as ty
+use Rattle.dsde_language.specs.given.values.types_Types.{Types}
+use Rattle.dsde_language.specs.given.values.value_Value.{Value}
+use Rattle.dsde_language.specs.given.values.value_Value_TheVariants as value
+use Rattle.dsde_language.specs.declared.builtin.Gives.{Gives}
+use Rattle.dsde_language.specs.declared.builtin.Gives.TheVariants as gives
+use Rattle.dsde_language.specs.declared.builtin.Part.{Part}
+use Rattle.dsde_language.specs.declared.builtin.Part.TheVariants as part
+use Rattle.dsde_language.specs.declared.builtin.Row.{Row}
+use Rattle.dsde_language.specs.declared.known.Around.{Around}
+use Rattle.dsde_language.specs.declared.known.Known.{Known}
+use Rattle.dsde_language.specs.declared.seen.Fitted.{Fitted}
+use Rattle.dsde_language.specs.declared.seen.Seen.{Seen}
+use Rattle.dsde_language.specs.declared.wrong.WrongKind.TheVariants.{WrongType}
+use Rattle.dsde_language.specs.Steps.{unless}
+use Rattle.dsde_language.specs.Types.{wanted}
+use Rattle.dsde_language.specs.Judge.{Scope, Judge, judge_step, total, made, part_type, fit_parts, given_type, builtin_of}
+use Rattle.dsde_language.specs.declared.node_ids.ExprId.{ExprId}
+use Rattle.dsde_language.specs.declared.node.Node.{Node}
+use Rattle.dsde_language.specs.declared.operator.Builtin.TheVariants as builtin
+use Rattle.dsde_language.specs.Typing.{first_type, item_in, held_in}
+use Rattle.dsde_language.specs.Expressions.{Resolved, resolve_step, over_all, builtin_node}
+use Rattle.dsde_language.specs.Outcome.{Outcome, ◌>>=◌}
+use Rattle.dsde_language.specs.MeaningOperators.{of_one, of_two, of_three}
+use Rattle.dsde_language.specs.Meaning.{Function, Mean, mean_step}
+use Rattle.dsde_language.specs.MeaningTables.{Coded, Means, node_mean}
+use Rattle.dsde_language.specs.Typed.{Typed}
+use Rattle.dsde_language.specs.Scopes.{Sees}
+use Rattle.dsde_sound_expressions.specs.lemmas.Steps.{went, well, ok-is, unless-is}
+use Rattle.dsde_sound_expressions.specs.lemmas.Types.{wanted-is, item-is, held-is, item-in-list, held-in-opt}
+use Rattle.dsde_sound_expressions.specs.lemmas.Values.{typed-some}
 use Rattle.dsde_sound_expressions.proofs.At.{Ground, ground, At, at-typed, at-higher, at-seen, made-is, never-total}
 use Rattle.dsde_sound_expressions.proofs.Operators.{Fine}
 use Rattle.dsde_sound_expressions.proofs.BuiltinValues.{len-sound, is-some-sound, min-sound, max-sound, range-sound, push-sound, take-sound, skip-sound, put-sound}

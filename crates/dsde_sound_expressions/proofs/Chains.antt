@@ -1,35 +1,35 @@
 -- Chains of operators and of suffixes.
 use Rattle.std.proofs.Common.{◌≡◌, ℕ, max, Bool, true, List, [], ◌∷◌, map, Some, Ok, refl, sym, ◌∙◌, ap, subst}
-use Rattle.dsde_syntax.specs.declared.expr.Expr.TheOpen.{Suffix-F}
-use Rattle.dsde_syntax.specs.declared.id.Id.{Id}
-use Rattle.dsde_syntax.specs.declared.token.Sign.{Sign}
-use Rattle.dsde_values.specs.declared.types.Field.{Field}
-use Rattle.dsde_values.specs.declared.types.Ty.{Ty}
-use Rattle.dsde_values.specs.declared.types.Ty.TheVariants as ty
-use Rattle.dsde_values.specs.declared.types.Types.{Types}
-use Rattle.dsde_values.specs.declared.value.Value.{Value}
-use Rattle.dsde_check_rules.specs.declared.known.Around.{Around}
-use Rattle.dsde_check_rules.specs.declared.known.Known.{Known}
-use Rattle.dsde_check_rules.specs.declared.seen.Seen.{Seen}
-use Rattle.dsde_check_rules.specs.Types.{wanted, item_type, held_type}
-use Rattle.dsde_check_rules.specs.Judge as rules
-use Rattle.dsde_check_rules.specs.Judge.{Scope, Judge, chain, links_from, operand, total, sign_may_fault, field_of, fields_at}
-use Rattle.dsde_declared.specs.declared.operator.Binary.{Binary}
-use Rattle.dsde_declared.specs.declared.operator.Binary.TheVariants as binary
-use Rattle.dsde_program_nodes.specs.declared.node.Node.TheVariants as node
-use Rattle.dsde_program_nodes.specs.Typing.{field_number, field_type, item_in, held_in}
-use Rattle.dsde_program_nodes.specs.Expressions as nodes
-use Rattle.dsde_declared.specs.Operators.{nested, sign_binary}
-use Rattle.dsde_program_nodes.specs.Expressions.{Resolved, over_one}
-use Rattle.dsde_eval_meaning.specs.Outcome.{Outcome, ◌>>=◌}
-use Rattle.dsde_eval_meaning.specs.Operators.{combined, unwrapped, indexed}
-use Rattle.dsde_eval_meaning.specs.Meaning as meaning
-use Rattle.dsde_eval_meaning.specs.Meaning.{Mean, field_named}
-use Rattle.dsde_eval_meaning.specs.Tables.{Coded, field_at}
-use Rattle.dsde_eval_meaning.specs.Typed.{Typed, Sound}
-use Rattle.dsde_eval_meaning.specs.Scopes.{Sees, Within}
-use Rattle.dsde_sound_typing.specs.lemmas.Steps.{went, ok-is}
-use Rattle.dsde_sound_typing.specs.lemmas.Types.{wanted-is, item-is, held-is, item-in-list, held-in-opt}
+use Rattle.dsde_language.specs.given.syntax.expr_Expr_TheOpen.{Suffix-F}
+use Rattle.dsde_language.specs.given.syntax.id_Id.{Id}
+use Rattle.dsde_language.specs.given.syntax.token_Sign.{Sign}
+use Rattle.dsde_language.specs.given.values.types_Field.{Field}
+use Rattle.dsde_language.specs.given.values.types_Ty.{Ty}
+use Rattle.dsde_language.specs.given.values.types_Ty_TheVariants as ty
+use Rattle.dsde_language.specs.given.values.types_Types.{Types}
+use Rattle.dsde_language.specs.given.values.value_Value.{Value}
+use Rattle.dsde_language.specs.declared.known.Around.{Around}
+use Rattle.dsde_language.specs.declared.known.Known.{Known}
+use Rattle.dsde_language.specs.declared.seen.Seen.{Seen}
+use Rattle.dsde_language.specs.Types.{wanted, item_type, held_type}
+use Rattle.dsde_language.specs.Judge as rules
+use Rattle.dsde_language.specs.Judge.{Scope, Judge, chain, links_from, operand, total, sign_may_fault, field_of, fields_at}
+use Rattle.dsde_language.specs.declared.operator.Binary.{Binary}
+use Rattle.dsde_language.specs.declared.operator.Binary.TheVariants as binary
+use Rattle.dsde_language.specs.declared.node.Node.TheVariants as node
+use Rattle.dsde_language.specs.Typing.{field_number, field_type, item_in, held_in}
+use Rattle.dsde_language.specs.Expressions as nodes
+use Rattle.dsde_language.specs.DeclaredOperators.{nested, sign_binary}
+use Rattle.dsde_language.specs.Expressions.{Resolved, over_one}
+use Rattle.dsde_language.specs.Outcome.{Outcome, ◌>>=◌}
+use Rattle.dsde_language.specs.MeaningOperators.{combined, unwrapped, indexed}
+use Rattle.dsde_language.specs.Meaning as meaning
+use Rattle.dsde_language.specs.Meaning.{Mean, field_named}
+use Rattle.dsde_language.specs.MeaningTables.{Coded, field_at}
+use Rattle.dsde_language.specs.Typed.{Typed, Sound}
+use Rattle.dsde_language.specs.Scopes.{Sees, Within}
+use Rattle.dsde_sound_expressions.specs.lemmas.Steps.{went, ok-is}
+use Rattle.dsde_sound_expressions.specs.lemmas.Types.{wanted-is, item-is, held-is, item-in-list, held-in-opt}
 use Rattle.dsde_sound_expressions.proofs.At.{Ground, ground, At, at-typed, at-seen, made-is, never-total, one-at, two-at}
 use Rattle.dsde_sound_expressions.proofs.Operators.{Fine, or-sound, and-sound, unwrapped-sound, indexed-sound}
 use Rattle.dsde_sound_expressions.proofs.Signs.{Takes, makes, is_operator}

@@ -1,40 +1,40 @@
 -- A comprehension.
 use Rattle.std.proofs.Common.{◌≡◌, ℕ, ◌+◌, ◌≤◌, max, Bool, true, false, if◌then◌else◌, List, [], ◌∷◌, ◌++◌, length, Option, Some, None, Ok, refl, sym, ◌∙◌, ap, subst, arith, append_assoc}
 use Rattle.std.proofs.lemmas.List.{length-append, map-append}
-use Rattle.dsde_names.specs.Table.{is_among}
-use Rattle.dsde_syntax.specs.declared.expr.Expr.TheOpen.{Expr-F}
-use Rattle.dsde_syntax.specs.declared.id.Id.{Id}
-use Rattle.dsde_values.specs.declared.types.Field.{Field}
-use Rattle.dsde_values.specs.declared.types.Ty.{Ty}
-use Rattle.dsde_values.specs.declared.types.Ty.TheVariants as ty
-use Rattle.dsde_values.specs.declared.types.Types.{Types}
-use Rattle.dsde_values.specs.declared.value.Value.{Value}
-use Rattle.dsde_values.specs.declared.value.Value.TheVariants as value
-use Rattle.dsde_check_rules.specs.declared.known.Around.{Around}
-use Rattle.dsde_check_rules.specs.declared.known.Known.{Known}
-use Rattle.dsde_check_rules.specs.declared.seen.Seen.{Seen}
-use Rattle.dsde_check_rules.specs.Steps.{above}
-use Rattle.dsde_check_rules.specs.Types.{wanted, item_type}
-use Rattle.dsde_check_rules.specs.Tables.{field_name}
-use Rattle.dsde_check_rules.specs.Judge.{Scope, Judge, guarded, test_of, judge_step, fresh, fixed, made}
-use Rattle.dsde_program_nodes.specs.declared.node.Node.{Node}
-use Rattle.dsde_program_nodes.specs.declared.node.Node.TheVariants as node
-use Rattle.dsde_declared.specs.Names.{with_slot}
-use Rattle.dsde_program_nodes.specs.Typing.{item_in}
-use Rattle.dsde_program_nodes.specs.Expressions.{Resolved, resolve_step, expr_id, cond_nodes, cond_number}
-use Rattle.dsde_eval_meaning.specs.Outcome.{Outcome, ◌>>=◌, truth_of, items_of}
-use Rattle.dsde_eval_meaning.specs.Meaning.{Var, Vars, Mean, Function, mean_step, with_var, holds, kept_of, each_of}
-use Rattle.dsde_eval_meaning.specs.Tables.{Coded, means_in, holds_at, kept_from, each_from}
-use Rattle.dsde_eval_meaning.specs.Proper.{is_plain}
-use Rattle.dsde_eval_meaning.specs.Typed.{Typed, Sound, Fits, values_in}
-use Rattle.dsde_eval_meaning.specs.Scopes.{Stands, Sees}
-use Rattle.dsde_sound_typing.specs.lemmas.Standing.{stands-left, stands-right}
-use Rattle.dsde_sound_typing.specs.lemmas.Steps.{went, ok-is}
-use Rattle.dsde_sound_typing.specs.lemmas.Outcomes.{Any, sound-then, sound-if, same-then}
-use Rattle.dsde_sound_typing.specs.lemmas.Types.{wanted-is, item-is, item-in-list}
-use Rattle.dsde_sound_typing.specs.lemmas.Values.{AllHave, IsList, all-cons, all-snoc, typed-list, truth-sound, items-sound}
-use Rattle.dsde_sound_typing.specs.lemmas.Fitting.{fits-snoc, field_of}
-use Rattle.dsde_sound_typing.specs.lemmas.Seeing.{sees-snoc, fresh-new, slot-behind}
+use Rattle.dsde_language.specs.given.names.Table.{is_among}
+use Rattle.dsde_language.specs.given.syntax.expr_Expr_TheOpen.{Expr-F}
+use Rattle.dsde_language.specs.given.syntax.id_Id.{Id}
+use Rattle.dsde_language.specs.given.values.types_Field.{Field}
+use Rattle.dsde_language.specs.given.values.types_Ty.{Ty}
+use Rattle.dsde_language.specs.given.values.types_Ty_TheVariants as ty
+use Rattle.dsde_language.specs.given.values.types_Types.{Types}
+use Rattle.dsde_language.specs.given.values.value_Value.{Value}
+use Rattle.dsde_language.specs.given.values.value_Value_TheVariants as value
+use Rattle.dsde_language.specs.declared.known.Around.{Around}
+use Rattle.dsde_language.specs.declared.known.Known.{Known}
+use Rattle.dsde_language.specs.declared.seen.Seen.{Seen}
+use Rattle.dsde_language.specs.Steps.{above}
+use Rattle.dsde_language.specs.Types.{wanted, item_type}
+use Rattle.dsde_language.specs.RuleTables.{field_name}
+use Rattle.dsde_language.specs.Judge.{Scope, Judge, guarded, test_of, judge_step, fresh, fixed, made}
+use Rattle.dsde_language.specs.declared.node.Node.{Node}
+use Rattle.dsde_language.specs.declared.node.Node.TheVariants as node
+use Rattle.dsde_language.specs.Names.{with_slot}
+use Rattle.dsde_language.specs.Typing.{item_in}
+use Rattle.dsde_language.specs.Expressions.{Resolved, resolve_step, expr_id, cond_nodes, cond_number}
+use Rattle.dsde_language.specs.Outcome.{Outcome, ◌>>=◌, truth_of, items_of}
+use Rattle.dsde_language.specs.Meaning.{Var, Vars, Mean, Function, mean_step, with_var, holds, kept_of, each_of}
+use Rattle.dsde_language.specs.MeaningTables.{Coded, means_in, holds_at, kept_from, each_from}
+use Rattle.dsde_language.specs.Proper.{is_plain}
+use Rattle.dsde_language.specs.Typed.{Typed, Sound, Fits, values_in}
+use Rattle.dsde_language.specs.Scopes.{Stands, Sees}
+use Rattle.dsde_sound_expressions.specs.lemmas.Standing.{stands-left, stands-right}
+use Rattle.dsde_sound_expressions.specs.lemmas.Steps.{went, ok-is}
+use Rattle.dsde_sound_expressions.specs.lemmas.Outcomes.{Any, sound-then, sound-if, same-then}
+use Rattle.dsde_sound_expressions.specs.lemmas.Types.{wanted-is, item-is, item-in-list}
+use Rattle.dsde_sound_expressions.specs.lemmas.Values.{AllHave, IsList, all-cons, all-snoc, typed-list, truth-sound, items-sound}
+use Rattle.dsde_sound_expressions.specs.lemmas.Fitting.{fits-snoc, field_of}
+use Rattle.dsde_sound_expressions.specs.lemmas.Seeing.{sees-snoc, fresh-new, slot-behind}
 use Rattle.dsde_sound_expressions.proofs.At.{Ground, ground, At, at-typed, at-higher, at-seen, made-is, node-reads}
 use Rattle.dsde_sound_expressions.proofs.Parts.{Agreed}
 

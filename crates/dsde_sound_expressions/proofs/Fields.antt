@@ -3,37 +3,37 @@ use Rattle.std.proofs.Common.{◌≡◌, ℕ, zero, suc, ◌==◌, Bool, true, f
 use Rattle.std.specs.Prelude.{unwrap_or, option_and_then}
 use Rattle.std.specs.Option.{option_map_or}
 use Rattle.std.proofs.lemmas.Bool.{eqb-true}
-use Rattle.dsde_names.specs.Table.{place_of, named}
-use Rattle.dsde_syntax.specs.declared.id.Id.{Id}
-use Rattle.dsde_values.specs.declared.types.Field.{Field}
-use Rattle.dsde_values.specs.declared.types.Shape.{Shape}
-use Rattle.dsde_values.specs.declared.types.Ty.{Ty, Ty-F, out-Ty, roll-Ty}
-use Rattle.dsde_values.specs.declared.types.Ty.TheOpen as open_ty
-use Rattle.dsde_values.specs.declared.types.Ty.TheVariants as ty
-use Rattle.dsde_values.specs.declared.types.Ty.TheViews.{roll-out-Ty, rolls-Rec, outs-Rec as ty_Rec}
-use Rattle.dsde_values.specs.declared.types.Types.{Types}
-use Rattle.dsde_values.specs.declared.value.Value.{Value, Value-F, out-Value, map-Value}
-use Rattle.dsde_values.specs.declared.value.Value.TheOpen as layer
-use Rattle.dsde_values.specs.Value as values
-use Rattle.dsde_values.specs.Value.{type_step, has_type}
-use Rattle.dsde_check_rules.specs.declared.known.Known.{Known}
-use Rattle.dsde_check_rules.specs.declared.seen.Seen.{Seen}
-use Rattle.dsde_check_rules.specs.declared.wrong.Wrong.{Wrong}
-use Rattle.dsde_check_rules.specs.declared.wrong.WrongKind.TheVariants.{Unknown, WrongType}
-use Rattle.dsde_check_rules.specs.Steps.{wrong}
-use Rattle.dsde_check_rules.specs.Tables.{field_name}
-use Rattle.dsde_check_rules.specs.Judge.{fields_at, fields_of, field_in, field_of}
-use Rattle.dsde_declared.specs.Names.{slot_of}
-use Rattle.dsde_program_nodes.specs.Typing.{slot_type, fields_in, field_number, field_type}
-use Rattle.dsde_eval_meaning.specs.Outcome.{Stuck, Outcome, ◌>>=◌, present}
-use Rattle.dsde_eval_meaning.specs.Meaning.{part_named, field_named}
-use Rattle.dsde_eval_meaning.specs.Tables.{field_at}
-use Rattle.dsde_eval_meaning.specs.Typed.{Typed}
-use Rattle.dsde_eval_meaning.specs.Scopes.{Within}
-use Rattle.dsde_sound_typing.specs.lemmas.Steps.{ok-is}
-use Rattle.dsde_sound_typing.specs.lemmas.Truths.{and-left, and-right}
-use Rattle.dsde_sound_typing.specs.lemmas.Values.{by_layer}
-use Rattle.dsde_sound_typing.specs.lemmas.Places.{Placed, placed}
+use Rattle.dsde_language.specs.given.names.Table.{place_of, named}
+use Rattle.dsde_language.specs.given.syntax.id_Id.{Id}
+use Rattle.dsde_language.specs.given.values.types_Field.{Field}
+use Rattle.dsde_language.specs.given.values.types_Shape.{Shape}
+use Rattle.dsde_language.specs.given.values.types_Ty.{Ty, Ty-F, out-Ty, roll-Ty}
+use Rattle.dsde_language.specs.given.values.types_Ty_TheOpen as open_ty
+use Rattle.dsde_language.specs.given.values.types_Ty_TheVariants as ty
+use Rattle.dsde_language.specs.given.values.types_Ty_TheViews.{roll-out-Ty, rolls-Rec, outs-Rec as ty_Rec}
+use Rattle.dsde_language.specs.given.values.types_Types.{Types}
+use Rattle.dsde_language.specs.given.values.value_Value.{Value, Value-F, out-Value, map-Value}
+use Rattle.dsde_language.specs.given.values.value_Value_TheOpen as layer
+use Rattle.dsde_language.specs.given.values.Value as values
+use Rattle.dsde_language.specs.given.values.Value.{type_step, has_type}
+use Rattle.dsde_language.specs.declared.known.Known.{Known}
+use Rattle.dsde_language.specs.declared.seen.Seen.{Seen}
+use Rattle.dsde_language.specs.declared.wrong.Wrong.{Wrong}
+use Rattle.dsde_language.specs.declared.wrong.WrongKind.TheVariants.{Unknown, WrongType}
+use Rattle.dsde_language.specs.Steps.{wrong}
+use Rattle.dsde_language.specs.RuleTables.{field_name}
+use Rattle.dsde_language.specs.Judge.{fields_at, fields_of, field_in, field_of}
+use Rattle.dsde_language.specs.Names.{slot_of}
+use Rattle.dsde_language.specs.Typing.{slot_type, fields_in, field_number, field_type}
+use Rattle.dsde_language.specs.Outcome.{Stuck, Outcome, ◌>>=◌, present}
+use Rattle.dsde_language.specs.Meaning.{part_named, field_named}
+use Rattle.dsde_language.specs.MeaningTables.{field_at}
+use Rattle.dsde_language.specs.Typed.{Typed}
+use Rattle.dsde_language.specs.Scopes.{Within}
+use Rattle.dsde_sound_expressions.specs.lemmas.Steps.{ok-is}
+use Rattle.dsde_sound_expressions.specs.lemmas.Truths.{and-left, and-right}
+use Rattle.dsde_sound_expressions.specs.lemmas.Values.{by_layer}
+use Rattle.dsde_sound_expressions.specs.lemmas.Places.{Placed, placed}
 
 -- the fields of a record type
 pub fields-of-rec : (known : Known) (number : ℕ) → fields_of known (ty.Rec number) ≡ fields_at known number

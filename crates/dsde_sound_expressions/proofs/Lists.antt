@@ -4,39 +4,39 @@ use Rattle.std.specs.Prelude.{unwrap_or}
 use Rattle.std.specs.List.{list_any}
 use Rattle.std.specs.Str.{bytes_eq}
 use Rattle.std.proofs.lemmas.Bool.{not-false, eqb-true}
-use Rattle.dsde_names.specs.Table.{named}
-use Rattle.dsde_syntax.specs.declared.expr.Expr.TheOpen.{Expr-F}
-use Rattle.dsde_syntax.specs.declared.id.Id.{Id}
-use Rattle.dsde_syntax.specs.declared.type_name.TypeName.{TypeName}
-use Rattle.dsde_values.specs.declared.types.Field.{Field}
-use Rattle.dsde_values.specs.declared.types.Ty.{Ty}
-use Rattle.dsde_values.specs.declared.types.Ty.TheVariants as ty
-use Rattle.dsde_values.specs.declared.types.Types.{Types}
-use Rattle.dsde_values.specs.declared.value.Value.TheVariants as value
-use Rattle.dsde_check_rules.specs.declared.known.Around.{Around}
-use Rattle.dsde_check_rules.specs.declared.known.Known.{Known}
-use Rattle.dsde_check_rules.specs.declared.seen.Seen.{Seen}
-use Rattle.dsde_check_rules.specs.declared.signatures.Func.{Func}
-use Rattle.dsde_check_rules.specs.declared.wrong.Wrong.{Wrong}
-use Rattle.dsde_check_rules.specs.declared.wrong.WrongKind.TheVariants.{Unknown, WrongType}
-use Rattle.dsde_check_rules.specs.Steps.{unless, wrong}
-use Rattle.dsde_check_rules.specs.Tables.{func_name}
-use Rattle.dsde_check_rules.specs.Judge.{Scope, Judge, SetJudge, judge_step, total, all_of, fit_all, fill, all_fields, in_order, call_of, record_of, record_at, variant_in, variant_at, fields_at, variants_at, declared_type, type_of}
-use Rattle.dsde_program_nodes.specs.declared.node.Node.TheVariants as node
-use Rattle.dsde_declared.specs.Names.{type_number, variant_number}
-use Rattle.dsde_program_nodes.specs.Typing.{func_number, func_type}
-use Rattle.dsde_program_nodes.specs.Expressions.{Resolved, resolve_step, head_type}
-use Rattle.dsde_eval_meaning.specs.Operators.{listed}
-use Rattle.dsde_eval_meaning.specs.Meaning.{Function, Mean, mean_step, called}
-use Rattle.dsde_eval_meaning.specs.Tables.{Coded, called_at}
-use Rattle.dsde_eval_meaning.specs.Typed.{Typed, Sound}
-use Rattle.dsde_eval_meaning.specs.Scopes.{Sees, Within, IsDeclared, Serve, Calls}
-use Rattle.dsde_sound_typing.specs.lemmas.Steps.{went, unless-is}
-use Rattle.dsde_sound_typing.specs.lemmas.Values.{typed-enum, typed-rec, typed-list, typed-nothing}
+use Rattle.dsde_language.specs.given.names.Table.{named}
+use Rattle.dsde_language.specs.given.syntax.expr_Expr_TheOpen.{Expr-F}
+use Rattle.dsde_language.specs.given.syntax.id_Id.{Id}
+use Rattle.dsde_language.specs.given.syntax.type_name_TypeName.{TypeName}
+use Rattle.dsde_language.specs.given.values.types_Field.{Field}
+use Rattle.dsde_language.specs.given.values.types_Ty.{Ty}
+use Rattle.dsde_language.specs.given.values.types_Ty_TheVariants as ty
+use Rattle.dsde_language.specs.given.values.types_Types.{Types}
+use Rattle.dsde_language.specs.given.values.value_Value_TheVariants as value
+use Rattle.dsde_language.specs.declared.known.Around.{Around}
+use Rattle.dsde_language.specs.declared.known.Known.{Known}
+use Rattle.dsde_language.specs.declared.seen.Seen.{Seen}
+use Rattle.dsde_language.specs.declared.signatures.Func.{Func}
+use Rattle.dsde_language.specs.declared.wrong.Wrong.{Wrong}
+use Rattle.dsde_language.specs.declared.wrong.WrongKind.TheVariants.{Unknown, WrongType}
+use Rattle.dsde_language.specs.Steps.{unless, wrong}
+use Rattle.dsde_language.specs.RuleTables.{func_name}
+use Rattle.dsde_language.specs.Judge.{Scope, Judge, SetJudge, judge_step, total, all_of, fit_all, fill, all_fields, in_order, call_of, record_of, record_at, variant_in, variant_at, fields_at, variants_at, declared_type, type_of}
+use Rattle.dsde_language.specs.declared.node.Node.TheVariants as node
+use Rattle.dsde_language.specs.Names.{type_number, variant_number}
+use Rattle.dsde_language.specs.Typing.{func_number, func_type}
+use Rattle.dsde_language.specs.Expressions.{Resolved, resolve_step, head_type}
+use Rattle.dsde_language.specs.MeaningOperators.{listed}
+use Rattle.dsde_language.specs.Meaning.{Function, Mean, mean_step, called}
+use Rattle.dsde_language.specs.MeaningTables.{Coded, called_at}
+use Rattle.dsde_language.specs.Typed.{Typed, Sound}
+use Rattle.dsde_language.specs.Scopes.{Sees, Within, IsDeclared, Serve, Calls}
+use Rattle.dsde_sound_expressions.specs.lemmas.Steps.{went, unless-is}
+use Rattle.dsde_sound_expressions.specs.lemmas.Values.{typed-enum, typed-rec, typed-list, typed-nothing}
 use Rattle.dsde_sound_expressions.proofs.At.{Ground, ground, At, at-higher, at-seen, made-is, never-total, leaf-at}
 use Rattle.dsde_sound_expressions.proofs.Operators.{listed-sound}
 use Rattle.dsde_sound_expressions.proofs.Fields.{whole-fields}
-use Rattle.dsde_sound_typing.specs.lemmas.Written.{written}
+use Rattle.dsde_sound_expressions.specs.lemmas.Written.{written}
 use Rattle.dsde_sound_expressions.proofs.Variants.{VariantIs, variant-is}
 use Rattle.dsde_sound_expressions.proofs.Parts.{Agreed, AllAt, fit-at, all-at, fill-at, alike, alike-have, field_types, types-fill, parts-at}
 

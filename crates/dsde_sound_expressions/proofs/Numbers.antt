@@ -3,15 +3,15 @@ use Rattle.std.proofs.Common.{◌≡◌, ℕ, zero, suc, ◌-◌, ◌^◌, ◌�
 use Rattle.std.specs.Prelude.{int_rem, unsigned_abs}
 use Rattle.std.proofs.lemmas.Int.{ints, rem_below}
 use borrow.Author.Tests.{ltb-true, lt-ltb}
-use Rattle.dsde_values.specs.declared.types.Ty.{Ty}
-use Rattle.dsde_values.specs.declared.types.Ty.TheVariants as ty
-use Rattle.dsde_values.specs.declared.types.Types.{Types}
-use Rattle.dsde_values.specs.declared.value.Value.{Value}
-use Rattle.dsde_values.specs.declared.value.Value.TheVariants as value
-use Rattle.dsde_values.specs.Value.{fits_int}
-use Rattle.dsde_eval_meaning.specs.Operators.{nearest, is_zero, count_of, numbers_from}
-use Rattle.dsde_eval_meaning.specs.Typed.{Typed}
-use Rattle.dsde_sound_typing.specs.lemmas.Values.{typed-int, AllHave, all-cons, cons-all}
+use Rattle.dsde_language.specs.given.values.types_Ty.{Ty}
+use Rattle.dsde_language.specs.given.values.types_Ty_TheVariants as ty
+use Rattle.dsde_language.specs.given.values.types_Types.{Types}
+use Rattle.dsde_language.specs.given.values.value_Value.{Value}
+use Rattle.dsde_language.specs.given.values.value_Value_TheVariants as value
+use Rattle.dsde_language.specs.given.values.Value.{fits_int}
+use Rattle.dsde_language.specs.MeaningOperators.{nearest, is_zero, count_of, numbers_from}
+use Rattle.dsde_language.specs.Typed.{Typed}
+use Rattle.dsde_sound_expressions.specs.lemmas.Values.{typed-int, AllHave, all-cons, cons-all}
 
 pub nearest-fits : (z : ℤ) → fits_int (nearest z) ≡ true
 nearest-fits (pos n) = lt-ltb (min n (2 ^ 63 - 1)) (2 ^ 63) (omega arith)

@@ -2,20 +2,20 @@
 use Rattle.std.proofs.Common.{◌≡◌, ℕ, zero, suc, ℤ, pos, negsuc, ◌+ℤ◌, ◌-ℤ◌, ◌*ℤ◌, Bool, true, false, not, if◌then◌else◌, List, [], ◌∷◌, ◌++◌, length, Option, Some, None, Ok, Err, refl, nat_le}
 use Rattle.std.specs.Prelude.{int_div, int_rem, int_lt, int_le}
 use borrow.Author.Tests.{leb-true}
-use Rattle.dsde_values.specs.declared.types.Ty.{Ty}
-use Rattle.dsde_values.specs.declared.types.Ty.TheVariants as ty
-use Rattle.dsde_values.specs.declared.types.Types.{Types}
-use Rattle.dsde_values.specs.declared.value.Value.{Value}
-use Rattle.dsde_values.specs.declared.value.Value.TheVariants as value
-use Rattle.dsde_values.specs.Value.{fits_int}
-use Rattle.dsde_faults.specs.declared.kind.FaultKind.TheVariants.{Overflow, DivideByZero, EmptyOption, RangeTooLong}
-use Rattle.dsde_declared.specs.declared.operator.Binary.{Binary}
-use Rattle.dsde_declared.specs.declared.operator.Binary.TheVariants as binary
-use Rattle.dsde_eval_meaning.specs.Outcome.{Fault, Outcome, ◌>>=◌, int_of, truth_of, items_of, option_of}
-use Rattle.dsde_eval_meaning.specs.Operators.{same_value, whole, nearest, listed, is_zero, divided, remaining, of_ints, truth, joined, operated, combined, denied, negated, or_else, unwrapped, item_at, indexed}
-use Rattle.dsde_eval_meaning.specs.Typed.{Typed, Sound}
-use Rattle.dsde_sound_typing.specs.lemmas.Outcomes.{Any, sound-then, sound-if}
-use Rattle.dsde_sound_typing.specs.lemmas.Values.{AllHave, IsList, Held, typed-int, typed-bool, typed-list, int-sound, truth-sound, items-sound, option-sound, all-cons, all-append}
+use Rattle.dsde_language.specs.given.values.types_Ty.{Ty}
+use Rattle.dsde_language.specs.given.values.types_Ty_TheVariants as ty
+use Rattle.dsde_language.specs.given.values.types_Types.{Types}
+use Rattle.dsde_language.specs.given.values.value_Value.{Value}
+use Rattle.dsde_language.specs.given.values.value_Value_TheVariants as value
+use Rattle.dsde_language.specs.given.values.Value.{fits_int}
+use Rattle.dsde_language.specs.given.faults.kind_FaultKind_TheVariants.{Overflow, DivideByZero, EmptyOption, RangeTooLong}
+use Rattle.dsde_language.specs.declared.operator.Binary.{Binary}
+use Rattle.dsde_language.specs.declared.operator.Binary.TheVariants as binary
+use Rattle.dsde_language.specs.Outcome.{Fault, Outcome, ◌>>=◌, int_of, truth_of, items_of, option_of}
+use Rattle.dsde_language.specs.MeaningOperators.{same_value, whole, nearest, listed, is_zero, divided, remaining, of_ints, truth, joined, operated, combined, denied, negated, or_else, unwrapped, item_at, indexed}
+use Rattle.dsde_language.specs.Typed.{Typed, Sound}
+use Rattle.dsde_sound_expressions.specs.lemmas.Outcomes.{Any, sound-then, sound-if}
+use Rattle.dsde_sound_expressions.specs.lemmas.Values.{AllHave, IsList, Held, typed-int, typed-bool, typed-list, int-sound, truth-sound, items-sound, option-sound, all-cons, all-append}
 use Rattle.dsde_sound_expressions.proofs.Numbers.{nearest-fits, rem-fits}
 
 module _ (types : Types) (total : Bool) where

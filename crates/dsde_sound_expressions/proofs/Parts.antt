@@ -2,31 +2,31 @@
 use Rattle.std.proofs.Common.{◌≡◌, ℕ, ◌+◌, ◌≤◌, max, Bool, true, List, [], ◌∷◌, ◌++◌, map, length, Ok, refl, sym, ◌∙◌, subst, append_assoc, append-nil, arith}
 use Rattle.std.specs.Str.{bytes_eq}
 use Rattle.std.proofs.lemmas.Bool.{and_from}
-use Rattle.dsde_values.specs.declared.types.Field.{Field}
-use Rattle.dsde_values.specs.declared.types.Ty.{Ty}
-use Rattle.dsde_values.specs.declared.types.Types.{Types}
-use Rattle.dsde_values.specs.declared.value.Value.{Value}
-use Rattle.dsde_values.specs.Value as values
-use Rattle.dsde_values.specs.Value.{has_type}
-use Rattle.dsde_check_rules.specs.declared.seen.Seen.{Seen}
-use Rattle.dsde_check_rules.specs.Judge.{Scope, Judge, SetJudge, fit, fill, all_of, in_order}
-use Rattle.dsde_check_rules.specs.Types.{wanted}
-use Rattle.dsde_check_rules.specs.Steps.{above}
-use Rattle.dsde_program_nodes.specs.declared.ids.ExprId.{ExprId}
-use Rattle.dsde_program_nodes.specs.declared.node.Node.{Node}
-use Rattle.dsde_program_nodes.specs.Expressions.{Resolved, expr_id, all_nodes, numbers, over_all}
-use Rattle.dsde_eval_meaning.specs.Outcome.{Outcome, ◌>>=◌}
-use Rattle.dsde_eval_meaning.specs.Meaning.{Vars, Mean, values_of}
-use Rattle.dsde_eval_meaning.specs.Tables.{Means, means_in, node_mean, values_from}
-use Rattle.dsde_eval_meaning.specs.Typed.{Typed, Sound, AllTyped, Fits, values_in}
-use Rattle.dsde_eval_meaning.specs.Scopes.{Stands, Sees}
-use Rattle.dsde_sound_typing.specs.lemmas.Standing.{stands-left, stands-right}
-use Rattle.dsde_sound_typing.specs.lemmas.Steps.{went, ok-is}
-use Rattle.dsde_sound_typing.specs.lemmas.Outcomes.{sound-then, same-then}
-use Rattle.dsde_sound_typing.specs.lemmas.Truths.{and-right}
-use Rattle.dsde_sound_typing.specs.lemmas.Types.{wanted-is}
-use Rattle.dsde_sound_typing.specs.lemmas.Values.{AllHave, cons-all}
-use Rattle.dsde_sound_typing.specs.lemmas.Fitting.{typed-snoc}
+use Rattle.dsde_language.specs.given.values.types_Field.{Field}
+use Rattle.dsde_language.specs.given.values.types_Ty.{Ty}
+use Rattle.dsde_language.specs.given.values.types_Types.{Types}
+use Rattle.dsde_language.specs.given.values.value_Value.{Value}
+use Rattle.dsde_language.specs.given.values.Value as values
+use Rattle.dsde_language.specs.given.values.Value.{has_type}
+use Rattle.dsde_language.specs.declared.seen.Seen.{Seen}
+use Rattle.dsde_language.specs.Judge.{Scope, Judge, SetJudge, fit, fill, all_of, in_order}
+use Rattle.dsde_language.specs.Types.{wanted}
+use Rattle.dsde_language.specs.Steps.{above}
+use Rattle.dsde_language.specs.declared.node_ids.ExprId.{ExprId}
+use Rattle.dsde_language.specs.declared.node.Node.{Node}
+use Rattle.dsde_language.specs.Expressions.{Resolved, expr_id, all_nodes, numbers, over_all}
+use Rattle.dsde_language.specs.Outcome.{Outcome, ◌>>=◌}
+use Rattle.dsde_language.specs.Meaning.{Vars, Mean, values_of}
+use Rattle.dsde_language.specs.MeaningTables.{Means, means_in, node_mean, values_from}
+use Rattle.dsde_language.specs.Typed.{Typed, Sound, AllTyped, Fits, values_in}
+use Rattle.dsde_language.specs.Scopes.{Stands, Sees}
+use Rattle.dsde_sound_expressions.specs.lemmas.Standing.{stands-left, stands-right}
+use Rattle.dsde_sound_expressions.specs.lemmas.Steps.{went, ok-is}
+use Rattle.dsde_sound_expressions.specs.lemmas.Outcomes.{sound-then, same-then}
+use Rattle.dsde_sound_expressions.specs.lemmas.Truths.{and-right}
+use Rattle.dsde_sound_expressions.specs.lemmas.Types.{wanted-is}
+use Rattle.dsde_sound_expressions.specs.lemmas.Values.{AllHave, cons-all}
+use Rattle.dsde_sound_expressions.specs.lemmas.Fitting.{typed-snoc}
 use Rattle.dsde_sound_expressions.proofs.At.{Ground, At, at-typed, at-higher, node-reads}
 
 -- An expression that is judged stands over the slots of what it sees.

@@ -1,10 +1,10 @@
 -- Lists of parts that are proper, and other steps of the induction over trees.
 use Rattle.std.proofs.Common.{◌≡◌, Bool, true, false, ◌||◌, List, [], ◌∷◌, map, refl, sym, ◌∙◌, ap, subst}
 use Rattle.std.specs.List.{list_all}
-use Rattle.dsde_syntax.specs.declared.token.Sign.{Sign}
-use Rattle.dsde_syntax.specs.Levels.{is_sum_sign, is_mul_sign, has_first}
-use Rattle.dsde_declared.specs.declared.operator.Binary.{Binary}
-use Rattle.dsde_sound_typing.specs.lemmas.Truths.{and-left, and-right}
+use Rattle.dsde_language.specs.given.syntax.token_Sign.{Sign}
+use Rattle.dsde_language.specs.given.syntax.Levels.{is_sum_sign, is_mul_sign, has_first}
+use Rattle.dsde_language.specs.declared.operator.Binary.{Binary}
+use Rattle.dsde_sound_expressions.specs.lemmas.Truths.{and-left, and-right}
 use Rattle.dsde_sound_expressions.proofs.Signs.{is_operator}
 
 -- parts that are proper, with what is said of each

@@ -2,22 +2,22 @@
 use Rattle.std.proofs.Common.{◌≡◌, ℕ, zero, suc, List, [], ◌∷◌, Option, Some, None, Ok, refl, sym, ◌∙◌, ap, subst, slice_get}
 use Rattle.std.specs.Prelude.{unwrap_or}
 use Rattle.std.specs.Option.{option_map_or}
-use Rattle.dsde_values.specs.declared.types.Field.{Field}
-use Rattle.dsde_values.specs.declared.types.Ty.{Ty}
-use Rattle.dsde_values.specs.declared.types.Ty.TheVariants as ty
-use Rattle.dsde_values.specs.declared.types.Types.{Types}
-use Rattle.dsde_values.specs.declared.value.Value.{Value}
-use Rattle.dsde_check_rules.specs.Tables.{field_name}
-use Rattle.dsde_program_nodes.specs.declared.node.Node.TheVariants as node
-use Rattle.dsde_declared.specs.Names.{slot_of}
-use Rattle.dsde_program_nodes.specs.Typing.{slot_type}
-use Rattle.dsde_eval_meaning.specs.Outcome.{Outcome, ◌>>=◌, present}
-use Rattle.dsde_eval_meaning.specs.Meaning.{Var, Vars, value_named}
-use Rattle.dsde_eval_meaning.specs.Typed.{Typed, Sound, Fits, values_in}
-use Rattle.dsde_eval_meaning.specs.Scopes.{Slotted}
-use Rattle.dsde_sound_typing.specs.lemmas.Places.{Placed, placed}
-use Rattle.dsde_sound_typing.specs.lemmas.Fitting.{fits-place}
-use Rattle.dsde_check_rules.specs.Steps.{above}
+use Rattle.dsde_language.specs.given.values.types_Field.{Field}
+use Rattle.dsde_language.specs.given.values.types_Ty.{Ty}
+use Rattle.dsde_language.specs.given.values.types_Ty_TheVariants as ty
+use Rattle.dsde_language.specs.given.values.types_Types.{Types}
+use Rattle.dsde_language.specs.given.values.value_Value.{Value}
+use Rattle.dsde_language.specs.RuleTables.{field_name}
+use Rattle.dsde_language.specs.declared.node.Node.TheVariants as node
+use Rattle.dsde_language.specs.Names.{slot_of}
+use Rattle.dsde_language.specs.Typing.{slot_type}
+use Rattle.dsde_language.specs.Outcome.{Outcome, ◌>>=◌, present}
+use Rattle.dsde_language.specs.Meaning.{Var, Vars, value_named}
+use Rattle.dsde_language.specs.Typed.{Typed, Sound, Fits, values_in}
+use Rattle.dsde_language.specs.Scopes.{Slotted}
+use Rattle.dsde_sound_expressions.specs.lemmas.Places.{Placed, placed}
+use Rattle.dsde_sound_expressions.specs.lemmas.Fitting.{fits-place}
+use Rattle.dsde_language.specs.Steps.{above}
 use Rattle.dsde_sound_expressions.proofs.At.{Ground, At, leaf-at}
 
 -- the variable of a slot

@@ -1,22 +1,22 @@
 -- Signs between parts, by their rules.
 use Rattle.std.proofs.Common.{◌≡◌, ℕ, Bool, true, false, ◌||◌, Ok, sym, ◌∙◌, subst}
-use Rattle.dsde_syntax.specs.declared.token.Sign.{Sign}
-use Rattle.dsde_syntax.specs.declared.token.Sign.TheVariants as sign
-use Rattle.dsde_syntax.specs.Levels.{is_comparison, is_sum_sign, is_mul_sign}
-use Rattle.dsde_values.specs.declared.types.Ty.{Ty}
-use Rattle.dsde_values.specs.declared.types.Ty.TheVariants as ty
-use Rattle.dsde_values.specs.declared.types.Types.{Types}
-use Rattle.dsde_values.specs.declared.value.Value.{Value}
-use Rattle.dsde_check_rules.specs.declared.known.Around.{Around}
-use Rattle.dsde_check_rules.specs.declared.seen.Seen.{Seen}
-use Rattle.dsde_check_rules.specs.Judge.{operand, sign_may_fault, total, compared}
-use Rattle.dsde_check_rules.specs.Types.{wanted, item_type}
-use Rattle.dsde_declared.specs.Operators.{sign_binary}
-use Rattle.dsde_eval_meaning.specs.Outcome.{Outcome}
-use Rattle.dsde_eval_meaning.specs.Operators.{combined}
-use Rattle.dsde_eval_meaning.specs.Typed.{Typed}
-use Rattle.dsde_sound_typing.specs.lemmas.Steps.{Went, went, ok-is}
-use Rattle.dsde_sound_typing.specs.lemmas.Types.{wanted-is, item-is}
+use Rattle.dsde_language.specs.given.syntax.token_Sign.{Sign}
+use Rattle.dsde_language.specs.given.syntax.token_Sign_TheVariants as sign
+use Rattle.dsde_language.specs.given.syntax.Levels.{is_comparison, is_sum_sign, is_mul_sign}
+use Rattle.dsde_language.specs.given.values.types_Ty.{Ty}
+use Rattle.dsde_language.specs.given.values.types_Ty_TheVariants as ty
+use Rattle.dsde_language.specs.given.values.types_Types.{Types}
+use Rattle.dsde_language.specs.given.values.value_Value.{Value}
+use Rattle.dsde_language.specs.declared.known.Around.{Around}
+use Rattle.dsde_language.specs.declared.seen.Seen.{Seen}
+use Rattle.dsde_language.specs.Judge.{operand, sign_may_fault, total, compared}
+use Rattle.dsde_language.specs.Types.{wanted, item_type}
+use Rattle.dsde_language.specs.DeclaredOperators.{sign_binary}
+use Rattle.dsde_language.specs.Outcome.{Outcome}
+use Rattle.dsde_language.specs.MeaningOperators.{combined}
+use Rattle.dsde_language.specs.Typed.{Typed}
+use Rattle.dsde_sound_expressions.specs.lemmas.Steps.{Went, went, ok-is}
+use Rattle.dsde_sound_expressions.specs.lemmas.Types.{wanted-is, item-is}
 use Rattle.dsde_sound_expressions.proofs.At.{never-total}
 use Rattle.dsde_sound_expressions.proofs.Operators.{Fine, equal-sound, apart-sound, less-sound, at-most-sound, greater-sound, at-least-sound, add-sound, sub-sound, mul-sound, div-sound, rem-sound, cap-add-sound, cap-sub-sound, cap-mul-sound, join-sound}
 

@@ -1,35 +1,35 @@
 -- Expressions of one part and of two, and those without parts.
 use Rattle.std.proofs.Common.{◌≡◌, ℕ, ◌^◌, max, pos, Bool, true, not, List, Option, Some, None, Result, Ok, refl, sym, nat_lt}
 use Rattle.std.proofs.lemmas.Bool.{not-false}
-use Rattle.dsde_syntax.specs.declared.expr.Expr.TheOpen.{Expr-F}
-use Rattle.dsde_syntax.specs.declared.id.Id.{Id}
-use Rattle.dsde_syntax.specs.declared.token.Sign.{Sign}
-use Rattle.dsde_syntax.specs.Levels.{is_comparison}
-use Rattle.dsde_values.specs.declared.types.Field.{Field}
-use Rattle.dsde_values.specs.declared.types.Ty.{Ty}
-use Rattle.dsde_values.specs.declared.types.Ty.TheVariants as ty
-use Rattle.dsde_values.specs.declared.types.Types.{Types}
-use Rattle.dsde_check_rules.specs.declared.known.Around.{Around}
-use Rattle.dsde_check_rules.specs.declared.known.Known.{Known}
-use Rattle.dsde_check_rules.specs.declared.seen.Binding.{Binding}
-use Rattle.dsde_check_rules.specs.declared.seen.Seen.{Seen}
-use Rattle.dsde_check_rules.specs.declared.wrong.Wrong.{Wrong}
-use Rattle.dsde_check_rules.specs.declared.wrong.WrongKind.TheVariants.{Unknown}
-use Rattle.dsde_check_rules.specs.Steps.{unless, wrong}
-use Rattle.dsde_check_rules.specs.Types.{wanted, held_type}
-use Rattle.dsde_check_rules.specs.Judge.{Scope, Judge, judge_step, made, total, compared, bound_to}
-use Rattle.dsde_program_nodes.specs.declared.node.Node.TheVariants as node
-use Rattle.dsde_declared.specs.Names.{elapsed_name}
-use Rattle.dsde_program_nodes.specs.Typing.{slot_type}
-use Rattle.dsde_declared.specs.Operators.{sign_binary}
-use Rattle.dsde_program_nodes.specs.Expressions.{Resolved, resolve_step}
-use Rattle.dsde_eval_meaning.specs.Operators.{combined, denied, negated, or_else}
-use Rattle.dsde_eval_meaning.specs.Meaning.{Function, Mean, mean_step}
-use Rattle.dsde_eval_meaning.specs.Tables.{Coded}
-use Rattle.dsde_eval_meaning.specs.Scopes.{Sees, Slotted}
-use Rattle.dsde_sound_typing.specs.lemmas.Steps.{went, unless-is}
-use Rattle.dsde_sound_typing.specs.lemmas.Types.{wanted-is, held-is}
-use Rattle.dsde_sound_typing.specs.lemmas.Values.{typed-int, typed-bool}
+use Rattle.dsde_language.specs.given.syntax.expr_Expr_TheOpen.{Expr-F}
+use Rattle.dsde_language.specs.given.syntax.id_Id.{Id}
+use Rattle.dsde_language.specs.given.syntax.token_Sign.{Sign}
+use Rattle.dsde_language.specs.given.syntax.Levels.{is_comparison}
+use Rattle.dsde_language.specs.given.values.types_Field.{Field}
+use Rattle.dsde_language.specs.given.values.types_Ty.{Ty}
+use Rattle.dsde_language.specs.given.values.types_Ty_TheVariants as ty
+use Rattle.dsde_language.specs.given.values.types_Types.{Types}
+use Rattle.dsde_language.specs.declared.known.Around.{Around}
+use Rattle.dsde_language.specs.declared.known.Known.{Known}
+use Rattle.dsde_language.specs.declared.seen.Binding.{Binding}
+use Rattle.dsde_language.specs.declared.seen.Seen.{Seen}
+use Rattle.dsde_language.specs.declared.wrong.Wrong.{Wrong}
+use Rattle.dsde_language.specs.declared.wrong.WrongKind.TheVariants.{Unknown}
+use Rattle.dsde_language.specs.Steps.{unless, wrong}
+use Rattle.dsde_language.specs.Types.{wanted, held_type}
+use Rattle.dsde_language.specs.Judge.{Scope, Judge, judge_step, made, total, compared, bound_to}
+use Rattle.dsde_language.specs.declared.node.Node.TheVariants as node
+use Rattle.dsde_language.specs.Names.{elapsed_name}
+use Rattle.dsde_language.specs.Typing.{slot_type}
+use Rattle.dsde_language.specs.DeclaredOperators.{sign_binary}
+use Rattle.dsde_language.specs.Expressions.{Resolved, resolve_step}
+use Rattle.dsde_language.specs.MeaningOperators.{combined, denied, negated, or_else}
+use Rattle.dsde_language.specs.Meaning.{Function, Mean, mean_step}
+use Rattle.dsde_language.specs.MeaningTables.{Coded}
+use Rattle.dsde_language.specs.Scopes.{Sees, Slotted}
+use Rattle.dsde_sound_expressions.specs.lemmas.Steps.{went, unless-is}
+use Rattle.dsde_sound_expressions.specs.lemmas.Types.{wanted-is, held-is}
+use Rattle.dsde_sound_expressions.specs.lemmas.Values.{typed-int, typed-bool}
 use Rattle.dsde_sound_expressions.proofs.At.{Ground, ground, At, at-typed, at-seen, made-is, never-total, leaf-at, one-at, two-at}
 use Rattle.dsde_sound_expressions.proofs.Operators.{denied-sound, negated-sound, or-else-sound}
 use Rattle.dsde_sound_expressions.proofs.Signs.{Takes, compares}

@@ -1,34 +1,34 @@
 -- Every expression in which nothing is wrong stands over the slots of what it sees.
 use Rattle.std.proofs.Common.{◌≡◌, Bool, true, ◌&&◌, List, map, Some, None, refl, sym, ◌∙◌, ap, subst}
 use Rattle.std.specs.List.{list_all}
-use Rattle.dsde_syntax.specs.declared.expr.Expr.{Expr}
-use Rattle.dsde_syntax.specs.declared.expr.Suffix.{Suffix}
-use Rattle.dsde_syntax.specs.declared.expr.ExprArm.{ExprArm}
-use Rattle.dsde_syntax.specs.declared.expr.FieldSet.{FieldSet}
-use Rattle.dsde_syntax.specs.declared.expr.SignTail.{SignTail}
-use Rattle.dsde_syntax.specs.declared.expr.Tail.{Tail}
-use Rattle.dsde_syntax.specs.declared.expr.Expr.TheOpen.{Expr-F, Suffix-F, ExprArm-F, FieldSet-F, SignTail-F, Tail-F}
-use Rattle.dsde_syntax.specs.declared.expr.Expr.TheViews.{roll-Expr, roll-Suffix, roll-ExprArm, roll-FieldSet, roll-SignTail, roll-Tail}
-use Rattle.dsde_syntax.specs.declared.expr.Expr.TheFolds.{fold-Suffix, fold-ExprArm, fold-FieldSet, fold-SignTail, fold-Tail, map-Expr, map-Suffix, map-ExprArm, map-FieldSet, map-SignTail, map-Tail, fold-roll-Expr, fold-roll-Suffix, fold-roll-ExprArm, fold-roll-FieldSet, fold-roll-SignTail, fold-roll-Tail, ind-Expr}
-use Rattle.dsde_syntax.specs.declared.token.Sign.{Sign}
-use Rattle.dsde_syntax.specs.Levels.{is_sum_sign, is_mul_sign, is_comparison, is_builtin, has_first}
-use Rattle.dsde_values.specs.declared.types.Types.{Types}
-use Rattle.dsde_check_rules.specs.declared.known.Around.{Around}
-use Rattle.dsde_check_rules.specs.declared.known.Known.{Known}
-use Rattle.dsde_check_rules.specs.Judge as rules
-use Rattle.dsde_check_rules.specs.Judge.{Judge, Guarded, SetJudge, judge, judge_step, chain}
-use Rattle.dsde_declared.specs.declared.operator.Binary.{Binary}
-use Rattle.dsde_declared.specs.declared.operator.Binary.TheVariants as binary
-use Rattle.dsde_program_nodes.specs.Expressions as nodes
-use Rattle.dsde_declared.specs.Operators.{nested}
-use Rattle.dsde_program_nodes.specs.Expressions.{Resolved, resolve, resolve_step}
-use Rattle.dsde_eval_meaning.specs.Meaning as meaning
-use Rattle.dsde_eval_meaning.specs.Meaning.{Function, Mean, ArmMean, mean, mean_step}
-use Rattle.dsde_eval_meaning.specs.Tables.{Coded}
-use Rattle.dsde_eval_meaning.specs.Proper as proper
-use Rattle.dsde_eval_meaning.specs.Proper.{Signed, is_proper, all_so, is_plain}
-use Rattle.dsde_eval_meaning.specs.Scopes.{Within, Serve, Calls}
-use Rattle.dsde_sound_typing.specs.lemmas.Truths.{and-left, and-right}
+use Rattle.dsde_language.specs.given.syntax.expr_Expr.{Expr}
+use Rattle.dsde_language.specs.given.syntax.expr_Suffix.{Suffix}
+use Rattle.dsde_language.specs.given.syntax.expr_ExprArm.{ExprArm}
+use Rattle.dsde_language.specs.given.syntax.expr_FieldSet.{FieldSet}
+use Rattle.dsde_language.specs.given.syntax.expr_SignTail.{SignTail}
+use Rattle.dsde_language.specs.given.syntax.expr_Tail.{Tail}
+use Rattle.dsde_language.specs.given.syntax.expr_Expr_TheOpen.{Expr-F, Suffix-F, ExprArm-F, FieldSet-F, SignTail-F, Tail-F}
+use Rattle.dsde_language.specs.given.syntax.expr_Expr_TheViews.{roll-Expr, roll-Suffix, roll-ExprArm, roll-FieldSet, roll-SignTail, roll-Tail}
+use Rattle.dsde_language.specs.given.syntax.expr_Expr_TheFolds.{fold-Suffix, fold-ExprArm, fold-FieldSet, fold-SignTail, fold-Tail, map-Expr, map-Suffix, map-ExprArm, map-FieldSet, map-SignTail, map-Tail, fold-roll-Expr, fold-roll-Suffix, fold-roll-ExprArm, fold-roll-FieldSet, fold-roll-SignTail, fold-roll-Tail, ind-Expr}
+use Rattle.dsde_language.specs.given.syntax.token_Sign.{Sign}
+use Rattle.dsde_language.specs.given.syntax.Levels.{is_sum_sign, is_mul_sign, is_comparison, is_builtin, has_first}
+use Rattle.dsde_language.specs.given.values.types_Types.{Types}
+use Rattle.dsde_language.specs.declared.known.Around.{Around}
+use Rattle.dsde_language.specs.declared.known.Known.{Known}
+use Rattle.dsde_language.specs.Judge as rules
+use Rattle.dsde_language.specs.Judge.{Judge, Guarded, SetJudge, judge, judge_step, chain}
+use Rattle.dsde_language.specs.declared.operator.Binary.{Binary}
+use Rattle.dsde_language.specs.declared.operator.Binary.TheVariants as binary
+use Rattle.dsde_language.specs.Expressions as nodes
+use Rattle.dsde_language.specs.DeclaredOperators.{nested}
+use Rattle.dsde_language.specs.Expressions.{Resolved, resolve, resolve_step}
+use Rattle.dsde_language.specs.Meaning as meaning
+use Rattle.dsde_language.specs.Meaning.{Function, Mean, ArmMean, mean, mean_step}
+use Rattle.dsde_language.specs.MeaningTables.{Coded}
+use Rattle.dsde_language.specs.Proper as proper
+use Rattle.dsde_language.specs.Proper.{Signed, is_proper, all_so, is_plain}
+use Rattle.dsde_language.specs.Scopes.{Within, Serve, Calls}
+use Rattle.dsde_sound_expressions.specs.lemmas.Truths.{and-left, and-right}
 use Rattle.dsde_sound_expressions.proofs.At.{Ground, ground}
 use Rattle.dsde_sound_expressions.proofs.Parts.{Agreed}
 use Rattle.dsde_sound_expressions.proofs.ProperParts.{AreOperators, Passed, passed, word-map, three, first-kept, sum-operator, mul-operator}

@@ -5,14 +5,14 @@ use Rattle.std.specs.List.{list_any, position, prefix_len}
 use Rattle.std.specs.Str.{bytes_eq}
 use Rattle.std.proofs.lemmas.Bool.{and_from}
 use borrow.Author.Tests.{lt-ltb}
-use Rattle.dsde_values.specs.declared.types.Shape.{Shape}
-use Rattle.dsde_values.specs.declared.types.Types.{Types}
-use Rattle.dsde_values.specs.Value as values
-use Rattle.dsde_values.specs.Value.{is_variant}
-use Rattle.dsde_check_rules.specs.declared.known.Known.{Known}
-use Rattle.dsde_check_rules.specs.Judge.{declared_type, variants_in, variants_at}
-use Rattle.dsde_declared.specs.Names.{type_number, variant_number}
-use Rattle.dsde_eval_meaning.specs.Scopes.{Within, IsDeclared, AreVariants}
+use Rattle.dsde_language.specs.given.values.types_Shape.{Shape}
+use Rattle.dsde_language.specs.given.values.types_Types.{Types}
+use Rattle.dsde_language.specs.given.values.Value as values
+use Rattle.dsde_language.specs.given.values.Value.{is_variant}
+use Rattle.dsde_language.specs.declared.known.Known.{Known}
+use Rattle.dsde_language.specs.Judge.{declared_type, variants_in, variants_at}
+use Rattle.dsde_language.specs.Names.{type_number, variant_number}
+use Rattle.dsde_language.specs.Scopes.{Within, IsDeclared, AreVariants}
 
 -- a place below the length
 below-case : {T : Type 0} (p : T → Bool) (x : T) (xs : List T) → (list_any p xs ≡ true → prefix_len (λ x. not (p x)) xs < length xs) → (b : Bool) → p x ≡ b → list_any p (x ∷ xs) ≡ true → prefix_len (λ x. not (p x)) (x ∷ xs) < length (x ∷ xs)

@@ -9,19 +9,19 @@ use Rattle.dsde_values.specs.declared.when.When.TheVariants.{At, Never}
 use Rattle.dsde_faults.specs.declared.kind.FaultKind.TheVariants.{TimeTooFar}
 use Rattle.dsde_faults.specs.declared.kind.Site.{Site}
 use Rattle.dsde_faults.specs.declared.kind.Site.TheVariants as site
-use Rattle.dsde_declared.specs.declared.ids.ModelId.{ModelId}
-use Rattle.dsde_declared.specs.Models.{whole_of, Own, owns_of}
-use Rattle.dsde_declared.specs.Structures.{Place, place_of_items, structures_of, first_via}
-use Rattle.dsde_eval_meaning.specs.Functions.{functions_of, mean_of}
-use Rattle.dsde_eval_meaning.specs.Meaning.{Function, Vars}
-use Rattle.dsde_eval_meaning.specs.Outcome.{Fault, Stuck, Outcome, ◌>>=◌, int_of, option_of}
-use Rattle.dsde_executive_plans.specs.Layout as layout
-use Rattle.dsde_structure.specs.declared.plan.Plan.{Plan}
-use Rattle.dsde_structure.specs.Survival.{IsInOrder}
-use Rattle.dsde_formalism.specs.System.{State}
+use Rattle.dsde_language.specs.declared.ids.ModelId.{ModelId}
+use Rattle.dsde_language.specs.DeclaredModels.{whole_of, Own, owns_of}
+use Rattle.dsde_language.specs.DeclaredStructures.{Place, place_of_items, structures_of, first_via}
+use Rattle.dsde_language.specs.Functions.{functions_of, mean_of}
+use Rattle.dsde_language.specs.Meaning.{Function, Vars}
+use Rattle.dsde_language.specs.Outcome.{Fault, Stuck, Outcome, ◌>>=◌, int_of, option_of}
+use Rattle.dsde_system.specs.given.executive_plans.Layout as layout
+use Rattle.dsde_system.specs.given.structure.plan_Plan.{Plan}
+use Rattle.dsde_system.specs.given.structure.Survival.{IsInOrder}
+use Rattle.dsde_system.specs.given.formalism.System.{State}
 use Rattle.dsde_system.specs.Body.{at_site, body_vars, after, due_after, due}
 use Rattle.dsde_system.specs.Program.{component_at, plan_at, network_at, system}
-use Rattle.dsde_sim_stands.specs.Stands.{IsDueLater, IsForward}
+use Rattle.dsde_sim_movers.specs.Stands.{IsDueLater, IsForward}
 
 ok-is : {A E : Type 0} (x y : A) → (let own : Result A E = Ok x in own ≡ Ok y) → x ≡ y
 ok-is x y is = cc

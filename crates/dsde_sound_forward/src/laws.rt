@@ -2,7 +2,7 @@
 
 ghost use Rattle.dsde_sound_forward.specs.Forward.{ProgramsLeadOn};
 
-use dsde_executive_plans::plans_are_in_order;
+use dsde_system::given::executive_plans::plans_are_in_order;
 
 /// A law: an advance of a component of a program gives no time before its last event, and the
 /// components of each structure of a program stand in the order of their names.

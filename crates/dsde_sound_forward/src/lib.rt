@@ -2,6 +2,7 @@
 //! components of a structure stand in the order of their names. A law over definitions; no code.
 #![tactic(auto)]
 
+pub mod given;
 mod laws;
 
 pub use laws::programs_lead_on;

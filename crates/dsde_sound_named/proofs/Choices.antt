@@ -3,18 +3,18 @@ use Rattle.std.proofs.Common.{◌≡◌, ℕ, ◌+◌, Bool, true, false, if◌t
 use Rattle.dsde_syntax.specs.declared.expr.Expr.{Expr}
 use Rattle.dsde_syntax.specs.declared.item.Item.TheOpen.{Item-F}
 use Rattle.dsde_values.specs.declared.types.Field.{Field}
-use Rattle.dsde_check_rules.specs.Steps.{above}
-use Rattle.dsde_check_rules.specs.Judge.{judge, test_of}
-use Rattle.dsde_check_rules.specs.Judge as rules
-use Rattle.dsde_check_rules.specs.Blocks.{Passed, Walk, ArmWalk, walk_all, inner, arms_walk}
-use Rattle.dsde_check_rules.specs.Structures as rule_structures
-use Rattle.dsde_eval_meaning.specs.Outcome.{truth_of}
-use Rattle.dsde_eval_meaning.specs.Proper.{is_proper, all_so}
-use Rattle.dsde_eval_meaning.specs.Scopes.{Sees}
-use Rattle.dsde_sound_grammar.specs.Items as proper
-use Rattle.dsde_executive_plans.specs.Layout.{Layout, Lay, ArmLay, lay_all, braced, last_lay, arms_lay, item_step, item_arm_step}
-use Rattle.dsde_sound_typing.specs.lemmas.Steps.{went, ok-is}
-use Rattle.dsde_sound_typing.specs.lemmas.Truths.{and-left, and-right}
+use Rattle.dsde_language.specs.Steps.{above}
+use Rattle.dsde_language.specs.Judge.{judge, test_of}
+use Rattle.dsde_language.specs.Judge as rules
+use Rattle.dsde_language.specs.Blocks.{Passed, Walk, ArmWalk, walk_all, inner, arms_walk}
+use Rattle.dsde_language.specs.RuleStructures as rule_structures
+use Rattle.dsde_language.specs.Outcome.{truth_of}
+use Rattle.dsde_language.specs.Proper.{is_proper, all_so}
+use Rattle.dsde_language.specs.Scopes.{Sees}
+use Rattle.dsde_sound_expressions.specs.Items as proper
+use Rattle.dsde_system.specs.given.executive_plans.Layout.{Layout, Lay, ArmLay, lay_all, braced, last_lay, arms_lay, item_step, item_arm_step}
+use Rattle.dsde_sound_expressions.specs.lemmas.Steps.{went, ok-is}
+use Rattle.dsde_sound_expressions.specs.lemmas.Truths.{and-left, and-right}
 use Rattle.dsde_sound_named.proofs.Laid.{Ground, Kept, bound, as-in}
 use Rattle.dsde_sound_named.proofs.Does.{E, Keeps, Done, Does, AllDo, same-done, braced-keeps}
 

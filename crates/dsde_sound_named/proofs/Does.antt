@@ -3,17 +3,17 @@ use Rattle.std.proofs.Common.{◌≡◌, ℕ, ◌+◌, max, Bool, true, List, []
 use Rattle.dsde_values.specs.declared.types.Field.{Field}
 use Rattle.dsde_values.specs.declared.types.Ty.{Ty}
 use Rattle.dsde_values.specs.declared.value.Value.{Value}
-use Rattle.dsde_check_rules.specs.Judge as rules
-use Rattle.dsde_check_rules.specs.Blocks.{Passed, Walk, walk_all}
-use Rattle.dsde_eval_meaning.specs.Meaning.{with_var}
-use Rattle.dsde_eval_meaning.specs.Proper.{all_so}
-use Rattle.dsde_eval_meaning.specs.Scopes.{Sees}
-use Rattle.dsde_eval_meaning.specs.Typed.{Typed}
-use Rattle.dsde_executive_plans.specs.Layout.{Layout, Lay, lay_all, braced, for_one, for_lay}
-use Rattle.dsde_sound_typing.specs.lemmas.Values.{AllHave, all-cons}
-use Rattle.dsde_sound_typing.specs.lemmas.Steps.{went, ok-is}
-use Rattle.dsde_sound_typing.specs.lemmas.Truths.{and-left, and-right}
-use Rattle.dsde_sound_typing.specs.lemmas.Fitting.{field_of, fits-snoc}
+use Rattle.dsde_language.specs.Judge as rules
+use Rattle.dsde_language.specs.Blocks.{Passed, Walk, walk_all}
+use Rattle.dsde_language.specs.Meaning.{with_var}
+use Rattle.dsde_language.specs.Proper.{all_so}
+use Rattle.dsde_language.specs.Scopes.{Sees}
+use Rattle.dsde_language.specs.Typed.{Typed}
+use Rattle.dsde_system.specs.given.executive_plans.Layout.{Layout, Lay, lay_all, braced, for_one, for_lay}
+use Rattle.dsde_sound_expressions.specs.lemmas.Values.{AllHave, all-cons}
+use Rattle.dsde_sound_expressions.specs.lemmas.Steps.{went, ok-is}
+use Rattle.dsde_sound_expressions.specs.lemmas.Truths.{and-left, and-right}
+use Rattle.dsde_sound_expressions.specs.lemmas.Fitting.{field_of, fits-snoc}
 use Rattle.dsde_sound_named.proofs.Laid.{Ground, Kept, bound, as-in, cut-kept}
 
 module _ (g : Ground) where

@@ -5,14 +5,14 @@ use Rattle.dsde_syntax.specs.declared.item.ItemArm.{ItemArm}
 use Rattle.dsde_syntax.specs.declared.item.Item.TheOpen.{Item-F, ItemArm-F}
 use Rattle.dsde_syntax.specs.declared.item.Item.TheViews.{roll-Item, roll-ItemArm}
 use Rattle.dsde_syntax.specs.declared.item.Item.TheFolds.{fold-ItemArm, map-Item, map-ItemArm, fold-roll-Item, fold-roll-ItemArm, ind-Item}
-use Rattle.dsde_check_rules.specs.Blocks.{Walk, ArmWalk}
-use Rattle.dsde_check_rules.specs.Structures as rules
-use Rattle.dsde_check_rules.specs.Structures.{item_walk}
-use Rattle.dsde_eval_meaning.specs.Proper.{all_so}
-use Rattle.dsde_sound_grammar.specs.Items as proper
-use Rattle.dsde_sound_grammar.specs.Items.{is_proper_item}
-use Rattle.dsde_executive_plans.specs.Layout as layouts
-use Rattle.dsde_executive_plans.specs.Layout.{Lay, ArmLay, lay, lay_all}
+use Rattle.dsde_language.specs.Blocks.{Walk, ArmWalk}
+use Rattle.dsde_language.specs.RuleStructures as rules
+use Rattle.dsde_language.specs.RuleStructures.{item_walk}
+use Rattle.dsde_language.specs.Proper.{all_so}
+use Rattle.dsde_sound_expressions.specs.Items as proper
+use Rattle.dsde_sound_expressions.specs.Items.{is_proper_item}
+use Rattle.dsde_system.specs.given.executive_plans.Layout as layouts
+use Rattle.dsde_system.specs.given.executive_plans.Layout.{Lay, ArmLay, lay, lay_all}
 use Rattle.dsde_sound_named.proofs.Laid.{Ground}
 use Rattle.dsde_sound_named.proofs.Does.{Does, AllDo, all-do}
 use Rattle.dsde_sound_named.proofs.Simple.{comp-does, link-does, let-does, for-does}

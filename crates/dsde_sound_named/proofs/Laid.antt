@@ -6,19 +6,19 @@ use Rattle.dsde_values.specs.declared.types.Types.{Types}
 use Rattle.dsde_values.specs.declared.value.Value.{Value}
 use Rattle.dsde_values.specs.Path.{name_cmp}
 use Rattle.dsde_faults.specs.declared.kind.FaultKind.TheVariants.{DuplicateComponent, Crowded}
-use Rattle.dsde_check_rules.specs.declared.known.Site.{Site}
-use Rattle.dsde_check_rules.specs.declared.seen.Seen.{Seen}
-use Rattle.dsde_check_rules.specs.Judge.{judge}
-use Rattle.dsde_check_rules.specs.Judge as rules
-use Rattle.dsde_declared.specs.Structures.{Place}
-use Rattle.dsde_structure.specs.declared.plan.Entry.{Entry}
-use Rattle.dsde_eval_meaning.specs.Outcome.{Fault, Outcome, ◌>>=◌}
-use Rattle.dsde_eval_meaning.specs.Meaning.{Function, Vars, mean}
-use Rattle.dsde_eval_meaning.specs.Proper.{is_proper}
-use Rattle.dsde_eval_meaning.specs.Scopes.{Sees}
-use Rattle.dsde_eval_meaning.specs.Typed.{Typed, Fits}
-use Rattle.dsde_executive_plans.specs.Layout.{Layout, most, inserted, is_there, with_entry}
-use Rattle.dsde_sound_typing.specs.lemmas.Fitting.{fits-take, fits-length}
+use Rattle.dsde_language.specs.declared.known.Site.{Site}
+use Rattle.dsde_language.specs.declared.seen.Seen.{Seen}
+use Rattle.dsde_language.specs.Judge.{judge}
+use Rattle.dsde_language.specs.Judge as rules
+use Rattle.dsde_language.specs.DeclaredStructures.{Place}
+use Rattle.dsde_system.specs.given.structure.plan_Entry.{Entry}
+use Rattle.dsde_language.specs.Outcome.{Fault, Outcome, ◌>>=◌}
+use Rattle.dsde_language.specs.Meaning.{Function, Vars, mean}
+use Rattle.dsde_language.specs.Proper.{is_proper}
+use Rattle.dsde_language.specs.Scopes.{Sees}
+use Rattle.dsde_language.specs.Typed.{Typed, Fits}
+use Rattle.dsde_system.specs.given.executive_plans.Layout.{Layout, most, inserted, is_there, with_entry}
+use Rattle.dsde_sound_expressions.specs.lemmas.Fitting.{fits-take, fits-length}
 use Rattle.dsde_sound_named.specs.Named.{AreAllowed, IsAllowed}
 
 -- What came to an end behind a step came behind what that step came to.

@@ -11,33 +11,33 @@ use Rattle.dsde_values.specs.declared.types.Ty.{Ty}
 use Rattle.dsde_values.specs.declared.types.Ty.TheVariants as ty
 use Rattle.dsde_values.specs.Path.{is_index}
 use Rattle.dsde_values.specs.Value.{fits_int}
-use Rattle.dsde_check_rules.specs.declared.known.Around.{Around}
-use Rattle.dsde_check_rules.specs.declared.seen.Binding.{Binding}
-use Rattle.dsde_check_rules.specs.declared.wrong.WrongKind.TheVariants.{BadLink}
-use Rattle.dsde_check_rules.specs.Steps.{above, unless}
-use Rattle.dsde_check_rules.specs.Types.{wanted, item_type}
-use Rattle.dsde_check_rules.specs.Judge.{fresh, fixed, judge}
-use Rattle.dsde_check_rules.specs.Judge as rules
-use Rattle.dsde_check_rules.specs.Blocks.{Passed, Walk, walk_all, inner, var_kind}
-use Rattle.dsde_check_rules.specs.Structures as rule_structures
-use Rattle.dsde_check_rules.specs.Structures.{args_of, through}
-use Rattle.dsde_declared.specs.Models.{model_id}
-use Rattle.dsde_structure.specs.declared.plan.Entry.{Entry}
-use Rattle.dsde_eval_meaning.specs.Outcome.{Outcome, int_of, items_of}
-use Rattle.dsde_eval_meaning.specs.Meaning.{Vars, mean, values_of, with_var}
-use Rattle.dsde_eval_meaning.specs.Proper.{is_plain, is_proper, all_so}
-use Rattle.dsde_eval_meaning.specs.Scopes.{Sees}
-use Rattle.dsde_eval_meaning.specs.Typed.{Typed, Fits}
-use Rattle.dsde_sound_grammar.specs.Items as proper
-use Rattle.dsde_sound_grammar.specs.Items.{is_proper_index}
-use Rattle.dsde_executive_plans.specs.Layout.{Lay, lay_all, item_step, natural, index_of, end_of, via_of, with_entry, with_link}
-use Rattle.dsde_sound_typing.specs.lemmas.Outcomes.{sound-given}
-use Rattle.dsde_sound_typing.specs.lemmas.Values.{IsList, int-sound, items-sound}
-use Rattle.dsde_sound_typing.specs.lemmas.Types.{wanted-is, item-is}
-use Rattle.dsde_sound_typing.specs.lemmas.Steps.{went, ok-is}
-use Rattle.dsde_sound_typing.specs.lemmas.Truths.{and-left, and-right}
-use Rattle.dsde_sound_typing.specs.lemmas.Fitting.{field_of, fits-snoc}
-use Rattle.dsde_sound_typing.specs.lemmas.Seeing.{sees-snoc, fresh-new}
+use Rattle.dsde_language.specs.declared.known.Around.{Around}
+use Rattle.dsde_language.specs.declared.seen.Binding.{Binding}
+use Rattle.dsde_language.specs.declared.wrong.WrongKind.TheVariants.{BadLink}
+use Rattle.dsde_language.specs.Steps.{above, unless}
+use Rattle.dsde_language.specs.Types.{wanted, item_type}
+use Rattle.dsde_language.specs.Judge.{fresh, fixed, judge}
+use Rattle.dsde_language.specs.Judge as rules
+use Rattle.dsde_language.specs.Blocks.{Passed, Walk, walk_all, inner, var_kind}
+use Rattle.dsde_language.specs.RuleStructures as rule_structures
+use Rattle.dsde_language.specs.RuleStructures.{args_of, through}
+use Rattle.dsde_language.specs.DeclaredModels.{model_id}
+use Rattle.dsde_system.specs.given.structure.plan_Entry.{Entry}
+use Rattle.dsde_language.specs.Outcome.{Outcome, int_of, items_of}
+use Rattle.dsde_language.specs.Meaning.{Vars, mean, values_of, with_var}
+use Rattle.dsde_language.specs.Proper.{is_plain, is_proper, all_so}
+use Rattle.dsde_language.specs.Scopes.{Sees}
+use Rattle.dsde_language.specs.Typed.{Typed, Fits}
+use Rattle.dsde_sound_expressions.specs.Items as proper
+use Rattle.dsde_sound_expressions.specs.Items.{is_proper_index}
+use Rattle.dsde_system.specs.given.executive_plans.Layout.{Lay, lay_all, item_step, natural, index_of, end_of, via_of, with_entry, with_link}
+use Rattle.dsde_sound_expressions.specs.lemmas.Outcomes.{sound-given}
+use Rattle.dsde_sound_expressions.specs.lemmas.Values.{IsList, int-sound, items-sound}
+use Rattle.dsde_sound_expressions.specs.lemmas.Types.{wanted-is, item-is}
+use Rattle.dsde_sound_expressions.specs.lemmas.Steps.{went, ok-is}
+use Rattle.dsde_sound_expressions.specs.lemmas.Truths.{and-left, and-right}
+use Rattle.dsde_sound_expressions.specs.lemmas.Fitting.{field_of, fits-snoc}
+use Rattle.dsde_sound_expressions.specs.lemmas.Seeing.{sees-snoc, fresh-new}
 use Rattle.dsde_sound_named.proofs.Laid.{Ground, Kept, bound, as-in, entry-keeps}
 use Rattle.dsde_sound_named.proofs.Does.{E, Done, Does, AllDo, same-done, for-keeps}
 

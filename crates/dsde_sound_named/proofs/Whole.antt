@@ -7,28 +7,28 @@ use Rattle.dsde_values.specs.declared.types.Field.{Field}
 use Rattle.dsde_values.specs.declared.types.Types.{Types}
 use Rattle.dsde_values.specs.declared.value.Value.{Value}
 use Rattle.dsde_faults.specs.declared.kind.Site.TheVariants as site
-use Rattle.dsde_check_rules.specs.Blocks.{walk_all}
-use Rattle.dsde_check_rules.specs.Structures.{item_walk}
-use Rattle.dsde_check_rules.specs.Right.{IsRight}
-use Rattle.dsde_declared.specs.declared.ids.ModelId.{ModelId}
-use Rattle.dsde_declared.specs.Models.{whole_of, types_of, Own, owns_of, param_slots, state_slots}
-use Rattle.dsde_declared.specs.Structures.{place_of_items, structures_of, first_via}
-use Rattle.dsde_program_nodes.specs.declared.make.Make.{Make}
-use Rattle.dsde_structure.specs.declared.plan.Plan.{Plan}
-use Rattle.dsde_eval_meaning.specs.Agreement.{ExpressionsAgree}
-use Rattle.dsde_eval_meaning.specs.Functions.{functions_of}
-use Rattle.dsde_eval_meaning.specs.Meaning.{Vars, mean}
-use Rattle.dsde_eval_meaning.specs.Outcome.{Fault, Stuck, Outcome}
-use Rattle.dsde_eval_meaning.specs.Typed.{Typed, Fits}
-use Rattle.dsde_executive_plans.specs.Layout.{Layout, lay, lay_all, tied, structure}
-use Rattle.dsde_formalism.specs.System.{State}
-use Rattle.dsde_sound_functions.specs.Coded.{FunctionsAgree, coded_of}
-use Rattle.dsde_sound_grammar.specs.Items.{is_proper_item}
-use Rattle.dsde_sound_places.specs.Bodies.{body_slots}
-use Rattle.dsde_sound_places.specs.Laws.{KnownIsWithin}
-use Rattle.dsde_sound_places.specs.Structures.{HasStructure, IsStructure, StructuresStand}
-use Rattle.dsde_sound_typing.specs.lemmas.Outcomes.{sound-given}
-use Rattle.dsde_sound_typing.specs.lemmas.Steps.{went}
+use Rattle.dsde_language.specs.Blocks.{walk_all}
+use Rattle.dsde_language.specs.RuleStructures.{item_walk}
+use Rattle.dsde_language.specs.Right.{IsRight}
+use Rattle.dsde_language.specs.declared.ids.ModelId.{ModelId}
+use Rattle.dsde_language.specs.DeclaredModels.{whole_of, types_of, Own, owns_of, param_slots, state_slots}
+use Rattle.dsde_language.specs.DeclaredStructures.{place_of_items, structures_of, first_via}
+use Rattle.dsde_language.specs.declared.make.Make.{Make}
+use Rattle.dsde_system.specs.given.structure.plan_Plan.{Plan}
+use Rattle.dsde_language.specs.Agreement.{ExpressionsAgree}
+use Rattle.dsde_language.specs.Functions.{functions_of}
+use Rattle.dsde_language.specs.Meaning.{Vars, mean}
+use Rattle.dsde_language.specs.Outcome.{Fault, Stuck, Outcome}
+use Rattle.dsde_language.specs.Typed.{Typed, Fits}
+use Rattle.dsde_system.specs.given.executive_plans.Layout.{Layout, lay, lay_all, tied, structure}
+use Rattle.dsde_system.specs.given.formalism.System.{State}
+use Rattle.dsde_sound_expressions.specs.Coded.{FunctionsAgree, coded_of}
+use Rattle.dsde_sound_expressions.specs.Items.{is_proper_item}
+use Rattle.dsde_sound_expressions.specs.Bodies.{body_slots}
+use Rattle.dsde_sound_expressions.specs.Laws.{KnownIsWithin}
+use Rattle.dsde_sound_expressions.specs.Structures.{HasStructure, IsStructure, StructuresStand}
+use Rattle.dsde_sound_expressions.specs.lemmas.Outcomes.{sound-given}
+use Rattle.dsde_sound_expressions.specs.lemmas.Steps.{went}
 use Rattle.dsde_system.specs.Body.{at_site, vars_of, body_vars}
 use Rattle.dsde_system.specs.Program.{system, network_at, plan_at}
 use Rattle.dsde_system.specs.Fitting.{Fill}

@@ -6,11 +6,11 @@ use Rattle.dsde_syntax.specs.declared.decl.Model.{Model}
 use Rattle.dsde_values.specs.declared.name.Name.{Name}
 use Rattle.dsde_values.specs.declared.value.Value.{Value}
 use Rattle.dsde_values.specs.Path.{is_index}
-use Rattle.dsde_check_rules.specs.Right.{IsRight}
-use Rattle.dsde_declared.specs.declared.ids.ModelId.{ModelId}
-use Rattle.dsde_structure.specs.declared.plan.Entry.{Entry}
-use Rattle.dsde_structure.specs.declared.plan.Plan.{Plan}
-use Rattle.dsde_formalism.specs.System.{State}
+use Rattle.dsde_language.specs.Right.{IsRight}
+use Rattle.dsde_language.specs.declared.ids.ModelId.{ModelId}
+use Rattle.dsde_system.specs.given.structure.plan_Entry.{Entry}
+use Rattle.dsde_system.specs.given.structure.plan_Plan.{Plan}
+use Rattle.dsde_system.specs.given.formalism.System.{State}
 use Rattle.dsde_system.specs.Program.{system}
 use Rattle.dsde_system.specs.Fitting.{FitsArgs, FitsState}
 

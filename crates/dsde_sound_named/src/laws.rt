@@ -2,9 +2,9 @@
 
 ghost use Rattle.dsde_sound_named.specs.Named.{NamesAreAllowed};
 
-use dsde_sound_expressions::expressions_agree;
-use dsde_sound_functions::functions_agree;
-use dsde_sound_places::{known_is_within, structures_stand};
+use dsde_sound_expressions::{
+    expressions_agree, functions_agree, known_is_within, structures_stand,
+};
 
 /// A law: the name of each component of each plan of a program has an identifier that is no word of the
 /// language, and its index, where it has one, is below 2^63.

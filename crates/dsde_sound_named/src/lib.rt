@@ -2,6 +2,7 @@
 //! and whose indices are below 2^63. No code.
 #![tactic(auto)]
 
+pub mod given;
 mod laws;
 
 pub use laws::names_are_allowed;

@@ -1,18 +1,18 @@
 -- No component of a structure that a text can spell is named as an executive.
 use Rattle.std.proofs.Common.{◌≡◌, Bool, true, false, ◌&&◌, List, [], ◌∷◌, map, Some, None, refl, sym, ◌∙◌, ap, subst, ◌↔◌, is_eq, Ordering, Less, Equal, Greater}
 use Rattle.std.specs.List.{AllByRecursion, list_all}
-use Rattle.dsde_syntax.specs.declared.item.Item.{Item}
-use Rattle.dsde_syntax.specs.declared.item.ItemArm.{ItemArm}
-use Rattle.dsde_syntax.specs.declared.item.Item.TheOpen.{Item-F, ItemArm-F}
-use Rattle.dsde_syntax.specs.declared.item.Item.TheViews.{roll-Item, roll-ItemArm}
-use Rattle.dsde_syntax.specs.declared.item.Item.TheFolds.{fold-ItemArm, map-Item, map-ItemArm, fold-roll-Item, fold-roll-ItemArm, ind-Item}
+use Rattle.dsde_sound_expressions.specs.given.syntax.item_Item.{Item}
+use Rattle.dsde_sound_expressions.specs.given.syntax.item_ItemArm.{ItemArm}
+use Rattle.dsde_sound_expressions.specs.given.syntax.item_Item_TheOpen.{Item-F, ItemArm-F}
+use Rattle.dsde_sound_expressions.specs.given.syntax.item_Item_TheViews.{roll-Item, roll-ItemArm}
+use Rattle.dsde_sound_expressions.specs.given.syntax.item_Item_TheFolds.{fold-ItemArm, map-Item, map-ItemArm, fold-roll-Item, fold-roll-ItemArm, ind-Item}
 use Rattle.dsde_values.specs.declared.name.Name.{Name}
 use Rattle.dsde_values.specs.Path.{EXEC, name_cmp}
-use Rattle.dsde_structure.specs.declared.plan.Entry.{Entry}
-use Rattle.dsde_structure.specs.Gather.{is_same_name}
-use Rattle.dsde_eval_meaning.specs.Proper.{is_plain, is_proper}
-use Rattle.dsde_sound_grammar.specs.Items as proper
-use Rattle.dsde_sound_grammar.specs.Items.{is_proper_item, is_proper_index}
+use Rattle.dsde_executive_plans.specs.given.structure.plan_Entry.{Entry}
+use Rattle.dsde_executive_plans.specs.given.structure.Gather.{is_same_name}
+use Rattle.dsde_sound_expressions.specs.given.language.Proper.{is_plain, is_proper}
+use Rattle.dsde_sound_expressions.specs.Items as proper
+use Rattle.dsde_sound_expressions.specs.Items.{is_proper_item, is_proper_index}
 use Rattle.dsde_sound_names.specs.Called.{all_so, called_step, called_arm, called_so, arm_called_so, is_free}
 use Rattle.dsde_sound_names.proofs.Laying.{IsCalled, both}
 

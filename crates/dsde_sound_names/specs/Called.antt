@@ -3,10 +3,10 @@ use Rattle.std.specs.Prelude.{ℕ, not, Bool, true, ◌&&◌, List}
 use Rattle.std.specs.List.{list_all}
 use Rattle.std.specs.Option.{option_map_or}
 use Rattle.dsde_words.specs.Words.{is_reserved}
-use Rattle.dsde_syntax.specs.declared.item.Item.{Item}
-use Rattle.dsde_syntax.specs.declared.item.Item.TheOpen.{Item-F, ItemArm-F}
-use Rattle.dsde_syntax.specs.declared.item.Item.TheFolds.{fold-Item, fold-ItemArm}
-use Rattle.dsde_syntax.specs.declared.item.ItemArm.{ItemArm}
+use Rattle.dsde_sound_expressions.specs.given.syntax.item_Item.{Item}
+use Rattle.dsde_sound_expressions.specs.given.syntax.item_Item_TheOpen.{Item-F, ItemArm-F}
+use Rattle.dsde_sound_expressions.specs.given.syntax.item_Item_TheFolds.{fold-Item, fold-ItemArm}
+use Rattle.dsde_sound_expressions.specs.given.syntax.item_ItemArm.{ItemArm}
 
 abbrev pub all_so : List Bool → Bool
 all_so = list_all (λ own. own)

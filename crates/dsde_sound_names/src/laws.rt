@@ -3,13 +3,13 @@
 ghost use Rattle.std.specs.Prelude.{◌≡◌, ℕ, Bool, true, false, List, Ok};
 ghost use Rattle.std.specs.List.{AllByRecursion, list_all};
 ghost use Rattle.dsde_values.specs.Path.{EXEC};
-ghost use Rattle.dsde_syntax.specs.declared.item.Item.{Item};
-ghost use Rattle.dsde_structure.specs.declared.plan.Plan.{Plan};
-ghost use Rattle.dsde_declared.specs.Structures.{Place};
-ghost use Rattle.dsde_eval_meaning.specs.Meaning.{Function, Vars};
+ghost use Rattle.dsde_sound_expressions.specs.given.syntax.item_Item.{Item};
+ghost use Rattle.dsde_executive_plans.specs.given.structure.plan_Plan.{Plan};
+ghost use Rattle.dsde_sound_expressions.specs.given.language.DeclaredStructures.{Place};
+ghost use Rattle.dsde_sound_expressions.specs.given.language.Meaning.{Function, Vars};
 ghost use Rattle.dsde_executive_plans.specs.Layout.{structure};
-ghost use Rattle.dsde_structure.specs.Gather.{is_same_name};
-ghost use Rattle.dsde_sound_grammar.specs.Items.{is_proper_item};
+ghost use Rattle.dsde_executive_plans.specs.given.structure.Gather.{is_same_name};
+ghost use Rattle.dsde_sound_expressions.specs.Items.{is_proper_item};
 ghost use Rattle.dsde_sound_names.specs.Called.{called_so};
 
 use dsde_values::one_name;

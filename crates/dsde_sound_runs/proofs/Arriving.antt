@@ -10,18 +10,18 @@ use Rattle.dsde_values.specs.declared.types.Field.{Field}
 use Rattle.dsde_values.specs.declared.types.Types.{Types}
 use Rattle.dsde_values.specs.Value.{IsLawful}
 use Rattle.dsde_values.proofs.Typed.{HasType-is}
-use Rattle.dsde_declared.specs.Models.{Own, own_ins, top_ins, top_number, types_of}
-use Rattle.dsde_check_rules.specs.Right.{IsRight}
+use Rattle.dsde_language.specs.DeclaredModels.{Own, own_ins, top_ins, top_number, types_of}
+use Rattle.dsde_language.specs.Right.{IsRight}
 use Rattle.dsde_input.specs.Reader.{IsOffence}
 use Rattle.dsde_input_records.specs.declared.end.InputEnd.{InputEnd}
 use Rattle.dsde_input_records.specs.declared.end.InputEnd.TheVariants.{Backwards, LineTooLong}
 use Rattle.dsde_input_records.specs.Lines.{lines, without_last}
 use Rattle.dsde_input_records.specs.Record.{ArePorts, IsItem, Spells, record_of}
 use Rattle.dsde_input_records.specs.Records.{Records, before, judged, line_record, next_number, records_of}
-use Rattle.dsde_eval_meaning.specs.Typed.{AllSent}
+use Rattle.dsde_language.specs.Typed.{AllSent}
 use Rattle.dsde_run_meaning.specs.Run.{records_in}
-use Rattle.dsde_sound_inputs.specs.Lawful.{PortsAreLawful, TopIsDeclared, TypesAreLawful}
-use Rattle.dsde_sound_places.specs.Laws.{BodiesStand, HasOwn}
+use Rattle.dsde_sim_starting.specs.given.sound_structures.Lawful.{PortsAreLawful, TopIsDeclared, TypesAreLawful}
+use Rattle.dsde_sound_expressions.specs.Laws.{BodiesStand, HasOwn}
 use Rattle.dsde_sound_runs.specs.Ends.{AllArrive, Arrives}
 
 all-sent : (ports : List Field) (types : Types) (items : List Item) → All (IsItem ports types) items → AllSent types ports items

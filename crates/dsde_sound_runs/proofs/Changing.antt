@@ -11,13 +11,13 @@ use Rattle.dsde_values.specs.declared.name.Name.{Name}
 use Rattle.dsde_values.specs.declared.path.Path.{Path}
 use Rattle.dsde_values.specs.Path.{name_cmp}
 use Rattle.dsde_values.specs.When.{IsMoment}
-use Rattle.dsde_declared.specs.declared.ids.ModelId.{ModelId}
+use Rattle.dsde_language.specs.declared.ids.ModelId.{ModelId}
 use Rattle.dsde_structure.specs.declared.plan.Entry.{Entry}
 use Rattle.dsde_structure.specs.Gather.{is_same_name}
 use Rattle.dsde_structure.specs.Survival.{IsInOrder, names, role}
-use Rattle.dsde_system.specs.Program.{system}
-use Rattle.dsde_system.specs.Plans.{FitsEntry}
-use Rattle.dsde_sim_events.specs.Told.{Told, told, ◌then◌}
+use Rattle.dsde_sim_starting.specs.given.system.Program.{system}
+use Rattle.dsde_sim_starting.specs.given.system.Plans.{FitsEntry}
+use Rattle.dsde_sim_tree.specs.Told.{Told, told, ◌then◌}
 use Rattle.dsde_sim_tree.specs.declared.sim.Kid.{Kid}
 use Rattle.dsde_sim_tree.specs.declared.sim.Sim.TheViews.{out-Kid}
 use Rattle.dsde_sim_tree.specs.Move.{survives, kept, gone, take_named, refill, refilled, change, left_behind}

@@ -3,10 +3,10 @@ use Rattle.std.proofs.Common.{◌≡◌, Option, Ok, subst}
 use Rattle.std.specs.Prelude.{IfSome}
 use Rattle.dsde_syntax.specs.declared.decl.Model.{Model}
 use Rattle.dsde_values.specs.declared.arrival.Arrival.{Arrival}
-use Rattle.dsde_system.specs.Program.{system}
-use Rattle.dsde_sim_turns.specs.declared.step.Step.{Step}
-use Rattle.dsde_sim_turns.specs.Engine.{Engine}
-use Rattle.dsde_sim_turns.specs.Turn.{advance, start}
+use Rattle.dsde_sim_starting.specs.given.system.Program.{system}
+use Rattle.dsde_sim_tree.specs.declared.step.Step.{Step}
+use Rattle.dsde_sim_tree.specs.Engine.{Engine}
+use Rattle.dsde_sim_tree.specs.Turn.{advance, start}
 use Rattle.dsde_sound_runs.specs.Ends.{Arrives, FitsEngine}
 use Rattle.dsde_sound_runs.proofs.Relied.{Laws}
 use Rattle.dsde_sound_runs.proofs.Safe.{Safe}

@@ -5,21 +5,21 @@ use Rattle.dsde_values.specs.declared.path.Path.{Path}
 use Rattle.dsde_values.specs.declared.value.Value.{Value}
 use Rattle.dsde_values.specs.declared.when.When.{When}
 use Rattle.dsde_values.specs.When.{IsMoment}
-use Rattle.dsde_declared.specs.declared.ids.ModelId.{ModelId}
-use Rattle.dsde_declared.specs.Models.{types_of, Own, owns_of, state_slots}
+use Rattle.dsde_language.specs.declared.ids.ModelId.{ModelId}
+use Rattle.dsde_language.specs.DeclaredModels.{types_of, Own, owns_of, state_slots}
 use Rattle.dsde_formalism.specs.declared.leaf.Leaf.{Leaf}
 use Rattle.dsde_formalism.specs.declared.leaf.MoveKind.{MoveKind}
 use Rattle.dsde_formalism.specs.declared.leaf.MoveKind.TheVariants.{Internal, External, Confluent}
 use Rattle.dsde_formalism.specs.System.{State, Ports}
 use Rattle.dsde_formalism.specs.Leaf.{component_of, settled, start_leaf, move_leaf, transition}
-use Rattle.dsde_system.specs.Program.{system}
-use Rattle.dsde_system.specs.Fitting.{Fill, FitsArgs, FitsState, FitsLeaf, FitsInputs, IsInTime}
-use Rattle.dsde_sim_events.specs.declared.event.Event.TheVariants.{AddLeaf, Move}
-use Rattle.dsde_sim_events.specs.Told.{Told, told, quietly, ◌then◌, at}
+use Rattle.dsde_sim_starting.specs.given.system.Program.{system}
+use Rattle.dsde_sim_starting.specs.given.system.Fitting.{Fill, FitsArgs, FitsState, FitsLeaf, FitsInputs, IsInTime}
+use Rattle.dsde_sim_tree.specs.declared.event.Event.TheVariants.{AddLeaf, Move}
+use Rattle.dsde_sim_tree.specs.Told.{Told, told, quietly, ◌then◌, at}
 use Rattle.dsde_sim_tree.specs.Start.{entered, start_leaf_at}
 use Rattle.dsde_sim_tree.specs.Move.{take_move}
-use Rattle.dsde_sound_components.specs.Sure.{Sure, IsSure}
-use Rattle.dsde_sound_components.specs.lemmas.Steps.{sure-then}
+use Rattle.dsde_sim_starting.specs.given.sound_structures.Sure.{Sure, IsSure}
+use Rattle.dsde_sim_starting.specs.given.sound_structures.lemmas_Steps.{sure-then}
 use Rattle.dsde_sound_runs.proofs.Relied.{Laws}
 use Rattle.dsde_sound_runs.proofs.Safe.{Safe, safe-at, safe-then}
 

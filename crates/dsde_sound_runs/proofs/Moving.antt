@@ -6,8 +6,8 @@ use Rattle.dsde_values.specs.declared.path.Path.{Path}
 use Rattle.dsde_values.specs.declared.types.Field.{Field}
 use Rattle.dsde_values.specs.declared.value.Value.{Value}
 use Rattle.dsde_values.specs.When.{IsMoment}
-use Rattle.dsde_declared.specs.declared.ids.ModelId.{ModelId}
-use Rattle.dsde_declared.specs.Models.{types_of, Own, owns_of, body_ins}
+use Rattle.dsde_language.specs.declared.ids.ModelId.{ModelId}
+use Rattle.dsde_language.specs.DeclaredModels.{types_of, Own, owns_of, body_ins}
 use Rattle.dsde_structure.specs.declared.plan.Entry.{Entry}
 use Rattle.dsde_structure.specs.declared.plan.Link.{Link}
 use Rattle.dsde_structure.specs.declared.plan.Part.{Part}
@@ -19,10 +19,10 @@ use Rattle.dsde_formalism.specs.declared.leaf.Leaf.{Leaf}
 use Rattle.dsde_formalism.specs.declared.leaf.MoveKind.{MoveKind}
 use Rattle.dsde_formalism.specs.System.{Ports}
 use Rattle.dsde_formalism.specs.Leaf.{component_of, kind_of}
-use Rattle.dsde_system.specs.Program.{system}
-use Rattle.dsde_system.specs.Fitting.{FitsInputs, Reach}
-use Rattle.dsde_system.specs.Plans.{ArePortsOf, Cover, FitsLink, FitsSources, HasKid, ways}
-use Rattle.dsde_sim_events.specs.Told.{Told, told, quietly, ◌then◌, below, to_boss}
+use Rattle.dsde_sim_starting.specs.given.system.Program.{system}
+use Rattle.dsde_sim_starting.specs.given.system.Fitting.{FitsInputs, Reach}
+use Rattle.dsde_sim_starting.specs.given.system.Plans.{ArePortsOf, Cover, FitsLink, FitsSources, HasKid, ways}
+use Rattle.dsde_sim_tree.specs.Told.{Told, told, quietly, ◌then◌, below, to_boss}
 use Rattle.dsde_sim_tree.specs.declared.sim.Kid.{Kid}
 use Rattle.dsde_sim_tree.specs.declared.sim.Net.{Net}
 use Rattle.dsde_sim_tree.specs.declared.sim.Sim.{Sim}
@@ -34,7 +34,7 @@ use Rattle.dsde_sim_tree.specs.Start.{kid_of, net_of, structure_of}
 use Rattle.dsde_sim_tree.specs.Move.{after_boss, after_kids, change, ins_of, kid_move, move, move_leaf_at, moved, net_move, net_moves, replanned, take_move, with_sources}
 use Rattle.dsde_sim_tree.specs.Tree.{args_of, entry_of, model_of}
 use Rattle.dsde_sim_tree.specs.lemmas.Trees.{each_tree}
-use Rattle.dsde_sound_components.specs.Sure.{FitsNetwork}
+use Rattle.dsde_sim_starting.specs.given.sound_structures.Sure.{FitsNetwork}
 use Rattle.dsde_sound_runs.proofs.Relied.{Laws}
 use Rattle.dsde_sound_runs.proofs.Safe.{Safe, safe-then}
 use Rattle.dsde_sim_starting.specs.Fitting.{FitsAtomic, FitsKid, FitsLinks, FitsShape, FitsTree}

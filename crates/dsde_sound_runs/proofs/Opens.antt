@@ -7,7 +7,7 @@ use Rattle.dsde_formalism.specs.System.{System}
 use Rattle.dsde_structure.specs.declared.plan.Part.TheVariants as part
 use Rattle.dsde_structure.specs.declared.sources.Given.{Given}
 use Rattle.dsde_structure.specs.Gather.{gathered}
-use Rattle.dsde_sim_events.specs.Told.{at, below}
+use Rattle.dsde_sim_tree.specs.Told.{at, below}
 use Rattle.dsde_sim_tree.specs.declared.sim.Kid.{Kid}
 use Rattle.dsde_sim_tree.specs.declared.sim.Net.{Net}
 use Rattle.dsde_sim_tree.specs.declared.sim.Sim.TheVariants as sim

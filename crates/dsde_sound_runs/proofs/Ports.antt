@@ -6,13 +6,13 @@ use Rattle.dsde_syntax.specs.declared.decl.Decl.TheVariants as decl
 use Rattle.dsde_syntax.specs.declared.decl.Model.{Model}
 use Rattle.dsde_values.specs.declared.types.Field.{Field}
 use Rattle.dsde_values.specs.declared.value.Value.{Value}
-use Rattle.dsde_declared.specs.declared.ids.ModelId.{ModelId}
-use Rattle.dsde_declared.specs.Models.{types_of, Own, owns_of}
+use Rattle.dsde_language.specs.declared.ids.ModelId.{ModelId}
+use Rattle.dsde_language.specs.DeclaredModels.{types_of, Own, owns_of}
 use Rattle.dsde_formalism.specs.declared.leaf.Leaf.{Leaf}
 use Rattle.dsde_formalism.specs.System.{Ports}
-use Rattle.dsde_system.specs.Program.{system, component_at, network_at}
-use Rattle.dsde_system.specs.Fitting.{FitsInputs, Reach}
-use Rattle.dsde_system.specs.Plans.{ways, body_ways}
+use Rattle.dsde_sim_starting.specs.given.system.Program.{system, component_at, network_at}
+use Rattle.dsde_sim_starting.specs.given.system.Fitting.{FitsInputs, Reach}
+use Rattle.dsde_sim_starting.specs.given.system.Plans.{ways, body_ways}
 use Rattle.dsde_sim_starting.specs.Fitting.{FitsAtomic}
 use Rattle.dsde_sim_starting.specs.lemmas.Stood.{plain-ins}
 

@@ -6,15 +6,15 @@ use Rattle.dsde_syntax.specs.declared.decl.Model.{Model}
 use Rattle.dsde_values.specs.declared.name.Name.{Name}
 use Rattle.dsde_values.specs.declared.value.Value.{Value}
 use Rattle.dsde_values.specs.Path.{name_cmp}
-use Rattle.dsde_declared.specs.declared.ids.ModelId.{ModelId}
-use Rattle.dsde_check_rules.specs.Right.{IsRight}
+use Rattle.dsde_language.specs.declared.ids.ModelId.{ModelId}
+use Rattle.dsde_language.specs.Right.{IsRight}
 use Rattle.dsde_structure.specs.declared.plan.Entry.{Entry}
 use Rattle.dsde_structure.specs.Survival.{survives, StaysAs}
 use Rattle.dsde_formalism.specs.System.{State}
-use Rattle.dsde_system.specs.Program.{system}
-use Rattle.dsde_system.specs.Fitting.{FitsArgs, FitsState}
-use Rattle.dsde_sound_links.specs.Carrying.{GatheredFit, ReachCovers, SentFit}
-use Rattle.dsde_sound_components.specs.Sure.{Sure, IsSure, FitsNetwork, FitsChosen}
+use Rattle.dsde_sim_starting.specs.given.system.Program.{system}
+use Rattle.dsde_sim_starting.specs.given.system.Fitting.{FitsArgs, FitsState}
+use Rattle.dsde_sim_starting.specs.given.sound_structures.Carrying.{GatheredFit, ReachCovers, SentFit}
+use Rattle.dsde_sim_starting.specs.given.sound_structures.Sure.{Sure, IsSure, FitsNetwork, FitsChosen}
 
 pub record Laws (model : Model) : Type 0 where
   pub right : IsRight model

@@ -7,16 +7,16 @@ use Rattle.dsde_input.specs.Reader.{IsOffence}
 use Rattle.dsde_input_records.specs.declared.end.InputEnd.{InputEnd}
 use Rattle.dsde_input_records.specs.declared.end.InputEnd.TheVariants as input_end
 use Rattle.dsde_input_records.specs.Records.{Records, end, bad, one}
-use Rattle.dsde_system.specs.Program.{system}
-use Rattle.dsde_sim_events.specs.declared.event.Event.{Event}
-use Rattle.dsde_sim_events.specs.declared.event.Finish.TheVariants as how
-use Rattle.dsde_sim_events.specs.declared.fault.TurnEnd.{TurnEnd}
-use Rattle.dsde_sim_events.specs.declared.fault.TurnEnd.TheVariants as turn_end
-use Rattle.dsde_sim_events.specs.Told.{Told}
-use Rattle.dsde_sim_turns.specs.declared.step.Step.{Step}
-use Rattle.dsde_sim_turns.specs.declared.step.Step.TheVariants.{Turned, Quiet}
-use Rattle.dsde_sim_turns.specs.Engine.{Engine, next_of}
-use Rattle.dsde_sim_turns.specs.Turn.{start, advance, turn_time}
+use Rattle.dsde_sim_starting.specs.given.system.Program.{system}
+use Rattle.dsde_sim_tree.specs.declared.event.Event.{Event}
+use Rattle.dsde_sim_tree.specs.declared.event.Finish.TheVariants as how
+use Rattle.dsde_sim_tree.specs.declared.fault.TurnEnd.{TurnEnd}
+use Rattle.dsde_sim_tree.specs.declared.fault.TurnEnd.TheVariants as turn_end
+use Rattle.dsde_sim_tree.specs.Told.{Told}
+use Rattle.dsde_sim_tree.specs.declared.step.Step.{Step}
+use Rattle.dsde_sim_tree.specs.declared.step.Step.TheVariants.{Turned, Quiet}
+use Rattle.dsde_sim_tree.specs.Engine.{Engine, next_of}
+use Rattle.dsde_sim_tree.specs.Turn.{start, advance, turn_time}
 use Rattle.dsde_run_meaning.specs.Run.{Run, Spots, alone, ended, faulted, go_by, offended, preceded, run, run_by, turn_by, unstarted}
 use Rattle.dsde_sound_runs.specs.Ends.{AllArrive, Arrives, HasEnd}
 use Rattle.dsde_sound_runs.proofs.Relied.{Laws}

@@ -4,11 +4,11 @@ use Rattle.dsde_values.specs.declared.path.Path.{Path}
 use Rattle.dsde_faults.specs.declared.end.LeafEnd.{LeafEnd}
 use Rattle.dsde_faults.specs.declared.end.LeafEnd.TheVariants as leaf_end
 use Rattle.dsde_formalism.specs.Leaf as leaf
-use Rattle.dsde_sim_events.specs.declared.event.Event.{Event}
-use Rattle.dsde_sim_events.specs.declared.fault.TurnEnd.{TurnEnd}
-use Rattle.dsde_sim_events.specs.declared.fault.TurnEnd.TheVariants as turn_end
-use Rattle.dsde_sim_events.specs.Told.{Told, ◌then◌, at}
-use Rattle.dsde_sound_components.specs.Sure.{Sure}
+use Rattle.dsde_sim_tree.specs.declared.event.Event.{Event}
+use Rattle.dsde_sim_tree.specs.declared.fault.TurnEnd.{TurnEnd}
+use Rattle.dsde_sim_tree.specs.declared.fault.TurnEnd.TheVariants as turn_end
+use Rattle.dsde_sim_tree.specs.Told.{Told, ◌then◌, at}
+use Rattle.dsde_sim_starting.specs.given.sound_structures.Sure.{Sure}
 
 abbrev pub Safe : {A : Type 0} → (A → Type 0) → Result A TurnEnd → Type 0
 Safe P (Ok value) = P value

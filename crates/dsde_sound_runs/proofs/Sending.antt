@@ -7,8 +7,8 @@ use Rattle.dsde_syntax.specs.declared.decl.PortDecl.{PortDecl}
 use Rattle.dsde_values.specs.declared.arrival.Item.{Item}
 use Rattle.dsde_values.specs.declared.path.Path.{Path}
 use Rattle.dsde_values.specs.declared.types.Field.{Field}
-use Rattle.dsde_declared.specs.declared.ids.ModelId.{ModelId}
-use Rattle.dsde_declared.specs.Models.{whole_of, types_of, port_fields, Own, owns_of}
+use Rattle.dsde_language.specs.declared.ids.ModelId.{ModelId}
+use Rattle.dsde_language.specs.DeclaredModels.{whole_of, types_of, port_fields, Own, owns_of}
 use Rattle.dsde_structure.specs.declared.plan.Entry.{Entry}
 use Rattle.dsde_structure.specs.declared.plan.Part.TheVariants as part
 use Rattle.dsde_structure.specs.declared.sources.Given.{Given}
@@ -17,10 +17,10 @@ use Rattle.dsde_structure.specs.Gather.{gathered}
 use Rattle.dsde_formalism.specs.declared.leaf.Leaf.{Leaf}
 use Rattle.dsde_formalism.specs.System.{Ports}
 use Rattle.dsde_formalism.specs.Leaf.{component_of, is_due, output_leaf, sent_at}
-use Rattle.dsde_system.specs.Program.{system}
-use Rattle.dsde_system.specs.Fitting.{FitsLeaf, FitsSends, Reach}
-use Rattle.dsde_system.specs.Plans.{Cover, FitsGiven, FitsSources, ways, body_ways}
-use Rattle.dsde_sim_events.specs.Told.{at, below, to_boss}
+use Rattle.dsde_sim_starting.specs.given.system.Program.{system}
+use Rattle.dsde_sim_starting.specs.given.system.Fitting.{FitsLeaf, FitsSends, Reach}
+use Rattle.dsde_sim_starting.specs.given.system.Plans.{Cover, FitsGiven, FitsSources, ways, body_ways}
+use Rattle.dsde_sim_tree.specs.Told.{at, below, to_boss}
 use Rattle.dsde_sim_tree.specs.declared.sim.Kid.{Kid}
 use Rattle.dsde_sim_tree.specs.declared.sim.Net.{Net}
 use Rattle.dsde_sim_tree.specs.declared.sim.Sim.{Sim}
@@ -30,8 +30,8 @@ use Rattle.dsde_sim_tree.specs.Opened.{shape_in}
 use Rattle.dsde_sim_tree.specs.Output.{◌>>=◌, asked, by_port, kid_output, output, sent, sources_of}
 use Rattle.dsde_sim_tree.specs.Tree.{entry_of, model_of}
 use Rattle.dsde_sim_tree.specs.lemmas.Trees.{each_tree}
-use Rattle.dsde_sound_components.specs.Sure.{Sure}
-use Rattle.dsde_sound_components.specs.lemmas.Steps.{sure-then, sure-more}
+use Rattle.dsde_sim_starting.specs.given.sound_structures.Sure.{Sure}
+use Rattle.dsde_sim_starting.specs.given.sound_structures.lemmas_Steps.{sure-then, sure-more}
 use Rattle.dsde_sound_runs.proofs.Relied.{Laws}
 use Rattle.dsde_sound_runs.proofs.Safe.{Safe, safe-at, safe-bind}
 use Rattle.dsde_sim_starting.specs.Fitting.{FitsAtomic, FitsBodySent, FitsKid, FitsSent, FitsShape, FitsTree}

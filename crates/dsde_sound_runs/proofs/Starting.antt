@@ -7,16 +7,16 @@ use Rattle.dsde_values.specs.declared.name.Name.{Name}
 use Rattle.dsde_values.specs.declared.path.Path.{Path}
 use Rattle.dsde_values.specs.declared.value.Value.{Value}
 use Rattle.dsde_values.specs.When.{IsMoment}
-use Rattle.dsde_declared.specs.declared.ids.ModelId.{ModelId}
+use Rattle.dsde_language.specs.declared.ids.ModelId.{ModelId}
 use Rattle.dsde_formalism.specs.declared.leaf.Leaf.{Leaf}
 use Rattle.dsde_structure.specs.declared.plan.Entry.{Entry}
 use Rattle.dsde_structure.specs.declared.plan.Link.{Link}
 use Rattle.dsde_structure.specs.declared.plan.Plan.{Plan}
 use Rattle.dsde_structure.specs.Survival.{role, roles}
-use Rattle.dsde_system.specs.Program.{system}
-use Rattle.dsde_system.specs.Fitting.{FitsArgs, FitsState, FitsLeaf}
-use Rattle.dsde_system.specs.Plans.{FitsEntry}
-use Rattle.dsde_sim_events.specs.Told.{told, quietly, ◌then◌, below, to_boss}
+use Rattle.dsde_sim_starting.specs.given.system.Program.{system}
+use Rattle.dsde_sim_starting.specs.given.system.Fitting.{FitsArgs, FitsState, FitsLeaf}
+use Rattle.dsde_sim_starting.specs.given.system.Plans.{FitsEntry}
+use Rattle.dsde_sim_tree.specs.Told.{told, quietly, ◌then◌, below, to_boss}
 use Rattle.dsde_sim_tree.specs.declared.sim.Kid.{Kid}
 use Rattle.dsde_sim_tree.specs.declared.sim.Net.{Net}
 use Rattle.dsde_sim_tree.specs.declared.sim.Sim.{Sim}
@@ -27,7 +27,7 @@ use Rattle.dsde_sim_tree.specs.Opened.{shape_in}
 use Rattle.dsde_sim_tree.specs.Spots.{shape_of}
 use Rattle.dsde_sim_tree.specs.Start.{Starter, entered, kid_of, net_of, start, start_atomic, start_leaf_at, start_net, start_net_at, started_kid, starts, structure_of, with_boss, with_plan}
 use Rattle.dsde_sim_tree.specs.Tree.{args_of, entry_of, model_of}
-use Rattle.dsde_sound_components.specs.Sure.{FitsNetwork}
+use Rattle.dsde_sim_starting.specs.given.sound_structures.Sure.{FitsNetwork}
 use Rattle.dsde_sound_runs.proofs.Relied.{Laws}
 use Rattle.dsde_sound_runs.proofs.Safe.{Safe, safe-at, safe-then}
 use Rattle.dsde_sim_starting.specs.Fitting.{FitsKid, FitsLinks, FitsShape, FitsTree, IsExecutive}

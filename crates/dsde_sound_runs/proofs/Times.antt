@@ -8,7 +8,7 @@ use Rattle.dsde_values.specs.declared.when.When.{When}
 use Rattle.dsde_values.specs.declared.when.When.TheVariants.{At, Never}
 use Rattle.dsde_values.specs.When.{IsMoment}
 use Rattle.dsde_formalism.specs.declared.leaf.Leaf.{Leaf}
-use Rattle.dsde_system.specs.Fitting.{IsInTime}
+use Rattle.dsde_sim_starting.specs.given.system.Fitting.{IsInTime}
 use Rattle.dsde_sim_tree.specs.declared.sim.Kid.{Kid}
 use Rattle.dsde_sim_tree.specs.declared.sim.Net.{Net}
 use Rattle.dsde_sim_tree.specs.declared.sim.Sim.{Sim}
@@ -17,7 +17,7 @@ use Rattle.dsde_sim_tree.specs.declared.sim.Sim.TheViews.{out-Kid, out-Net}
 use Rattle.dsde_sim_tree.specs.Opened.{shape_in}
 use Rattle.dsde_sim_tree.specs.Tree.{next_time, next_of_kid, sooner, soonest}
 use Rattle.dsde_sim_tree.specs.lemmas.Trees.{each_tree}
-use Rattle.dsde_sim_turns.specs.Turn.{turn_time}
+use Rattle.dsde_sim_tree.specs.Turn.{turn_time}
 use Rattle.dsde_sim_starting.specs.Fitting.{FitsKid, FitsShape, FitsTree}
 use Rattle.dsde_sim_starting.specs.lemmas.Fits.{kid-tree, leaf-tree, net-kids, net-shape, net-tree}
 use Rattle.dsde_sound_runs.proofs.Opens.{next-Leaf, next-Net, next-kid}

@@ -10,25 +10,25 @@ use Rattle.dsde_values.specs.declared.when.When.{When}
 use Rattle.dsde_values.specs.declared.when.When.TheVariants.{Never}
 use Rattle.dsde_values.specs.Path.{root}
 use Rattle.dsde_values.specs.When.{IsMoment}
-use Rattle.dsde_declared.specs.declared.ids.ModelId.{ModelId}
-use Rattle.dsde_declared.specs.Models.{top_number, types_of, owns_of}
+use Rattle.dsde_language.specs.declared.ids.ModelId.{ModelId}
+use Rattle.dsde_language.specs.DeclaredModels.{top_number, types_of, owns_of}
 use Rattle.dsde_formalism.specs.System.{Ports}
-use Rattle.dsde_system.specs.Program.{system}
-use Rattle.dsde_system.specs.Fitting.{FitsArgs, IsInTime, Reach}
-use Rattle.dsde_system.specs.Plans.{ways}
-use Rattle.dsde_sim_events.specs.declared.fault.TurnEnd.TheVariants.{Memory}
-use Rattle.dsde_sim_events.specs.Told.{Told, at, told, quietly, ◌then◌}
+use Rattle.dsde_sim_starting.specs.given.system.Program.{system}
+use Rattle.dsde_sim_starting.specs.given.system.Fitting.{FitsArgs, IsInTime, Reach}
+use Rattle.dsde_sim_starting.specs.given.system.Plans.{ways}
+use Rattle.dsde_sim_tree.specs.declared.fault.TurnEnd.TheVariants.{Memory}
+use Rattle.dsde_sim_tree.specs.Told.{Told, at, told, quietly, ◌then◌}
 use Rattle.dsde_sim_tree.specs.declared.sim.Sim.{Sim}
 use Rattle.dsde_sim_tree.specs.declared.sim.TheConstants.{DEEPEST}
 use Rattle.dsde_sim_tree.specs.Output.{by_port, output}
 use Rattle.dsde_sim_tree.specs.Move.{ins_of, move}
 use Rattle.dsde_sim_tree.specs.Start as tree
 use Rattle.dsde_sim_tree.specs.Tree.{args_of, model_of, next_time, parts}
-use Rattle.dsde_sim_turns.specs.declared.step.Step.{Step}
-use Rattle.dsde_sim_turns.specs.declared.step.TheConstants.{MOST_PARTS}
-use Rattle.dsde_sim_turns.specs.Engine.{Engine, begun, next_of}
-use Rattle.dsde_sim_turns.specs.Turn.{advance, advance_tree, after_turn, items_at, move_phase, start, started_tree, turn, turn_time, without_room}
-use Rattle.dsde_sound_components.specs.Sure.{FitsChosen}
+use Rattle.dsde_sim_tree.specs.declared.step.Step.{Step}
+use Rattle.dsde_sim_tree.specs.declared.step.TheConstants.{MOST_PARTS}
+use Rattle.dsde_sim_tree.specs.Engine.{Engine, begun, next_of}
+use Rattle.dsde_sim_tree.specs.Turn.{advance, advance_tree, after_turn, items_at, move_phase, start, started_tree, turn, turn_time, without_room}
+use Rattle.dsde_sim_starting.specs.given.sound_structures.Sure.{FitsChosen}
 use Rattle.dsde_sound_runs.specs.Ends.{Arrives, ComeBy}
 use Rattle.dsde_sound_runs.proofs.Relied.{Laws}
 use Rattle.dsde_sound_runs.proofs.Safe.{Safe, safe-at, safe-then}

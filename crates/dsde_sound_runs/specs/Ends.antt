@@ -4,21 +4,21 @@ use Rattle.dsde_syntax.specs.declared.decl.Model.{Model}
 use Rattle.dsde_values.specs.declared.arrival.Arrival.{Arrival}
 use Rattle.dsde_values.specs.declared.arrival.Item.{Item}
 use Rattle.dsde_values.specs.When.{IsMoment}
-use Rattle.dsde_declared.specs.Models.{Own, owns_of, top_ins, top_number, types_of}
-use Rattle.dsde_check_rules.specs.Right.{IsRight}
+use Rattle.dsde_language.specs.DeclaredModels.{Own, owns_of, top_ins, top_number, types_of}
+use Rattle.dsde_language.specs.Right.{IsRight}
 use Rattle.dsde_input.specs.Reader.{IsOffence}
 use Rattle.dsde_input_records.specs.Records.{Records, end, bad, one}
-use Rattle.dsde_sim_events.specs.declared.event.Finish.{Finish}
+use Rattle.dsde_sim_tree.specs.declared.event.Finish.{Finish}
 use Rattle.dsde_sim_starting.specs.Fitting.{FitsTree}
 use Rattle.dsde_sim_tree.specs.declared.sim.Sim.{Sim}
 use Rattle.dsde_sim_tree.specs.Tree.{model_of}
-use Rattle.dsde_sim_turns.specs.declared.step.Step.{Step}
-use Rattle.dsde_sim_turns.specs.Engine.{Engine}
-use Rattle.dsde_sim_turns.specs.Turn.{advance, start}
-use Rattle.dsde_eval_meaning.specs.Typed.{AllSent}
+use Rattle.dsde_sim_tree.specs.declared.step.Step.{Step}
+use Rattle.dsde_sim_tree.specs.Engine.{Engine}
+use Rattle.dsde_sim_tree.specs.Turn.{advance, start}
+use Rattle.dsde_language.specs.Typed.{AllSent}
 use Rattle.dsde_run_meaning.specs.Run.{Run, Spots, run, records_in}
-use Rattle.dsde_system.specs.Plans.{ways}
-use Rattle.dsde_system.specs.Program.{system}
+use Rattle.dsde_sim_starting.specs.given.system.Plans.{ways}
+use Rattle.dsde_sim_starting.specs.given.system.Program.{system}
 
 -- Items come by in ports of the model with this number, each a value of its port's type.
 pub record ComeBy (model : Model) (number : ℕ) (items : List Item) : Type 0 where

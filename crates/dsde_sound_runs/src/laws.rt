@@ -3,10 +3,11 @@
 ghost use Rattle.dsde_sound_runs.specs.Ends.{AdvanceFits, InputsArrive, RunsEnd, StartFits};
 
 use dsde_input_records::record_is_spelled;
-use dsde_sound_components::{components_are_sure, structures_are_sure, top_is_sure};
-use dsde_sound_inputs::{ports_are_lawful, top_is_declared, types_are_lawful};
-use dsde_sound_links::{gathered_fits, reach_covers, sent_fits};
-use dsde_sound_places::bodies_stand;
+use dsde_sim_starting::given::sound_structures::{
+    components_are_sure, gathered_fits, ports_are_lawful, reach_covers, sent_fits,
+    structures_are_sure, top_is_declared, top_is_sure, types_are_lawful,
+};
+use dsde_sound_expressions::bodies_stand;
 use dsde_structure::survivors_keep_their_roles;
 use dsde_values::one_name;
 

@@ -2,30 +2,30 @@
 use Rattle.std.proofs.Common.{◌≡◌, ℕ, ◌+◌, ◌≤◌, max, arith, Bool, true, List, [], ◌∷◌, ◌++◌, map, length, Ok, refl, sym, ◌∙◌, ap, subst, append_assoc, append-nil}
 use Rattle.std.specs.List.{flat_map}
 use Rattle.std.proofs.lemmas.List.{length-append}
-use Rattle.dsde_syntax.specs.declared.item.ViaPart.{ViaPart}
+use Rattle.dsde_sim_tree.specs.given.syntax.item_ViaPart.{ViaPart}
 use Rattle.dsde_values.specs.declared.types.Field.{Field}
 use Rattle.dsde_values.specs.declared.types.Ty.{Ty}
 use Rattle.dsde_values.specs.declared.value.Value.{Value}
-use Rattle.dsde_check_rules.specs.Judge as rules
-use Rattle.dsde_check_rules.specs.Blocks.{Passed, Walk, walk_all}
-use Rattle.dsde_check_rules.specs.Structures.{Enter, enter_all}
-use Rattle.dsde_program_nodes.specs.declared.code.ViaCode.{ViaCode}
-use Rattle.dsde_program_nodes.specs.declared.make.Make.{Make}
-use Rattle.dsde_program_nodes.specs.Pieces.{Next, Piece, Step, all, behind}
-use Rattle.dsde_eval_meaning.specs.Meaning.{with_var}
-use Rattle.dsde_eval_meaning.specs.Proper.{all_so}
-use Rattle.dsde_eval_meaning.specs.Typed.{Typed, Fits, values_in}
-use Rattle.dsde_eval_meaning.specs.Scopes.{Stands, Sees}
-use Rattle.dsde_executive_plans.specs.Layout.{Layout, Lay, lay_all, braced, for_one, for_lay}
-use Rattle.dsde_executive_plans.specs.Drafts as over_slots
-use Rattle.dsde_executive_plans.specs.Drafts.{Draft, draft_of, for_draw}
-use Rattle.dsde_sound_typing.specs.lemmas.Values.{AllHave, all-cons}
-use Rattle.dsde_sound_typing.specs.lemmas.Steps.{went, ok-is}
-use Rattle.dsde_sound_typing.specs.lemmas.Truths.{and-left, and-right}
-use Rattle.dsde_sound_typing.specs.lemmas.Standing.{stands-left, stands-right}
-use Rattle.dsde_sound_typing.specs.lemmas.Fitting.{field_of, fits-snoc, values-snoc}
-use Rattle.dsde_sound_structures.proofs.Ground.{Ground, Kept, Shows, shown, shows-ok, shows-then, shows-cut}
-use Rattle.dsde_sound_structures.proofs.Does.{Entered, entered-first, entered-then, Widens, nothing-widens, then-widens, Ready, Done, Does, AllDo, one_does, all_do}
+use Rattle.dsde_sim_tree.specs.given.language.Judge as rules
+use Rattle.dsde_sim_tree.specs.given.language.Blocks.{Passed, Walk, walk_all}
+use Rattle.dsde_sim_tree.specs.given.language.RuleStructures.{Enter, enter_all}
+use Rattle.dsde_sim_tree.specs.given.language.code_ViaCode.{ViaCode}
+use Rattle.dsde_sim_tree.specs.given.language.make_Make.{Make}
+use Rattle.dsde_sim_tree.specs.given.language.Pieces.{Next, Piece, Step, all, behind}
+use Rattle.dsde_sim_tree.specs.given.language.Meaning.{with_var}
+use Rattle.dsde_sim_tree.specs.given.language.Proper.{all_so}
+use Rattle.dsde_sim_tree.specs.given.language.Typed.{Typed, Fits, values_in}
+use Rattle.dsde_sim_tree.specs.given.language.Scopes.{Stands, Sees}
+use Rattle.dsde_sound_names.specs.given.executive_plans.Layout.{Layout, Lay, lay_all, braced, for_one, for_lay}
+use Rattle.dsde_sound_names.specs.given.executive_plans.Drafts as over_slots
+use Rattle.dsde_sound_names.specs.given.executive_plans.Drafts.{Draft, draft_of, for_draw}
+use Rattle.dsde_sound_names.specs.given.sound_expressions.lemmas_Values.{AllHave, all-cons}
+use Rattle.dsde_sound_names.specs.given.sound_expressions.lemmas_Steps.{went, ok-is}
+use Rattle.dsde_sound_names.specs.given.sound_expressions.lemmas_Truths.{and-left, and-right}
+use Rattle.dsde_sound_names.specs.given.sound_expressions.lemmas_Standing.{stands-left, stands-right}
+use Rattle.dsde_sound_names.specs.given.sound_expressions.lemmas_Fitting.{field_of, fits-snoc, values-snoc}
+use Rattle.dsde_sound_structures.proofs.StructureGround.{Ground, Kept, Shows, shown, shows-ok, shows-then, shows-cut}
+use Rattle.dsde_sound_structures.proofs.StructureDoes.{Entered, entered-first, entered-then, Widens, nothing-widens, then-widens, Ready, Done, Does, AllDo, one_does, all_do}
 
 -- Items are as high as what came before them at least.
 pub walk-rises : (judged : List Walk) (height : ℕ) (scope : rules.Scope) (passed : Passed) → walk_all judged height scope ≡ Ok passed → height ≤ passed.height

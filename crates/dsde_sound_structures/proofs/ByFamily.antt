@@ -1,23 +1,23 @@
 -- Components and links of a structure, by the models that the structure gives its components.
 use Rattle.std.proofs.Common.{◌≡◌, ℕ, Bool, true, false, not, ◌&&◌, List, Option, Some, unwrap_or, refl, ◌∙◌, ap, slice_get}
-use Rattle.dsde_names.specs.Table.{named}
-use Rattle.dsde_syntax.specs.declared.decl.Model.{Model}
+use Rattle.dsde_sim_tree.specs.given.names.Table.{named}
+use Rattle.dsde_sim_tree.specs.given.syntax.decl_Model.{Model}
 use Rattle.dsde_values.specs.declared.name.Name.{Name}
 use Rattle.dsde_values.specs.declared.types.Field.{Field}
 use Rattle.dsde_values.specs.declared.types.Ty.{Ty}
-use Rattle.dsde_check_rules.specs.declared.signatures.Family.{Family}
-use Rattle.dsde_check_rules.specs.Tables.{field_name}
-use Rattle.dsde_check_rules.specs.Structures.{family_named}
-use Rattle.dsde_declared.specs.Structures.{model_ports}
-use Rattle.dsde_declared.specs.Models.{whole_of, Own, owns_of}
-use Rattle.dsde_declared.specs.Names.{slot_of}
-use Rattle.dsde_structure.specs.declared.plan.End.{End}
-use Rattle.dsde_structure.specs.declared.plan.Entry.{Entry}
-use Rattle.dsde_structure.specs.declared.plan.Part.{Part}
-use Rattle.dsde_structure.specs.declared.plan.Part.TheVariants as part
-use Rattle.dsde_executive_plans.specs.declared.placed.PlacedLink.{PlacedLink}
+use Rattle.dsde_sim_tree.specs.given.language.signatures_Family.{Family}
+use Rattle.dsde_sim_tree.specs.given.language.RuleTables.{field_name}
+use Rattle.dsde_sim_tree.specs.given.language.RuleStructures.{family_named}
+use Rattle.dsde_sim_tree.specs.given.language.DeclaredStructures.{model_ports}
+use Rattle.dsde_sim_tree.specs.given.language.DeclaredModels.{whole_of, Own, owns_of}
+use Rattle.dsde_sim_tree.specs.given.language.Names.{slot_of}
+use Rattle.dsde_sim_tree.specs.given.structure.plan_End.{End}
+use Rattle.dsde_sim_tree.specs.given.structure.plan_Entry.{Entry}
+use Rattle.dsde_sim_tree.specs.given.structure.plan_Part.{Part}
+use Rattle.dsde_sim_tree.specs.given.structure.plan_Part_TheVariants as part
+use Rattle.dsde_sound_names.specs.given.executive_plans.placed_PlacedLink.{PlacedLink}
 use Rattle.dsde_system.specs.Plans.{ways, body_ways, HasPort, Joins, IsThrough, FitsEntry}
-use Rattle.dsde_sound_typing.specs.lemmas.Places.{Placed, placed}
+use Rattle.dsde_sound_names.specs.given.sound_expressions.lemmas_Places.{Placed, placed}
 
 -- the port of a name
 pub port-has : (ports : List Field) (name : List ℕ) (field : Field) → named field_name ports name ≡ Some field → HasPort ports (slot_of ports name) field.ty

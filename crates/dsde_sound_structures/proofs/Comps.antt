@@ -5,62 +5,62 @@ use Rattle.std.specs.Option.{option_map_or}
 use Rattle.std.specs.Ordering.{is_lt}
 use Rattle.std.proofs.lemmas.List.{length-map}
 use Rattle.std.proofs.lemmas.Bool.{not-false, eqb-true}
-use Rattle.dsde_names.specs.Table.{place_of}
-use Rattle.dsde_syntax.specs.declared.decl.Model.{Model}
-use Rattle.dsde_syntax.specs.declared.expr.Expr.{Expr}
-use Rattle.dsde_syntax.specs.declared.id.Id.{Id}
-use Rattle.dsde_syntax.specs.declared.item.Item.TheOpen.{Item-F}
+use Rattle.dsde_sim_tree.specs.given.names.Table.{place_of}
+use Rattle.dsde_sim_tree.specs.given.syntax.decl_Model.{Model}
+use Rattle.dsde_sim_tree.specs.given.syntax.expr_Expr.{Expr}
+use Rattle.dsde_sim_tree.specs.given.syntax.id_Id.{Id}
+use Rattle.dsde_sim_tree.specs.given.syntax.item_Item_TheOpen.{Item-F}
 use Rattle.dsde_values.specs.declared.types.Field.{Field}
 use Rattle.dsde_values.specs.declared.types.Ty.{Ty}
 use Rattle.dsde_values.specs.declared.types.Types.{Types}
 use Rattle.dsde_values.specs.declared.value.Value.{Value}
 use Rattle.dsde_values.specs.Path.{name_cmp}
 use Rattle.dsde_faults.specs.declared.kind.FaultKind.TheVariants.{DuplicateComponent, Crowded}
-use Rattle.dsde_check_rules.specs.declared.known.Around.{Around}
-use Rattle.dsde_check_rules.specs.declared.known.Known.{Known}
-use Rattle.dsde_check_rules.specs.declared.signatures.Family.{Family}
-use Rattle.dsde_check_rules.specs.declared.signatures.ModelSig.{ModelSig}
-use Rattle.dsde_check_rules.specs.declared.wrong.Wrong.{Wrong}
-use Rattle.dsde_check_rules.specs.declared.wrong.WrongKind.TheVariants.{Unknown, WrongType}
-use Rattle.dsde_check_rules.specs.Steps.{above, wrong, unless}
-use Rattle.dsde_check_rules.specs.Tables.{model_name}
-use Rattle.dsde_check_rules.specs.Judge.{judge, fit, fit_all}
-use Rattle.dsde_check_rules.specs.Judge as rules
-use Rattle.dsde_check_rules.specs.Blocks.{Passed}
-use Rattle.dsde_check_rules.specs.Structures as rule_structures
-use Rattle.dsde_check_rules.specs.Structures.{args_of, family_named, model_named}
-use Rattle.dsde_program_nodes.specs.declared.code.ViaCode.{ViaCode}
-use Rattle.dsde_declared.specs.Models as declared
-use Rattle.dsde_program_nodes.specs.Items as nodes
-use Rattle.dsde_declared.specs.Structures.{directed, model_ports}
-use Rattle.dsde_declared.specs.Models.{model_id, whole_of, types_of, Own, owns_of, param_slots}
-use Rattle.dsde_program_nodes.specs.Items.{resolve_index, resolve_all}
-use Rattle.dsde_program_nodes.specs.Pieces.{Next, behind}
-use Rattle.dsde_declared.specs.Names.{with_slots}
-use Rattle.dsde_structure.specs.declared.plan.Entry.{Entry}
-use Rattle.dsde_eval_meaning.specs.Outcome.{Fault}
-use Rattle.dsde_eval_meaning.specs.Meaning.{mean, values_of}
-use Rattle.dsde_eval_meaning.specs.Tables.{values_from}
-use Rattle.dsde_eval_meaning.specs.Typed.{Sound, AllTyped, Fits, values_in}
-use Rattle.dsde_eval_meaning.specs.Scopes.{Sees}
-use Rattle.dsde_sound_grammar.specs.Items as proper
-use Rattle.dsde_sound_places.specs.Structures.{ModelIs, ModelsAre}
-use Rattle.dsde_executive_plans.specs.Layout.{most, inserted, is_there, with_entry, index_of, item_step}
-use Rattle.dsde_executive_plans.specs.Drafts.{index_at}
+use Rattle.dsde_sim_tree.specs.given.language.known_Around.{Around}
+use Rattle.dsde_sim_tree.specs.given.language.known_Known.{Known}
+use Rattle.dsde_sim_tree.specs.given.language.signatures_Family.{Family}
+use Rattle.dsde_sim_tree.specs.given.language.signatures_ModelSig.{ModelSig}
+use Rattle.dsde_sim_tree.specs.given.language.wrong_Wrong.{Wrong}
+use Rattle.dsde_sim_tree.specs.given.language.wrong_WrongKind_TheVariants.{Unknown, WrongType}
+use Rattle.dsde_sim_tree.specs.given.language.Steps.{above, wrong, unless}
+use Rattle.dsde_sim_tree.specs.given.language.RuleTables.{model_name}
+use Rattle.dsde_sim_tree.specs.given.language.Judge.{judge, fit, fit_all}
+use Rattle.dsde_sim_tree.specs.given.language.Judge as rules
+use Rattle.dsde_sim_tree.specs.given.language.Blocks.{Passed}
+use Rattle.dsde_sim_tree.specs.given.language.RuleStructures as rule_structures
+use Rattle.dsde_sim_tree.specs.given.language.RuleStructures.{args_of, family_named, model_named}
+use Rattle.dsde_sim_tree.specs.given.language.code_ViaCode.{ViaCode}
+use Rattle.dsde_sim_tree.specs.given.language.DeclaredModels as declared
+use Rattle.dsde_sim_tree.specs.given.language.Items as nodes
+use Rattle.dsde_sim_tree.specs.given.language.DeclaredStructures.{directed, model_ports}
+use Rattle.dsde_sim_tree.specs.given.language.DeclaredModels.{model_id, whole_of, types_of, Own, owns_of, param_slots}
+use Rattle.dsde_sim_tree.specs.given.language.Items.{resolve_index, resolve_all}
+use Rattle.dsde_sim_tree.specs.given.language.Pieces.{Next, behind}
+use Rattle.dsde_sim_tree.specs.given.language.Names.{with_slots}
+use Rattle.dsde_sim_tree.specs.given.structure.plan_Entry.{Entry}
+use Rattle.dsde_sim_tree.specs.given.language.Outcome.{Fault}
+use Rattle.dsde_sim_tree.specs.given.language.Meaning.{mean, values_of}
+use Rattle.dsde_sim_tree.specs.given.language.MeaningTables.{values_from}
+use Rattle.dsde_sim_tree.specs.given.language.Typed.{Sound, AllTyped, Fits, values_in}
+use Rattle.dsde_sim_tree.specs.given.language.Scopes.{Sees}
+use Rattle.dsde_sound_names.specs.given.sound_expressions.Items as proper
+use Rattle.dsde_sound_names.specs.given.sound_expressions.Structures.{ModelIs, ModelsAre}
+use Rattle.dsde_sound_names.specs.given.executive_plans.Layout.{most, inserted, is_there, with_entry, index_of, item_step}
+use Rattle.dsde_sound_names.specs.given.executive_plans.Drafts.{index_at}
 use Rattle.dsde_system.specs.Fitting.{Fill, FitsArgs}
-use Rattle.dsde_sound_typing.specs.lemmas.Steps.{went, ok-is, unless-is}
-use Rattle.dsde_eval_meaning.specs.Proper.{is_plain}
-use Rattle.dsde_sound_typing.specs.lemmas.Truths.{and-left, and-right}
-use Rattle.dsde_sound_typing.specs.lemmas.Places.{Placed, placed}
-use Rattle.dsde_sound_typing.specs.lemmas.Standing.{stands-left, stands-right}
+use Rattle.dsde_sound_names.specs.given.sound_expressions.lemmas_Steps.{went, ok-is, unless-is}
+use Rattle.dsde_sim_tree.specs.given.language.Proper.{is_plain}
+use Rattle.dsde_sound_names.specs.given.sound_expressions.lemmas_Truths.{and-left, and-right}
+use Rattle.dsde_sound_names.specs.given.sound_expressions.lemmas_Places.{Placed, placed}
+use Rattle.dsde_sound_names.specs.given.sound_expressions.lemmas_Standing.{stands-left, stands-right}
 use Rattle.dsde_sound_structures.proofs.Gets.{gets-own}
 use Rattle.dsde_sound_structures.proofs.Families.{comp-enters}
-use Rattle.dsde_sound_structures.proofs.Ground.{Ground, Shows, part_in, shown, shows-ok, shows-over, shows-by}
+use Rattle.dsde_sound_structures.proofs.StructureGround.{Ground, Shows, part_in, shown, shows-ok, shows-over, shows-by}
 use Rattle.dsde_sound_structures.proofs.ByFamily.{EntryBy}
 use Rattle.dsde_sound_structures.proofs.Values.{index-gets, values-get, index-scope, index-vias, all-scope, all-vias}
 use Rattle.dsde_sound_structures.proofs.Drawing.{draw-comp}
-use Rattle.dsde_sound_structures.proofs.Does.{Done, one_does, not-cut}
-use Rattle.dsde_sound_structures.proofs.Items.{CompsDo}
+use Rattle.dsde_sound_structures.proofs.StructureDoes.{Done, one_does, not-cut}
+use Rattle.dsde_sound_structures.proofs.StructureItems.{CompsDo}
 
 -- Values of the types of fields fill them.
 fill-typed : (types : Types) (fields : List Field) (values : List Value) → AllTyped types (map (λ (field : Field). field.ty) fields) values → Fill types fields values

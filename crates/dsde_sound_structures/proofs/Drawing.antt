@@ -1,19 +1,19 @@
 -- What each item of tables does.
 use Rattle.std.proofs.Common.{◌≡◌, ℕ, Bool, List, [], ◌∷◌, ◌++◌, map, Option, Some, None, Ok, sym, ◌∙◌, ap}
-use Rattle.dsde_program_nodes.specs.declared.ids.ExprId.{ExprId}
-use Rattle.dsde_declared.specs.declared.ids.ModelId.{ModelId}
-use Rattle.dsde_program_nodes.specs.declared.make.Make.{Make}
-use Rattle.dsde_program_nodes.specs.declared.make.Make.TheVariants as make
-use Rattle.dsde_program_nodes.specs.declared.make.Make.TheOpen.{Make-F}
-use Rattle.dsde_program_nodes.specs.declared.make.Make.TheViews.{rolls-Comp, rolls-Link, rolls-Let, rolls-If, rolls-For}
-use Rattle.dsde_program_nodes.specs.declared.make.Make.TheFolds.{fold-roll-Make, fold-roll-MakeArm}
-use Rattle.dsde_program_nodes.specs.declared.make.MakeArm.{MakeArm}
-use Rattle.dsde_program_nodes.specs.declared.make.MakeEnd.{MakeEnd}
-use Rattle.dsde_program_nodes.specs.declared.make.MakeIndex.{MakeIndex}
-use Rattle.dsde_program_nodes.specs.declared.make.MakeVia.{MakeVia}
-use Rattle.dsde_eval_meaning.specs.Outcome.{◌>>=◌}
-use Rattle.dsde_eval_meaning.specs.Tables.{Part}
-use Rattle.dsde_executive_plans.specs.Drafts.{Draft, Draw, ArmDraw, make_step, make_arm_step, draw, draw_arm, draws, comp_draw, link_draw, for_list, arms_draw, else_draw}
+use Rattle.dsde_sim_tree.specs.given.language.node_ids_ExprId.{ExprId}
+use Rattle.dsde_sim_tree.specs.given.language.ids_ModelId.{ModelId}
+use Rattle.dsde_sim_tree.specs.given.language.make_Make.{Make}
+use Rattle.dsde_sim_tree.specs.given.language.make_Make_TheVariants as make
+use Rattle.dsde_sim_tree.specs.given.language.make_Make_TheOpen.{Make-F}
+use Rattle.dsde_sim_tree.specs.given.language.make_Make_TheViews.{rolls-Comp, rolls-Link, rolls-Let, rolls-If, rolls-For}
+use Rattle.dsde_sim_tree.specs.given.language.make_Make_TheFolds.{fold-roll-Make, fold-roll-MakeArm}
+use Rattle.dsde_sim_tree.specs.given.language.make_MakeArm.{MakeArm}
+use Rattle.dsde_sim_tree.specs.given.language.make_MakeEnd.{MakeEnd}
+use Rattle.dsde_sim_tree.specs.given.language.make_MakeIndex.{MakeIndex}
+use Rattle.dsde_sim_tree.specs.given.language.make_MakeVia.{MakeVia}
+use Rattle.dsde_sim_tree.specs.given.language.Outcome.{◌>>=◌}
+use Rattle.dsde_sim_tree.specs.given.language.MeaningTables.{Part}
+use Rattle.dsde_sound_names.specs.given.executive_plans.Drafts.{Draft, Draw, ArmDraw, make_step, make_arm_step, draw, draw_arm, draws, comp_draw, link_draw, for_list, arms_draw, else_draw}
 
 module _ (part : Part) where
   pub draw-comp : (at : ℕ) (stem : List ℕ) (index : Option MakeIndex) (model : ModelId) (args : List ExprId) (soft : Bool) (draft : Draft)

@@ -1,52 +1,52 @@
 -- An end of a link is in tables at the port that it is at over names.
 use Rattle.std.proofs.Common.{◌≡◌, ℕ, ◌≤◌, Bool, true, false, not, List, [], ◌++◌, Option, Some, None, Result, Ok, refl, sym, ◌∙◌, ap, subst, slice_get}
 use Rattle.std.specs.Option.{option_map_or}
-use Rattle.dsde_names.specs.Table.{named}
-use Rattle.dsde_syntax.specs.declared.decl.Model.{Model}
-use Rattle.dsde_syntax.specs.declared.id.Id.{Id}
-use Rattle.dsde_syntax.specs.declared.item.Bracket.{Bracket}
-use Rattle.dsde_syntax.specs.declared.item.End as written
-use Rattle.dsde_syntax.specs.declared.item.EndPart.{EndPart}
-use Rattle.dsde_syntax.specs.declared.item.EndPart.TheVariants as end_part
+use Rattle.dsde_sim_tree.specs.given.names.Table.{named}
+use Rattle.dsde_sim_tree.specs.given.syntax.decl_Model.{Model}
+use Rattle.dsde_sim_tree.specs.given.syntax.id_Id.{Id}
+use Rattle.dsde_sim_tree.specs.given.syntax.item_Bracket.{Bracket}
+use Rattle.dsde_sim_tree.specs.given.syntax.item_End as written
+use Rattle.dsde_sim_tree.specs.given.syntax.item_EndPart.{EndPart}
+use Rattle.dsde_sim_tree.specs.given.syntax.item_EndPart_TheVariants as end_part
 use Rattle.dsde_values.specs.declared.types.Field.{Field}
 use Rattle.dsde_values.specs.declared.types.Ty.{Ty}
-use Rattle.dsde_check_rules.specs.declared.known.Known.{Known}
-use Rattle.dsde_check_rules.specs.declared.known.Site.{Site}
-use Rattle.dsde_check_rules.specs.declared.seen.EndSeen.{EndSeen}
-use Rattle.dsde_check_rules.specs.declared.signatures.Family.{Family}
-use Rattle.dsde_check_rules.specs.declared.signatures.ModelSig.{ModelSig}
-use Rattle.dsde_check_rules.specs.declared.signatures.Port.{Port}
-use Rattle.dsde_check_rules.specs.declared.wrong.Wrong.{Wrong}
-use Rattle.dsde_check_rules.specs.declared.wrong.WrongKind.TheVariants.{Unknown}
-use Rattle.dsde_check_rules.specs.Steps.{wrong}
-use Rattle.dsde_check_rules.specs.Tables.{field_name, family_name, port_name}
-use Rattle.dsde_check_rules.specs.Judge as rules
-use Rattle.dsde_check_rules.specs.Structures as rule_structures
-use Rattle.dsde_check_rules.specs.Structures.{family_named, kid_end, ports_at}
-use Rattle.dsde_declared.specs.Structures.{Place, directed, end_ports, model_ports}
-use Rattle.dsde_program_nodes.specs.Items.{resolve_index, resolve_part, resolve_end}
-use Rattle.dsde_declared.specs.Models.{whole_of, Own}
-use Rattle.dsde_program_nodes.specs.Pieces.{Next}
-use Rattle.dsde_declared.specs.Names.{slot_of}
-use Rattle.dsde_program_nodes.specs.Typing.{slot_type}
-use Rattle.dsde_structure.specs.declared.plan.End.{End}
-use Rattle.dsde_structure.specs.declared.plan.Part.{Part}
-use Rattle.dsde_structure.specs.declared.plan.Part.TheVariants as part
-use Rattle.dsde_eval_meaning.specs.Meaning.{Vars}
-use Rattle.dsde_eval_meaning.specs.Typed.{Fits, values_in}
-use Rattle.dsde_eval_meaning.specs.Scopes.{Stands, Sees}
-use Rattle.dsde_sound_grammar.specs.Items.{is_proper_end}
-use Rattle.dsde_sound_places.specs.Structures.{ArePorts}
-use Rattle.dsde_executive_plans.specs.Layout.{index_of, part_of, end_of}
-use Rattle.dsde_executive_plans.specs.Drafts.{index_at, part_at, end_at}
+use Rattle.dsde_sim_tree.specs.given.language.known_Known.{Known}
+use Rattle.dsde_sim_tree.specs.given.language.known_Site.{Site}
+use Rattle.dsde_sim_tree.specs.given.language.seen_EndSeen.{EndSeen}
+use Rattle.dsde_sim_tree.specs.given.language.signatures_Family.{Family}
+use Rattle.dsde_sim_tree.specs.given.language.signatures_ModelSig.{ModelSig}
+use Rattle.dsde_sim_tree.specs.given.language.signatures_Port.{Port}
+use Rattle.dsde_sim_tree.specs.given.language.wrong_Wrong.{Wrong}
+use Rattle.dsde_sim_tree.specs.given.language.wrong_WrongKind_TheVariants.{Unknown}
+use Rattle.dsde_sim_tree.specs.given.language.Steps.{wrong}
+use Rattle.dsde_sim_tree.specs.given.language.RuleTables.{field_name, family_name, port_name}
+use Rattle.dsde_sim_tree.specs.given.language.Judge as rules
+use Rattle.dsde_sim_tree.specs.given.language.RuleStructures as rule_structures
+use Rattle.dsde_sim_tree.specs.given.language.RuleStructures.{family_named, kid_end, ports_at}
+use Rattle.dsde_sim_tree.specs.given.language.DeclaredStructures.{Place, directed, end_ports, model_ports}
+use Rattle.dsde_sim_tree.specs.given.language.Items.{resolve_index, resolve_part, resolve_end}
+use Rattle.dsde_sim_tree.specs.given.language.DeclaredModels.{whole_of, Own}
+use Rattle.dsde_sim_tree.specs.given.language.Pieces.{Next}
+use Rattle.dsde_sim_tree.specs.given.language.Names.{slot_of}
+use Rattle.dsde_sim_tree.specs.given.language.Typing.{slot_type}
+use Rattle.dsde_sim_tree.specs.given.structure.plan_End.{End}
+use Rattle.dsde_sim_tree.specs.given.structure.plan_Part.{Part}
+use Rattle.dsde_sim_tree.specs.given.structure.plan_Part_TheVariants as part
+use Rattle.dsde_sim_tree.specs.given.language.Meaning.{Vars}
+use Rattle.dsde_sim_tree.specs.given.language.Typed.{Fits, values_in}
+use Rattle.dsde_sim_tree.specs.given.language.Scopes.{Stands, Sees}
+use Rattle.dsde_sound_names.specs.given.sound_expressions.Items.{is_proper_end}
+use Rattle.dsde_sound_names.specs.given.sound_expressions.Structures.{ArePorts}
+use Rattle.dsde_sound_names.specs.given.executive_plans.Layout.{index_of, part_of, end_of}
+use Rattle.dsde_sound_names.specs.given.executive_plans.Drafts.{index_at, part_at, end_at}
 use Rattle.dsde_system.specs.Plans.{ways, body_ways, HasPort}
-use Rattle.dsde_sound_typing.specs.lemmas.Steps.{went}
-use Rattle.dsde_sound_typing.specs.lemmas.Standing.{stands-left}
-use Rattle.dsde_sound_typing.specs.lemmas.Fitting.{field_of}
+use Rattle.dsde_sound_names.specs.given.sound_expressions.lemmas_Steps.{went}
+use Rattle.dsde_sound_names.specs.given.sound_expressions.lemmas_Standing.{stands-left}
+use Rattle.dsde_sound_names.specs.given.sound_expressions.lemmas_Fitting.{field_of}
 use Rattle.dsde_sound_structures.proofs.Gets.{Gets, gets-ok, gets-then}
-use Rattle.dsde_sound_structures.proofs.Ports.{PortSeen, port-seen, directed-named, model-named, typed-slot}
+use Rattle.dsde_sound_structures.proofs.StructurePorts.{PortSeen, port-seen, directed-named, model-named, typed-slot}
 use Rattle.dsde_sound_structures.proofs.ByFamily.{NetIs, PortsBy, EndBy, port-has}
-use Rattle.dsde_sound_structures.proofs.Ground.{Ground, part_in}
+use Rattle.dsde_sound_structures.proofs.StructureGround.{Ground, part_in}
 use Rattle.dsde_sound_structures.proofs.Values.{index-gets, index-scope, index-vias}
 
 -- what an end leaves: the scope, and no translation

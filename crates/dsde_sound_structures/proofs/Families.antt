@@ -2,26 +2,26 @@
 use Rattle.std.proofs.Common.{◌≡◌, ℕ, ◌==◌, Bool, true, false, not, ◌||◌, if◌then◌else◌, List, [], ◌∷◌, ◌++◌, map, Option, Some, None, is_some, unwrap_or, Result, Ok, refl, sym, ◌∙◌, ap, subst}
 use Rattle.std.specs.Str.{bytes_eq}
 use Rattle.std.proofs.lemmas.Bool.{not-false, eqb-true}
-use Rattle.dsde_names.specs.Table.{place_of, named, is_among}
-use Rattle.dsde_syntax.specs.declared.id.Id.{Id}
-use Rattle.dsde_syntax.specs.declared.item.Item.{Item}
-use Rattle.dsde_syntax.specs.declared.item.ItemArm.{ItemArm}
-use Rattle.dsde_syntax.specs.declared.item.Item.TheOpen.{Item-F, ItemArm-F}
-use Rattle.dsde_syntax.specs.declared.item.Item.TheViews.{roll-Item, roll-ItemArm}
-use Rattle.dsde_syntax.specs.declared.item.Item.TheFolds.{fold-ItemArm, map-Item, map-ItemArm, fold-roll-Item, fold-roll-ItemArm, ind-Item}
-use Rattle.dsde_check_rules.specs.declared.known.Known.{Known}
-use Rattle.dsde_check_rules.specs.declared.signatures.Family.{Family}
-use Rattle.dsde_check_rules.specs.declared.signatures.ModelSig.{ModelSig}
-use Rattle.dsde_check_rules.specs.declared.wrong.Wrong.{Wrong}
-use Rattle.dsde_check_rules.specs.declared.wrong.WrongKind.TheVariants.{Unknown, MixedFamily}
-use Rattle.dsde_check_rules.specs.Steps.{◌>>=◌, wrong, unless}
-use Rattle.dsde_check_rules.specs.Tables.{added, family_name, model_name}
-use Rattle.dsde_check_rules.specs.Structures as rules
-use Rattle.dsde_check_rules.specs.Structures.{Enter, family_named, enter, enter_all, enter_step, enter_arm_step, with_comp, comp_family}
-use Rattle.dsde_declared.specs.Structures.{Kin, kin_all, kin_of, kin_step, kin_arm_step}
-use Rattle.dsde_declared.specs.Models as nodes
-use Rattle.dsde_sound_typing.specs.lemmas.Steps.{went, ok-is, unless-is}
-use Rattle.dsde_sound_typing.specs.lemmas.Places.{eq-same, pick, or_last, named-cons, named-snoc}
+use Rattle.dsde_sim_tree.specs.given.names.Table.{place_of, named, is_among}
+use Rattle.dsde_sim_tree.specs.given.syntax.id_Id.{Id}
+use Rattle.dsde_sim_tree.specs.given.syntax.item_Item.{Item}
+use Rattle.dsde_sim_tree.specs.given.syntax.item_ItemArm.{ItemArm}
+use Rattle.dsde_sim_tree.specs.given.syntax.item_Item_TheOpen.{Item-F, ItemArm-F}
+use Rattle.dsde_sim_tree.specs.given.syntax.item_Item_TheViews.{roll-Item, roll-ItemArm}
+use Rattle.dsde_sim_tree.specs.given.syntax.item_Item_TheFolds.{fold-ItemArm, map-Item, map-ItemArm, fold-roll-Item, fold-roll-ItemArm, ind-Item}
+use Rattle.dsde_sim_tree.specs.given.language.known_Known.{Known}
+use Rattle.dsde_sim_tree.specs.given.language.signatures_Family.{Family}
+use Rattle.dsde_sim_tree.specs.given.language.signatures_ModelSig.{ModelSig}
+use Rattle.dsde_sim_tree.specs.given.language.wrong_Wrong.{Wrong}
+use Rattle.dsde_sim_tree.specs.given.language.wrong_WrongKind_TheVariants.{Unknown, MixedFamily}
+use Rattle.dsde_sim_tree.specs.given.language.Steps.{◌>>=◌, wrong, unless}
+use Rattle.dsde_sim_tree.specs.given.language.RuleTables.{added, family_name, model_name}
+use Rattle.dsde_sim_tree.specs.given.language.RuleStructures as rules
+use Rattle.dsde_sim_tree.specs.given.language.RuleStructures.{Enter, family_named, enter, enter_all, enter_step, enter_arm_step, with_comp, comp_family}
+use Rattle.dsde_sim_tree.specs.given.language.DeclaredStructures.{Kin, kin_all, kin_of, kin_step, kin_arm_step}
+use Rattle.dsde_sim_tree.specs.given.language.DeclaredModels as nodes
+use Rattle.dsde_sound_names.specs.given.sound_expressions.lemmas_Steps.{went, ok-is, unless-is}
+use Rattle.dsde_sound_names.specs.given.sound_expressions.lemmas_Places.{eq-same, pick, or_last, named-cons, named-snoc}
 
 abbrev family_of : List ℕ → ℕ → Family
 family_of name model = record { name = name; model = model }

@@ -1,7 +1,7 @@
 -- Outcomes in tables that are those over names.
 use Rattle.std.proofs.Common.{◌≡◌, Bool, false, Ok, Err, refl, ◌∙◌, ap}
-use Rattle.dsde_eval_meaning.specs.Outcome.{Fault, Stuck, Outcome, ◌>>=◌}
-use Rattle.dsde_eval_meaning.specs.Typed.{Sound}
+use Rattle.dsde_sim_tree.specs.given.language.Outcome.{Fault, Stuck, Outcome, ◌>>=◌}
+use Rattle.dsde_sim_tree.specs.given.language.Typed.{Sound}
 
 pub sound-any : {A : Type 0} (total : Bool) (P : A → Type 0) (x : Outcome A) → Sound total P x → Sound false P x
 sound-any total P (Ok own) h = h

@@ -1,39 +1,39 @@
 -- A binding does in tables what it does over names.
 use Rattle.std.proofs.Common.{◌≡◌, ◌+◌, ◌≤◌, arith, Bool, false, List, [], ◌∷◌, ◌++◌, refl, sym, ◌∙◌, ap, subst}
-use Rattle.dsde_syntax.specs.declared.id.Id.{Id}
-use Rattle.dsde_syntax.specs.declared.expr.Expr.{Expr}
-use Rattle.dsde_syntax.specs.declared.item.Item.TheOpen.{Item-F}
+use Rattle.dsde_sim_tree.specs.given.syntax.id_Id.{Id}
+use Rattle.dsde_sim_tree.specs.given.syntax.expr_Expr.{Expr}
+use Rattle.dsde_sim_tree.specs.given.syntax.item_Item_TheOpen.{Item-F}
 use Rattle.dsde_values.specs.declared.types.Field.{Field}
 use Rattle.dsde_values.specs.declared.types.Ty.{Ty}
 use Rattle.dsde_values.specs.declared.value.Value.{Value}
-use Rattle.dsde_check_rules.specs.declared.known.Known.{Known}
-use Rattle.dsde_check_rules.specs.declared.known.Around.{Around}
-use Rattle.dsde_check_rules.specs.declared.seen.Binding.{Binding}
-use Rattle.dsde_check_rules.specs.Steps.{above}
-use Rattle.dsde_check_rules.specs.Judge.{fresh, judge}
-use Rattle.dsde_check_rules.specs.Blocks.{Passed, var_kind}
-use Rattle.dsde_check_rules.specs.Structures as rule_structures
-use Rattle.dsde_program_nodes.specs.declared.node.Node.{Node}
-use Rattle.dsde_declared.specs.Names.{with_slot}
-use Rattle.dsde_program_nodes.specs.Expressions.{resolve, expr_id}
-use Rattle.dsde_program_nodes.specs.Items as nodes
-use Rattle.dsde_eval_meaning.specs.Meaning.{mean, with_var}
-use Rattle.dsde_eval_meaning.specs.Proper.{is_plain, is_proper}
-use Rattle.dsde_eval_meaning.specs.Typed.{Typed, values_in}
-use Rattle.dsde_eval_meaning.specs.Scopes.{Sees}
-use Rattle.dsde_sound_grammar.specs.Items as proper
-use Rattle.dsde_declared.specs.Structures as standing
-use Rattle.dsde_executive_plans.specs.Layout.{item_step}
-use Rattle.dsde_executive_plans.specs.Drafts.{draft_of}
-use Rattle.dsde_sound_typing.specs.lemmas.Steps.{went, ok-is}
-use Rattle.dsde_sound_typing.specs.lemmas.Truths.{and-left, and-right}
-use Rattle.dsde_sound_typing.specs.lemmas.Standing.{stands-left}
-use Rattle.dsde_sound_typing.specs.lemmas.Fitting.{field_of, fits-snoc, values-snoc}
-use Rattle.dsde_sound_typing.specs.lemmas.Seeing.{sees-snoc, fresh-new, slot-behind}
-use Rattle.dsde_sound_structures.proofs.Ground.{Ground, Shows, part_in, shown, shows-at, shows-over, shows-by}
+use Rattle.dsde_sim_tree.specs.given.language.known_Known.{Known}
+use Rattle.dsde_sim_tree.specs.given.language.known_Around.{Around}
+use Rattle.dsde_sim_tree.specs.given.language.seen_Binding.{Binding}
+use Rattle.dsde_sim_tree.specs.given.language.Steps.{above}
+use Rattle.dsde_sim_tree.specs.given.language.Judge.{fresh, judge}
+use Rattle.dsde_sim_tree.specs.given.language.Blocks.{Passed, var_kind}
+use Rattle.dsde_sim_tree.specs.given.language.RuleStructures as rule_structures
+use Rattle.dsde_sim_tree.specs.given.language.node_Node.{Node}
+use Rattle.dsde_sim_tree.specs.given.language.Names.{with_slot}
+use Rattle.dsde_sim_tree.specs.given.language.Expressions.{resolve, expr_id}
+use Rattle.dsde_sim_tree.specs.given.language.Items as nodes
+use Rattle.dsde_sim_tree.specs.given.language.Meaning.{mean, with_var}
+use Rattle.dsde_sim_tree.specs.given.language.Proper.{is_plain, is_proper}
+use Rattle.dsde_sim_tree.specs.given.language.Typed.{Typed, values_in}
+use Rattle.dsde_sim_tree.specs.given.language.Scopes.{Sees}
+use Rattle.dsde_sound_names.specs.given.sound_expressions.Items as proper
+use Rattle.dsde_sim_tree.specs.given.language.DeclaredStructures as standing
+use Rattle.dsde_sound_names.specs.given.executive_plans.Layout.{item_step}
+use Rattle.dsde_sound_names.specs.given.executive_plans.Drafts.{draft_of}
+use Rattle.dsde_sound_names.specs.given.sound_expressions.lemmas_Steps.{went, ok-is}
+use Rattle.dsde_sound_names.specs.given.sound_expressions.lemmas_Truths.{and-left, and-right}
+use Rattle.dsde_sound_names.specs.given.sound_expressions.lemmas_Standing.{stands-left}
+use Rattle.dsde_sound_names.specs.given.sound_expressions.lemmas_Fitting.{field_of, fits-snoc, values-snoc}
+use Rattle.dsde_sound_names.specs.given.sound_expressions.lemmas_Seeing.{sees-snoc, fresh-new, slot-behind}
+use Rattle.dsde_sound_structures.proofs.StructureGround.{Ground, Shows, part_in, shown, shows-at, shows-over, shows-by}
 use Rattle.dsde_sound_structures.proofs.Values.{value-gets}
 use Rattle.dsde_sound_structures.proofs.Drawing.{draw-let}
-use Rattle.dsde_sound_structures.proofs.Does.{Does, Done, not-cut, nothing-widens, one_does}
+use Rattle.dsde_sound_structures.proofs.StructureDoes.{Does, Done, not-cut, nothing-widens, one_does}
 
 module _ (g : Ground) where
   abbrev E : Bool

@@ -1,50 +1,50 @@
 -- A link is in tables what it is over names.
 use Rattle.std.proofs.Common.{◌≡◌, ℕ, ◌+◌, ◌≤◌, nat_lt, max, arith, Bool, true, false, ◌&&◌, if◌then◌else◌, List, [], ◌∷◌, ◌++◌, length, Option, Some, None, Ok, Err, refl, sym, ◌∙◌, ap, subst, append-nil}
 use Rattle.std.specs.List.{AllByRecursion}
-use Rattle.dsde_syntax.specs.declared.decl.Model.{Model}
-use Rattle.dsde_syntax.specs.declared.item.End as written
-use Rattle.dsde_syntax.specs.declared.item.Item.TheOpen.{Item-F}
-use Rattle.dsde_syntax.specs.declared.item.ViaPart.{ViaPart}
+use Rattle.dsde_sim_tree.specs.given.syntax.decl_Model.{Model}
+use Rattle.dsde_sim_tree.specs.given.syntax.item_End as written
+use Rattle.dsde_sim_tree.specs.given.syntax.item_Item_TheOpen.{Item-F}
+use Rattle.dsde_sim_tree.specs.given.syntax.item_ViaPart.{ViaPart}
 use Rattle.dsde_values.specs.declared.types.Field.{Field}
 use Rattle.dsde_values.specs.declared.types.Ty.{Ty}
 use Rattle.dsde_faults.specs.declared.kind.FaultKind.TheVariants.{TooManyLinks}
-use Rattle.dsde_check_rules.specs.declared.known.Around.{Around}
-use Rattle.dsde_check_rules.specs.declared.known.Known.{Known}
-use Rattle.dsde_check_rules.specs.declared.wrong.WrongKind.TheVariants.{BadLink}
-use Rattle.dsde_check_rules.specs.Steps.{above, unless}
-use Rattle.dsde_check_rules.specs.Blocks.{Passed}
-use Rattle.dsde_check_rules.specs.Structures as rule_structures
-use Rattle.dsde_check_rules.specs.Structures.{through}
-use Rattle.dsde_program_nodes.specs.declared.code.ViaCode.{ViaCode}
-use Rattle.dsde_program_nodes.specs.Items as nodes
-use Rattle.dsde_declared.specs.Structures.{end_ports, vias_of, vias_there}
-use Rattle.dsde_program_nodes.specs.Items.{resolve_end, maybe_via, via_by}
-use Rattle.dsde_declared.specs.Models.{types_of, Own}
-use Rattle.dsde_program_nodes.specs.Models.{resolved}
-use Rattle.dsde_program_nodes.specs.Pieces.{Next, behind}
-use Rattle.dsde_program_nodes.specs.Typing.{slot_type}
-use Rattle.dsde_structure.specs.declared.plan.Link.{Link}
-use Rattle.dsde_structure.specs.declared.plan.Via.{Via}
-use Rattle.dsde_eval_meaning.specs.Outcome.{Fault}
-use Rattle.dsde_eval_meaning.specs.Typed.{Sound, Fits, values_in}
-use Rattle.dsde_eval_meaning.specs.Scopes.{Stands, Sees}
-use Rattle.dsde_sound_grammar.specs.Items as proper
-use Rattle.dsde_sound_places.specs.Places.{KnownAt}
-use Rattle.dsde_executive_plans.specs.declared.placed.PlacedLink.{PlacedLink}
-use Rattle.dsde_executive_plans.specs.Layout.{most, vias_in, with_link, end_of, via_of, item_step}
-use Rattle.dsde_executive_plans.specs.Drafts.{end_at, via_at}
+use Rattle.dsde_sim_tree.specs.given.language.known_Around.{Around}
+use Rattle.dsde_sim_tree.specs.given.language.known_Known.{Known}
+use Rattle.dsde_sim_tree.specs.given.language.wrong_WrongKind_TheVariants.{BadLink}
+use Rattle.dsde_sim_tree.specs.given.language.Steps.{above, unless}
+use Rattle.dsde_sim_tree.specs.given.language.Blocks.{Passed}
+use Rattle.dsde_sim_tree.specs.given.language.RuleStructures as rule_structures
+use Rattle.dsde_sim_tree.specs.given.language.RuleStructures.{through}
+use Rattle.dsde_sim_tree.specs.given.language.code_ViaCode.{ViaCode}
+use Rattle.dsde_sim_tree.specs.given.language.Items as nodes
+use Rattle.dsde_sim_tree.specs.given.language.DeclaredStructures.{end_ports, vias_of, vias_there}
+use Rattle.dsde_sim_tree.specs.given.language.Items.{resolve_end, maybe_via, via_by}
+use Rattle.dsde_sim_tree.specs.given.language.DeclaredModels.{types_of, Own}
+use Rattle.dsde_sim_tree.specs.given.language.NodeModels.{resolved}
+use Rattle.dsde_sim_tree.specs.given.language.Pieces.{Next, behind}
+use Rattle.dsde_sim_tree.specs.given.language.Typing.{slot_type}
+use Rattle.dsde_sim_tree.specs.given.structure.plan_Link.{Link}
+use Rattle.dsde_sim_tree.specs.given.structure.plan_Via.{Via}
+use Rattle.dsde_sim_tree.specs.given.language.Outcome.{Fault}
+use Rattle.dsde_sim_tree.specs.given.language.Typed.{Sound, Fits, values_in}
+use Rattle.dsde_sim_tree.specs.given.language.Scopes.{Stands, Sees}
+use Rattle.dsde_sound_names.specs.given.sound_expressions.Items as proper
+use Rattle.dsde_sound_names.specs.given.sound_expressions.Places.{KnownAt}
+use Rattle.dsde_sound_names.specs.given.executive_plans.placed_PlacedLink.{PlacedLink}
+use Rattle.dsde_sound_names.specs.given.executive_plans.Layout.{most, vias_in, with_link, end_of, via_of, item_step}
+use Rattle.dsde_sound_names.specs.given.executive_plans.Drafts.{end_at, via_at}
 use Rattle.dsde_system.specs.Plans.{Joins}
-use Rattle.dsde_sound_typing.specs.lemmas.Steps.{went, ok-is, unless-is}
-use Rattle.dsde_sound_typing.specs.lemmas.Truths.{and-left, and-right}
-use Rattle.dsde_sound_typing.specs.lemmas.Standing.{stands-left, stands-right}
+use Rattle.dsde_sound_names.specs.given.sound_expressions.lemmas_Steps.{went, ok-is, unless-is}
+use Rattle.dsde_sound_names.specs.given.sound_expressions.lemmas_Truths.{and-left, and-right}
+use Rattle.dsde_sound_names.specs.given.sound_expressions.lemmas_Standing.{stands-left, stands-right}
 use Rattle.dsde_sound_structures.proofs.Gets.{Gets, gets-own}
-use Rattle.dsde_sound_structures.proofs.Ground.{Ground, Shows, part_in, shown, shows-ok, shows-over, shows-by}
+use Rattle.dsde_sound_structures.proofs.StructureGround.{Ground, Shows, part_in, shown, shows-ok, shows-over, shows-by}
 use Rattle.dsde_sound_structures.proofs.ByFamily.{LinkBy, not-through}
 use Rattle.dsde_sound_structures.proofs.Drawing.{draw-link}
-use Rattle.dsde_sound_structures.proofs.Does.{Done, one_does, not-cut, nothing-widens}
+use Rattle.dsde_sound_structures.proofs.StructureDoes.{Done, one_does, not-cut, nothing-widens}
 use Rattle.dsde_sound_structures.proofs.Ends.{PlaceIs, EndIs, end-at, end-gets, part-scope, part-vias}
 use Rattle.dsde_sound_structures.proofs.Vias.{via-gets}
-use Rattle.dsde_sound_structures.proofs.Items.{LinksDo}
+use Rattle.dsde_sound_structures.proofs.StructureItems.{LinksDo}
 
 module _ (Is : PlacedLink → Type 0) where
   links-snoc : (links : List PlacedLink) (own : PlacedLink) → AllByRecursion Is links → Is own → AllByRecursion Is (links ++ own ∷ [])

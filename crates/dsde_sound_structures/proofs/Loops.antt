@@ -1,49 +1,49 @@
 -- `for` does in tables what it does over names.
 use Rattle.std.proofs.Common.{◌≡◌, ◌+◌, ◌≤◌, arith, Bool, false, List, [], ◌∷◌, ◌++◌, length, sym, ◌∙◌, ap, subst, append-nil}
-use Rattle.dsde_syntax.specs.declared.id.Id.{Id}
-use Rattle.dsde_syntax.specs.declared.expr.Expr.{Expr}
-use Rattle.dsde_syntax.specs.declared.item.Item.TheOpen.{Item-F}
-use Rattle.dsde_syntax.specs.declared.item.ViaPart.{ViaPart}
+use Rattle.dsde_sim_tree.specs.given.syntax.id_Id.{Id}
+use Rattle.dsde_sim_tree.specs.given.syntax.expr_Expr.{Expr}
+use Rattle.dsde_sim_tree.specs.given.syntax.item_Item_TheOpen.{Item-F}
+use Rattle.dsde_sim_tree.specs.given.syntax.item_ViaPart.{ViaPart}
 use Rattle.dsde_values.specs.declared.types.Field.{Field}
 use Rattle.dsde_values.specs.declared.types.Ty.{Ty}
 use Rattle.dsde_values.specs.declared.types.Ty.TheVariants as ty
-use Rattle.dsde_check_rules.specs.declared.known.Around.{Around}
-use Rattle.dsde_check_rules.specs.declared.known.Known.{Known}
-use Rattle.dsde_check_rules.specs.Steps.{above}
-use Rattle.dsde_check_rules.specs.Types.{item_type}
-use Rattle.dsde_check_rules.specs.Judge.{fresh, fixed, judge}
-use Rattle.dsde_check_rules.specs.Judge as rules
-use Rattle.dsde_check_rules.specs.Blocks.{Passed, Walk, walk_all, inner}
-use Rattle.dsde_check_rules.specs.Structures as rule_structures
-use Rattle.dsde_check_rules.specs.Structures.{Enter, enter_all}
-use Rattle.dsde_program_nodes.specs.declared.code.ViaCode.{ViaCode}
-use Rattle.dsde_program_nodes.specs.declared.make.Make.{Make}
-use Rattle.dsde_program_nodes.specs.declared.node.Node.{Node}
-use Rattle.dsde_declared.specs.Names.{with_slot}
-use Rattle.dsde_program_nodes.specs.Typing.{item_in}
-use Rattle.dsde_program_nodes.specs.Expressions.{resolve, expr_id}
-use Rattle.dsde_program_nodes.specs.Items as nodes
-use Rattle.dsde_program_nodes.specs.Pieces.{Next, Piece, Step, all}
-use Rattle.dsde_eval_meaning.specs.Outcome.{items_of}
-use Rattle.dsde_eval_meaning.specs.Meaning.{mean}
-use Rattle.dsde_eval_meaning.specs.Proper.{is_plain, is_proper, all_so}
-use Rattle.dsde_eval_meaning.specs.Typed.{Typed, values_in}
-use Rattle.dsde_eval_meaning.specs.Scopes.{Sees}
-use Rattle.dsde_sound_grammar.specs.Items as proper
-use Rattle.dsde_declared.specs.Structures as standing
-use Rattle.dsde_executive_plans.specs.Layout.{Lay, lay_all, item_step}
-use Rattle.dsde_sound_typing.specs.lemmas.Values.{IsList, items-sound}
-use Rattle.dsde_sound_typing.specs.lemmas.Types.{item-is, item-in-list}
-use Rattle.dsde_sound_typing.specs.lemmas.Steps.{went, ok-is}
-use Rattle.dsde_sound_typing.specs.lemmas.Truths.{and-left, and-right}
-use Rattle.dsde_sound_typing.specs.lemmas.Standing.{stands-left, stands-right}
-use Rattle.dsde_sound_typing.specs.lemmas.Fitting.{field_of}
-use Rattle.dsde_sound_typing.specs.lemmas.Seeing.{sees-snoc, fresh-new, slot-behind}
+use Rattle.dsde_sim_tree.specs.given.language.known_Around.{Around}
+use Rattle.dsde_sim_tree.specs.given.language.known_Known.{Known}
+use Rattle.dsde_sim_tree.specs.given.language.Steps.{above}
+use Rattle.dsde_sim_tree.specs.given.language.Types.{item_type}
+use Rattle.dsde_sim_tree.specs.given.language.Judge.{fresh, fixed, judge}
+use Rattle.dsde_sim_tree.specs.given.language.Judge as rules
+use Rattle.dsde_sim_tree.specs.given.language.Blocks.{Passed, Walk, walk_all, inner}
+use Rattle.dsde_sim_tree.specs.given.language.RuleStructures as rule_structures
+use Rattle.dsde_sim_tree.specs.given.language.RuleStructures.{Enter, enter_all}
+use Rattle.dsde_sim_tree.specs.given.language.code_ViaCode.{ViaCode}
+use Rattle.dsde_sim_tree.specs.given.language.make_Make.{Make}
+use Rattle.dsde_sim_tree.specs.given.language.node_Node.{Node}
+use Rattle.dsde_sim_tree.specs.given.language.Names.{with_slot}
+use Rattle.dsde_sim_tree.specs.given.language.Typing.{item_in}
+use Rattle.dsde_sim_tree.specs.given.language.Expressions.{resolve, expr_id}
+use Rattle.dsde_sim_tree.specs.given.language.Items as nodes
+use Rattle.dsde_sim_tree.specs.given.language.Pieces.{Next, Piece, Step, all}
+use Rattle.dsde_sim_tree.specs.given.language.Outcome.{items_of}
+use Rattle.dsde_sim_tree.specs.given.language.Meaning.{mean}
+use Rattle.dsde_sim_tree.specs.given.language.Proper.{is_plain, is_proper, all_so}
+use Rattle.dsde_sim_tree.specs.given.language.Typed.{Typed, values_in}
+use Rattle.dsde_sim_tree.specs.given.language.Scopes.{Sees}
+use Rattle.dsde_sound_names.specs.given.sound_expressions.Items as proper
+use Rattle.dsde_sim_tree.specs.given.language.DeclaredStructures as standing
+use Rattle.dsde_sound_names.specs.given.executive_plans.Layout.{Lay, lay_all, item_step}
+use Rattle.dsde_sound_names.specs.given.sound_expressions.lemmas_Values.{IsList, items-sound}
+use Rattle.dsde_sound_names.specs.given.sound_expressions.lemmas_Types.{item-is, item-in-list}
+use Rattle.dsde_sound_names.specs.given.sound_expressions.lemmas_Steps.{went, ok-is}
+use Rattle.dsde_sound_names.specs.given.sound_expressions.lemmas_Truths.{and-left, and-right}
+use Rattle.dsde_sound_names.specs.given.sound_expressions.lemmas_Standing.{stands-left, stands-right}
+use Rattle.dsde_sound_names.specs.given.sound_expressions.lemmas_Fitting.{field_of}
+use Rattle.dsde_sound_names.specs.given.sound_expressions.lemmas_Seeing.{sees-snoc, fresh-new, slot-behind}
 use Rattle.dsde_sound_structures.proofs.Gets.{gets-own}
-use Rattle.dsde_sound_structures.proofs.Ground.{Ground, part_in, shown, shows-over, shows-by}
+use Rattle.dsde_sound_structures.proofs.StructureGround.{Ground, part_in, shown, shows-over, shows-by}
 use Rattle.dsde_sound_structures.proofs.Values.{value-gets}
 use Rattle.dsde_sound_structures.proofs.Drawing.{draw-for}
-use Rattle.dsde_sound_structures.proofs.Does.{Done, Does, AllDo, one_does, not-cut, behind_nodes}
+use Rattle.dsde_sound_structures.proofs.StructureDoes.{Done, Does, AllDo, one_does, not-cut, behind_nodes}
 use Rattle.dsde_sound_structures.proofs.Braces.{walk-rises, for-shows, joined_texts}
 
 module _ (g : Ground) where

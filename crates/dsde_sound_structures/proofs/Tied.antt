@@ -5,25 +5,25 @@ use Rattle.std.specs.List.{AllByRecursion, Contains}
 use Rattle.std.specs.Option.{option_cmp}
 use Rattle.std.specs.Ordering.{bool_cmp, is_eq, nat_cmp, ordering_then}
 use Rattle.std.proofs.lemmas.Map.Lookups.{exact_bytes, exact_unsigned}
-use Rattle.dsde_syntax.specs.declared.decl.Model.{Model}
+use Rattle.dsde_sim_tree.specs.given.syntax.decl_Model.{Model}
 use Rattle.dsde_values.specs.declared.name.Name.{Name}
 use Rattle.dsde_values.specs.declared.types.Field.{Field}
 use Rattle.dsde_values.specs.Path.{is_executive, name_cmp}
-use Rattle.dsde_check_rules.specs.declared.signatures.Family.{Family}
-use Rattle.dsde_check_rules.specs.Structures.{family_named}
-use Rattle.dsde_declared.specs.Structures.{model_ports}
-use Rattle.dsde_declared.specs.Models.{whole_of, Own}
-use Rattle.dsde_structure.specs.declared.plan.Entry.{Entry}
-use Rattle.dsde_structure.specs.declared.plan.Part.{Part}
-use Rattle.dsde_structure.specs.declared.plan.Part.TheVariants as part
-use Rattle.dsde_structure.specs.Gather.{is_same_name}
+use Rattle.dsde_sim_tree.specs.given.language.signatures_Family.{Family}
+use Rattle.dsde_sim_tree.specs.given.language.RuleStructures.{family_named}
+use Rattle.dsde_sim_tree.specs.given.language.DeclaredStructures.{model_ports}
+use Rattle.dsde_sim_tree.specs.given.language.DeclaredModels.{whole_of, Own}
+use Rattle.dsde_sim_tree.specs.given.structure.plan_Entry.{Entry}
+use Rattle.dsde_sim_tree.specs.given.structure.plan_Part.{Part}
+use Rattle.dsde_sim_tree.specs.given.structure.plan_Part_TheVariants as part
+use Rattle.dsde_sim_tree.specs.given.structure.Gather.{is_same_name}
 use Rattle.dsde_faults.specs.declared.kind.FaultKind.TheVariants.{DanglingLink}
-use Rattle.dsde_eval_meaning.specs.Outcome.{Fault, Outcome}
-use Rattle.dsde_eval_meaning.specs.Typed.{Sound}
-use Rattle.dsde_executive_plans.specs.declared.placed.PlacedLink.{PlacedLink}
-use Rattle.dsde_executive_plans.specs.Layout.{is_there, has_part, tied}
+use Rattle.dsde_sim_tree.specs.given.language.Outcome.{Fault, Outcome}
+use Rattle.dsde_sim_tree.specs.given.language.Typed.{Sound}
+use Rattle.dsde_sound_names.specs.given.executive_plans.placed_PlacedLink.{PlacedLink}
+use Rattle.dsde_sound_names.specs.given.executive_plans.Layout.{is_there, has_part, tied}
 use Rattle.dsde_system.specs.Plans.{ArePortsOf, HasKid, FitsLink, FitsEntry}
-use Rattle.dsde_sound_typing.specs.lemmas.Truths.{and-left, and-right}
+use Rattle.dsde_sound_names.specs.given.sound_expressions.lemmas_Truths.{and-left, and-right}
 use Rattle.dsde_sound_structures.proofs.ByFamily.{EntryBy, LinkBy, KidBy, PortsBy}
 
 -- names that are the same are equal

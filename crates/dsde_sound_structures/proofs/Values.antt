@@ -1,42 +1,42 @@
 -- Expressions in items: their values, indexes, keys and arguments in tables are those over names.
 use Rattle.std.proofs.Common.{◌≡◌, ℕ, ◌≤◌, max, arith, ℤ, pos, negsuc, true, false, List, [], ◌∷◌, ◌++◌, map, length, Option, Some, None, Ok, refl, sym, ◌∙◌, subst, append_assoc, append-nil}
 use Rattle.std.specs.List.{list_all}
-use Rattle.dsde_syntax.specs.declared.expr.Expr.{Expr}
-use Rattle.dsde_syntax.specs.declared.item.Bracket.{Bracket}
+use Rattle.dsde_sim_tree.specs.given.syntax.expr_Expr.{Expr}
+use Rattle.dsde_sim_tree.specs.given.syntax.item_Bracket.{Bracket}
 use Rattle.dsde_values.specs.declared.types.Field.{Field}
 use Rattle.dsde_values.specs.declared.types.Ty.{Ty}
 use Rattle.dsde_values.specs.declared.types.Ty.TheVariants as ty
 use Rattle.dsde_values.specs.declared.value.Value.{Value}
 use Rattle.dsde_values.specs.Value.{fits_int}
-use Rattle.dsde_check_rules.specs.declared.known.Around.{Around}
-use Rattle.dsde_check_rules.specs.declared.known.Known.{Known}
-use Rattle.dsde_check_rules.specs.declared.seen.Seen.{Seen}
-use Rattle.dsde_check_rules.specs.Types.{wanted}
-use Rattle.dsde_check_rules.specs.Judge.{Judge, judge, fit}
-use Rattle.dsde_check_rules.specs.Judge as rules
-use Rattle.dsde_check_rules.specs.Structures as rule_structures
-use Rattle.dsde_program_nodes.specs.declared.ids.ExprId.{ExprId}
-use Rattle.dsde_program_nodes.specs.declared.node.Node.{Node}
-use Rattle.dsde_program_nodes.specs.Expressions.{resolve, expr_id}
-use Rattle.dsde_program_nodes.specs.Items.{resolve_index, resolve_all}
-use Rattle.dsde_program_nodes.specs.Pieces.{Next, Piece, behind, expr, give}
-use Rattle.dsde_eval_meaning.specs.Outcome.{int_of}
-use Rattle.dsde_eval_meaning.specs.Meaning.{Vars, mean, values_of}
-use Rattle.dsde_eval_meaning.specs.Tables.{values_from}
-use Rattle.dsde_eval_meaning.specs.Proper.{is_proper}
-use Rattle.dsde_eval_meaning.specs.Typed.{Typed, Sound, AllTyped, Fits, values_in}
-use Rattle.dsde_eval_meaning.specs.Scopes.{Stands, Sees}
-use Rattle.dsde_sound_grammar.specs.Items.{is_proper_index}
-use Rattle.dsde_executive_plans.specs.Layout.{natural, index_of}
-use Rattle.dsde_executive_plans.specs.Drafts.{index_at}
-use Rattle.dsde_sound_typing.specs.lemmas.Steps.{went, ok-is}
-use Rattle.dsde_sound_typing.specs.lemmas.Truths.{and-left, and-right}
-use Rattle.dsde_sound_typing.specs.lemmas.Types.{wanted-is}
-use Rattle.dsde_sound_typing.specs.lemmas.Values.{int-sound}
-use Rattle.dsde_sound_typing.specs.lemmas.Standing.{stands-left, stands-right}
-use Rattle.dsde_sound_typing.specs.lemmas.Fitting.{typed-snoc}
+use Rattle.dsde_sim_tree.specs.given.language.known_Around.{Around}
+use Rattle.dsde_sim_tree.specs.given.language.known_Known.{Known}
+use Rattle.dsde_sim_tree.specs.given.language.seen_Seen.{Seen}
+use Rattle.dsde_sim_tree.specs.given.language.Types.{wanted}
+use Rattle.dsde_sim_tree.specs.given.language.Judge.{Judge, judge, fit}
+use Rattle.dsde_sim_tree.specs.given.language.Judge as rules
+use Rattle.dsde_sim_tree.specs.given.language.RuleStructures as rule_structures
+use Rattle.dsde_sim_tree.specs.given.language.node_ids_ExprId.{ExprId}
+use Rattle.dsde_sim_tree.specs.given.language.node_Node.{Node}
+use Rattle.dsde_sim_tree.specs.given.language.Expressions.{resolve, expr_id}
+use Rattle.dsde_sim_tree.specs.given.language.Items.{resolve_index, resolve_all}
+use Rattle.dsde_sim_tree.specs.given.language.Pieces.{Next, Piece, behind, expr, give}
+use Rattle.dsde_sim_tree.specs.given.language.Outcome.{int_of}
+use Rattle.dsde_sim_tree.specs.given.language.Meaning.{Vars, mean, values_of}
+use Rattle.dsde_sim_tree.specs.given.language.MeaningTables.{values_from}
+use Rattle.dsde_sim_tree.specs.given.language.Proper.{is_proper}
+use Rattle.dsde_sim_tree.specs.given.language.Typed.{Typed, Sound, AllTyped, Fits, values_in}
+use Rattle.dsde_sim_tree.specs.given.language.Scopes.{Stands, Sees}
+use Rattle.dsde_sound_names.specs.given.sound_expressions.Items.{is_proper_index}
+use Rattle.dsde_sound_names.specs.given.executive_plans.Layout.{natural, index_of}
+use Rattle.dsde_sound_names.specs.given.executive_plans.Drafts.{index_at}
+use Rattle.dsde_sound_names.specs.given.sound_expressions.lemmas_Steps.{went, ok-is}
+use Rattle.dsde_sound_names.specs.given.sound_expressions.lemmas_Truths.{and-left, and-right}
+use Rattle.dsde_sound_names.specs.given.sound_expressions.lemmas_Types.{wanted-is}
+use Rattle.dsde_sound_names.specs.given.sound_expressions.lemmas_Values.{int-sound}
+use Rattle.dsde_sound_names.specs.given.sound_expressions.lemmas_Standing.{stands-left, stands-right}
+use Rattle.dsde_sound_names.specs.given.sound_expressions.lemmas_Fitting.{typed-snoc}
 use Rattle.dsde_sound_structures.proofs.Gets.{Gets, sound-any, gets-ok, gets-own, gets-then}
-use Rattle.dsde_sound_structures.proofs.Ground.{Ground, part_in}
+use Rattle.dsde_sound_structures.proofs.StructureGround.{Ground, part_in}
 
 natural-sound : (at : ℕ) (number : ℤ) → Sound false (λ (own : Option ℕ). Unit {0}) (natural at number)
 natural-sound at (pos number) = tt

@@ -2,56 +2,56 @@
 use Rattle.std.proofs.Common.{◌≡◌, ℕ, ◌+◌, ◌≤◌, max, arith, Bool, true, false, not, ◌||◌, List, [], ◌∷◌, ◌++◌, length, Option, Some, None, is_some, Ok, refl, sym, ◌∙◌, ap, subst, slice_get}
 use Rattle.std.specs.Str.{bytes_eq}
 use Rattle.std.proofs.lemmas.Bool.{not-false}
-use Rattle.dsde_names.specs.Table.{is_among}
-use Rattle.dsde_syntax.specs.declared.decl.Model.{Model}
-use Rattle.dsde_syntax.specs.declared.expr.Expr.{Expr}
-use Rattle.dsde_syntax.specs.declared.id.Id.{Id}
-use Rattle.dsde_syntax.specs.declared.item.ViaKey.{ViaKey}
-use Rattle.dsde_syntax.specs.declared.item.ViaPart.{ViaPart}
+use Rattle.dsde_sim_tree.specs.given.names.Table.{is_among}
+use Rattle.dsde_sim_tree.specs.given.syntax.decl_Model.{Model}
+use Rattle.dsde_sim_tree.specs.given.syntax.expr_Expr.{Expr}
+use Rattle.dsde_sim_tree.specs.given.syntax.id_Id.{Id}
+use Rattle.dsde_sim_tree.specs.given.syntax.item_ViaKey.{ViaKey}
+use Rattle.dsde_sim_tree.specs.given.syntax.item_ViaPart.{ViaPart}
 use Rattle.dsde_values.specs.declared.types.Field.{Field}
 use Rattle.dsde_values.specs.declared.types.Ty.{Ty}
 use Rattle.dsde_values.specs.declared.types.Ty.TheVariants as ty
 use Rattle.dsde_values.specs.declared.value.Value.{Value}
-use Rattle.dsde_check_rules.specs.declared.known.Around.{Around}
-use Rattle.dsde_check_rules.specs.declared.known.Known.{Known}
-use Rattle.dsde_check_rules.specs.declared.seen.Binding.{Binding}
-use Rattle.dsde_check_rules.specs.declared.wrong.WrongKind.TheVariants.{Duplicate, WrongType}
-use Rattle.dsde_check_rules.specs.Steps.{apart, unless}
-use Rattle.dsde_check_rules.specs.Tables.{binding_name, field_name}
-use Rattle.dsde_check_rules.specs.Types.{same, wanted}
-use Rattle.dsde_check_rules.specs.Judge.{fresh, unbound, fixed, judge}
-use Rattle.dsde_check_rules.specs.Judge as rules
-use Rattle.dsde_check_rules.specs.Structures as rule_structures
-use Rattle.dsde_check_rules.specs.Structures.{through, translating, body_via}
-use Rattle.dsde_program_nodes.specs.declared.code.ViaCode.{ViaCode}
-use Rattle.dsde_program_nodes.specs.declared.node.Node.{Node}
-use Rattle.dsde_program_nodes.specs.Expressions.{resolve, expr_id}
-use Rattle.dsde_program_nodes.specs.Items.{maybe_via}
-use Rattle.dsde_declared.specs.Models.{whole_of, types_of}
-use Rattle.dsde_program_nodes.specs.Models.{resolved}
-use Rattle.dsde_program_nodes.specs.Pieces.{Next}
-use Rattle.dsde_declared.specs.Names.{with_slot}
-use Rattle.dsde_structure.specs.declared.plan.Via.{Via}
-use Rattle.dsde_eval_meaning.specs.Meaning.{Vars, mean}
-use Rattle.dsde_eval_meaning.specs.Proper.{is_plain, is_proper}
-use Rattle.dsde_eval_meaning.specs.Typed.{Typed, Fits, values_in}
-use Rattle.dsde_eval_meaning.specs.Scopes.{Stands, Sees}
-use Rattle.dsde_sound_grammar.specs.Items.{is_proper_key, is_proper_via}
-use Rattle.dsde_sound_places.specs.Places.{KnownAt, IsExpr}
-use Rattle.dsde_declared.specs.Structures.{vias_of, vias_there}
-use Rattle.dsde_executive_plans.specs.Layout.{via_of, key_of}
-use Rattle.dsde_executive_plans.specs.Drafts.{via_at, key_at}
-use Rattle.dsde_sound_places.specs.Conditions.{IsVia}
+use Rattle.dsde_sim_tree.specs.given.language.known_Around.{Around}
+use Rattle.dsde_sim_tree.specs.given.language.known_Known.{Known}
+use Rattle.dsde_sim_tree.specs.given.language.seen_Binding.{Binding}
+use Rattle.dsde_sim_tree.specs.given.language.wrong_WrongKind_TheVariants.{Duplicate, WrongType}
+use Rattle.dsde_sim_tree.specs.given.language.Steps.{apart, unless}
+use Rattle.dsde_sim_tree.specs.given.language.RuleTables.{binding_name, field_name}
+use Rattle.dsde_sim_tree.specs.given.language.Types.{same, wanted}
+use Rattle.dsde_sim_tree.specs.given.language.Judge.{fresh, unbound, fixed, judge}
+use Rattle.dsde_sim_tree.specs.given.language.Judge as rules
+use Rattle.dsde_sim_tree.specs.given.language.RuleStructures as rule_structures
+use Rattle.dsde_sim_tree.specs.given.language.RuleStructures.{through, translating, body_via}
+use Rattle.dsde_sim_tree.specs.given.language.code_ViaCode.{ViaCode}
+use Rattle.dsde_sim_tree.specs.given.language.node_Node.{Node}
+use Rattle.dsde_sim_tree.specs.given.language.Expressions.{resolve, expr_id}
+use Rattle.dsde_sim_tree.specs.given.language.Items.{maybe_via}
+use Rattle.dsde_sim_tree.specs.given.language.DeclaredModels.{whole_of, types_of}
+use Rattle.dsde_sim_tree.specs.given.language.NodeModels.{resolved}
+use Rattle.dsde_sim_tree.specs.given.language.Pieces.{Next}
+use Rattle.dsde_sim_tree.specs.given.language.Names.{with_slot}
+use Rattle.dsde_sim_tree.specs.given.structure.plan_Via.{Via}
+use Rattle.dsde_sim_tree.specs.given.language.Meaning.{Vars, mean}
+use Rattle.dsde_sim_tree.specs.given.language.Proper.{is_plain, is_proper}
+use Rattle.dsde_sim_tree.specs.given.language.Typed.{Typed, Fits, values_in}
+use Rattle.dsde_sim_tree.specs.given.language.Scopes.{Stands, Sees}
+use Rattle.dsde_sound_names.specs.given.sound_expressions.Items.{is_proper_key, is_proper_via}
+use Rattle.dsde_sound_names.specs.given.sound_expressions.Places.{KnownAt, IsExpr}
+use Rattle.dsde_sim_tree.specs.given.language.DeclaredStructures.{vias_of, vias_there}
+use Rattle.dsde_sound_names.specs.given.executive_plans.Layout.{via_of, key_of}
+use Rattle.dsde_sound_names.specs.given.executive_plans.Drafts.{via_at, key_at}
+use Rattle.dsde_sound_names.specs.given.sound_expressions.Conditions.{IsVia}
 use Rattle.dsde_system.specs.Plans.{IsKey, Joins}
-use Rattle.dsde_sound_typing.specs.lemmas.Steps.{went, ok-is, unless-is}
-use Rattle.dsde_sound_typing.specs.lemmas.Truths.{and-left, and-right, or-right}
-use Rattle.dsde_sound_typing.specs.lemmas.Types.{same-true, wanted-is}
-use Rattle.dsde_sound_typing.specs.lemmas.Places.{among-snoc}
-use Rattle.dsde_sound_typing.specs.lemmas.Standing.{stands-head, stands-left, stands-right}
-use Rattle.dsde_sound_typing.specs.lemmas.Fitting.{field_of}
-use Rattle.dsde_sound_typing.specs.lemmas.Seeing.{sees-snoc, slot-behind}
+use Rattle.dsde_sound_names.specs.given.sound_expressions.lemmas_Steps.{went, ok-is, unless-is}
+use Rattle.dsde_sound_names.specs.given.sound_expressions.lemmas_Truths.{and-left, and-right, or-right}
+use Rattle.dsde_sound_names.specs.given.sound_expressions.lemmas_Types.{same-true, wanted-is}
+use Rattle.dsde_sound_names.specs.given.sound_expressions.lemmas_Places.{among-snoc}
+use Rattle.dsde_sound_names.specs.given.sound_expressions.lemmas_Standing.{stands-head, stands-left, stands-right}
+use Rattle.dsde_sound_names.specs.given.sound_expressions.lemmas_Fitting.{field_of}
+use Rattle.dsde_sound_names.specs.given.sound_expressions.lemmas_Seeing.{sees-snoc, slot-behind}
 use Rattle.dsde_sound_structures.proofs.Gets.{Gets, gets-ok, gets-then}
-use Rattle.dsde_sound_structures.proofs.Ground.{Ground, part_in}
+use Rattle.dsde_sound_structures.proofs.StructureGround.{Ground, part_in}
 use Rattle.dsde_sound_structures.proofs.Values.{value-gets}
 
 -- no name is seen over no slot

@@ -1,22 +1,22 @@
 -- That the structure of a network means in tables what it means over names, and gives plans that fit.
 use Rattle.std.specs.Prelude.{◌≡◌, ◌≢◌, ℕ, ◌≤◌, List, Some, Ok, Err, slice_get}
-use Rattle.dsde_syntax.specs.declared.decl.Model.{Model}
-use Rattle.dsde_syntax.specs.declared.item.Item.{Item}
-use Rattle.dsde_program_nodes.specs.declared.make.Make.{Make}
-use Rattle.dsde_declared.specs.Models.{whole_of, types_of, Own, owns_of}
-use Rattle.dsde_declared.specs.Structures.{place_of_items}
-use Rattle.dsde_check_rules.specs.Right.{IsRight}
-use Rattle.dsde_structure.specs.declared.plan.Plan.{Plan}
-use Rattle.dsde_eval_meaning.specs.Outcome.{Stuck, Outcome}
-use Rattle.dsde_eval_meaning.specs.Meaning.{Vars}
-use Rattle.dsde_eval_meaning.specs.Functions.{functions_of}
-use Rattle.dsde_eval_meaning.specs.Tables.{means_in}
-use Rattle.dsde_eval_meaning.specs.Typed.{Fits, values_in}
-use Rattle.dsde_executive_plans.specs.Layout.{structure}
-use Rattle.dsde_executive_plans.specs.Drafts.{planned}
-use Rattle.dsde_sound_places.specs.Bodies.{body_slots}
-use Rattle.dsde_sound_places.specs.Structures.{IsStructure}
-use Rattle.dsde_sound_functions.specs.Coded.{coded_of}
+use Rattle.dsde_sim_tree.specs.given.syntax.decl_Model.{Model}
+use Rattle.dsde_sim_tree.specs.given.syntax.item_Item.{Item}
+use Rattle.dsde_sim_tree.specs.given.language.make_Make.{Make}
+use Rattle.dsde_sim_tree.specs.given.language.DeclaredModels.{whole_of, types_of, Own, owns_of}
+use Rattle.dsde_sim_tree.specs.given.language.DeclaredStructures.{place_of_items}
+use Rattle.dsde_sim_tree.specs.given.language.Right.{IsRight}
+use Rattle.dsde_sim_tree.specs.given.structure.plan_Plan.{Plan}
+use Rattle.dsde_sim_tree.specs.given.language.Outcome.{Stuck, Outcome}
+use Rattle.dsde_sim_tree.specs.given.language.Meaning.{Vars}
+use Rattle.dsde_sim_tree.specs.given.language.Functions.{functions_of}
+use Rattle.dsde_sim_tree.specs.given.language.MeaningTables.{means_in}
+use Rattle.dsde_sim_tree.specs.given.language.Typed.{Fits, values_in}
+use Rattle.dsde_sound_names.specs.given.executive_plans.Layout.{structure}
+use Rattle.dsde_sound_names.specs.given.executive_plans.Drafts.{planned}
+use Rattle.dsde_sound_names.specs.given.sound_expressions.Bodies.{body_slots}
+use Rattle.dsde_sound_names.specs.given.sound_expressions.Structures.{IsStructure}
+use Rattle.dsde_sound_names.specs.given.sound_expressions.Coded.{coded_of}
 use Rattle.dsde_system.specs.Plans.{FitsPlan}
 
 -- the plan that the items of a network give over the variables of its body

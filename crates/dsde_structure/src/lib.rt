@@ -2,6 +2,7 @@
 //! survive where another structure follows.
 #![tactic(auto)]
 
+pub mod given;
 mod laws;
 mod plan;
 mod sources;

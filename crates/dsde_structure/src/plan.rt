@@ -2,8 +2,8 @@
 
 ghost use Rattle.std.specs.Prelude.{◌≡◌, IfOk};
 
-use dsde_declared::{ModelId, ViaId};
-use dsde_lists::Memory;
+use dsde_language::{ModelId, ViaId};
+use dsde_values::given::lists::Memory;
 use dsde_values::{Name, Seq, Value, Values, copy_values};
 use std::alloc::Global;
 

@@ -4,7 +4,7 @@ ghost use Rattle.std.specs.Prelude.{◌≡◌, IfOk, OnOk};
 ghost use Rattle.dsde_structure.specs.Survival.{survives, met, compared, joined, IsInOrder};
 
 use crate::{Change, Entry, Plan};
-use dsde_lists::Memory;
+use dsde_values::given::lists::Memory;
 use dsde_values::{Seq, compare_names};
 use dsde_values_equality::are_same;
 use std::alloc::Global;

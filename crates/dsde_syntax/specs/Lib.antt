@@ -4,3 +4,4 @@ pub mod Places
 pub mod Print
 pub mod Shape
 pub mod Spelling
+pub mod given

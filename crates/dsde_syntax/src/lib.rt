@@ -3,6 +3,7 @@
 
 mod decl;
 mod expr;
+pub mod given;
 mod id;
 mod item;
 mod print;

@@ -1,27 +1,27 @@
 -- The functions of a body: of an atomic model, or of the executive of a network.
 use Rattle.std.specs.Prelude.{ℕ, ◌+◌, ◌^◌, nat_lt, ℤ, pos, negsuc, Bool, if◌then◌else◌, List, [], ◌∷◌, ◌++◌, length, map, take, drop, Option, Some, None, Result, Ok, Err}
 use Rattle.std.specs.List.{list_any}
-use Rattle.dsde_syntax.specs.declared.decl.Model.{Model}
-use Rattle.dsde_syntax.specs.declared.decl.Phase.{Phase}
-use Rattle.dsde_syntax.specs.declared.decl.StateDecl.{StateDecl}
-use Rattle.dsde_values.specs.declared.arrival.Item.{Item}
-use Rattle.dsde_values.specs.declared.types.Field.{Field}
-use Rattle.dsde_values.specs.declared.value.Value.{Value}
-use Rattle.dsde_values.specs.declared.value.Value.TheVariants as value
-use Rattle.dsde_values.specs.declared.when.When.{When}
-use Rattle.dsde_values.specs.declared.when.When.TheVariants.{At, Never}
-use Rattle.dsde_faults.specs.declared.kind.FaultKind.TheVariants.{NegativeAdvance, TimeTooFar, RangeTooLong}
-use Rattle.dsde_faults.specs.declared.kind.Site.{Site}
-use Rattle.dsde_faults.specs.declared.kind.Site.TheVariants as site
-use Rattle.dsde_faults.specs.declared.end.LeafEnd.{LeafEnd}
-use Rattle.dsde_faults.specs.declared.end.LeafEnd.TheVariants as leaf_end
-use Rattle.dsde_declared.specs.Names.{elapsed_name}
-use Rattle.dsde_eval_meaning.specs.Outcome.{Fault, Stuck, Outcome, ◌>>=◌, int_of, option_of}
-use Rattle.dsde_eval_meaning.specs.Meaning.{Vars, Scene, scene, with_var}
-use Rattle.dsde_eval_meaning.specs.Flow.{lifted}
-use Rattle.dsde_eval_meaning.specs.Typed.{values_in}
-use Rattle.dsde_declared.specs.Models.{Own, body_ins, body_outs, param_slots, state_slots}
-use Rattle.dsde_eval_meaning.specs.Functions.{mean_of, block_of}
+use Rattle.dsde_sound_expressions.specs.given.syntax.decl_Model.{Model}
+use Rattle.dsde_sound_expressions.specs.given.syntax.decl_Phase.{Phase}
+use Rattle.dsde_sound_expressions.specs.given.syntax.decl_StateDecl.{StateDecl}
+use Rattle.dsde_executive_plans.specs.given.values.arrival_Item.{Item}
+use Rattle.dsde_executive_plans.specs.given.values.types_Field.{Field}
+use Rattle.dsde_executive_plans.specs.given.values.value_Value.{Value}
+use Rattle.dsde_executive_plans.specs.given.values.value_Value_TheVariants as value
+use Rattle.dsde_executive_plans.specs.given.values.when_When.{When}
+use Rattle.dsde_executive_plans.specs.given.values.when_When_TheVariants.{At, Never}
+use Rattle.dsde_sound_expressions.specs.given.faults.kind_FaultKind_TheVariants.{NegativeAdvance, TimeTooFar, RangeTooLong}
+use Rattle.dsde_sound_expressions.specs.given.faults.kind_Site.{Site}
+use Rattle.dsde_sound_expressions.specs.given.faults.kind_Site_TheVariants as site
+use Rattle.dsde_sound_expressions.specs.given.faults.end_LeafEnd.{LeafEnd}
+use Rattle.dsde_sound_expressions.specs.given.faults.end_LeafEnd_TheVariants as leaf_end
+use Rattle.dsde_sound_expressions.specs.given.language.Names.{elapsed_name}
+use Rattle.dsde_sound_expressions.specs.given.language.Outcome.{Fault, Stuck, Outcome, ◌>>=◌, int_of, option_of}
+use Rattle.dsde_sound_expressions.specs.given.language.Meaning.{Vars, Scene, scene, with_var}
+use Rattle.dsde_sound_expressions.specs.given.language.Flow.{lifted}
+use Rattle.dsde_sound_expressions.specs.given.language.Typed.{values_in}
+use Rattle.dsde_sound_expressions.specs.given.language.DeclaredModels.{Own, body_ins, body_outs, param_slots, state_slots}
+use Rattle.dsde_sound_expressions.specs.given.language.Functions.{mean_of, block_of}
 use Rattle.dsde_formalism.specs.System.{State, Ports}
 use Rattle.dsde_formalism.specs.Leaf as formalism
 

@@ -1,20 +1,20 @@
 -- What fits a program: arguments, components, what comes to them and what they send.
 use Rattle.std.specs.Prelude.{◌≡◌, ℕ, ◌<◌, List, [], ◌∷◌, length, Some, Result, Ok, Err, slice_get}
-use Rattle.dsde_syntax.specs.declared.decl.Model.{Model}
-use Rattle.dsde_values.specs.declared.arrival.Item.{Item}
-use Rattle.dsde_values.specs.declared.types.Field.{Field}
-use Rattle.dsde_values.specs.declared.types.Ty.{Ty}
-use Rattle.dsde_values.specs.declared.types.Types.{Types}
-use Rattle.dsde_values.specs.declared.value.Value.{Value}
-use Rattle.dsde_values.specs.declared.when.When.{When}
-use Rattle.dsde_values.specs.declared.when.When.TheVariants.{At, Never}
-use Rattle.dsde_values.specs.When.{IsMoment}
-use Rattle.dsde_faults.specs.declared.end.LeafEnd.{LeafEnd}
-use Rattle.dsde_faults.specs.declared.end.LeafEnd.TheVariants as leaf_end
-use Rattle.dsde_declared.specs.declared.ids.ModelId.{ModelId}
-use Rattle.dsde_declared.specs.Models.{types_of, Own, owns_of, param_slots, state_slots, body_ins, body_outs}
-use Rattle.dsde_program_nodes.specs.Models.{infos_of}
-use Rattle.dsde_eval_meaning.specs.Typed.{Typed, AllSent}
+use Rattle.dsde_sound_expressions.specs.given.syntax.decl_Model.{Model}
+use Rattle.dsde_executive_plans.specs.given.values.arrival_Item.{Item}
+use Rattle.dsde_executive_plans.specs.given.values.types_Field.{Field}
+use Rattle.dsde_executive_plans.specs.given.values.types_Ty.{Ty}
+use Rattle.dsde_executive_plans.specs.given.values.types_Types.{Types}
+use Rattle.dsde_executive_plans.specs.given.values.value_Value.{Value}
+use Rattle.dsde_executive_plans.specs.given.values.when_When.{When}
+use Rattle.dsde_executive_plans.specs.given.values.when_When_TheVariants.{At, Never}
+use Rattle.dsde_executive_plans.specs.given.values.When.{IsMoment}
+use Rattle.dsde_sound_expressions.specs.given.faults.end_LeafEnd.{LeafEnd}
+use Rattle.dsde_sound_expressions.specs.given.faults.end_LeafEnd_TheVariants as leaf_end
+use Rattle.dsde_sound_expressions.specs.given.language.ids_ModelId.{ModelId}
+use Rattle.dsde_sound_expressions.specs.given.language.DeclaredModels.{types_of, Own, owns_of, param_slots, state_slots, body_ins, body_outs}
+use Rattle.dsde_sound_expressions.specs.given.language.NodeModels.{infos_of}
+use Rattle.dsde_sound_expressions.specs.given.language.Typed.{Typed, AllSent}
 use Rattle.dsde_formalism.specs.declared.leaf.Leaf.{Leaf}
 use Rattle.dsde_formalism.specs.System.{Ports, Chosen}
 

@@ -1,31 +1,31 @@
 -- What fits a network: its plans, and what its links carry from.
 use Rattle.std.specs.Prelude.{◌≡◌, ℕ, Bool, true, false, not, is_some, List, [], ◌∷◌, Option, Some, None, slice_get}
 use Rattle.std.specs.List.{AllByRecursion, Contains}
-use Rattle.dsde_values.specs.Path.{EXEC}
-use Rattle.dsde_syntax.specs.declared.decl.Model.{Model}
-use Rattle.dsde_syntax.specs.declared.item.ViaKey.{ViaKey}
-use Rattle.dsde_syntax.specs.declared.item.ViaPart.{ViaPart}
-use Rattle.dsde_values.specs.declared.name.Name.{Name}
-use Rattle.dsde_values.specs.declared.types.Field.{Field}
-use Rattle.dsde_values.specs.declared.types.Ty.{Ty}
-use Rattle.dsde_values.specs.declared.types.Types.{Types}
-use Rattle.dsde_values.specs.declared.value.Value.{Value}
-use Rattle.dsde_declared.specs.Models.{whole_of, types_of, port_fields, Own, owns_of}
-use Rattle.dsde_structure.specs.declared.plan.End.{End}
-use Rattle.dsde_structure.specs.declared.plan.Entry.{Entry}
-use Rattle.dsde_structure.specs.declared.plan.Link.{Link}
-use Rattle.dsde_structure.specs.declared.plan.Part.{Part}
-use Rattle.dsde_structure.specs.declared.plan.Part.TheVariants as part
-use Rattle.dsde_structure.specs.declared.plan.Plan.{Plan}
-use Rattle.dsde_structure.specs.declared.plan.Via.{Via}
-use Rattle.dsde_structure.specs.declared.sources.Given.{Given}
-use Rattle.dsde_structure.specs.declared.sources.Sources.{Sources}
-use Rattle.dsde_structure.specs.Gather.{Ports}
-use Rattle.dsde_structure.specs.Gather.{is_same_name}
-use Rattle.dsde_structure.specs.Survival.{IsInOrder}
-use Rattle.dsde_eval_meaning.specs.Typed.{Typed}
-use Rattle.dsde_declared.specs.Structures.{vias_of}
-use Rattle.dsde_sound_places.specs.Conditions.{IsVia}
+use Rattle.dsde_executive_plans.specs.given.values.Path.{EXEC}
+use Rattle.dsde_sound_expressions.specs.given.syntax.decl_Model.{Model}
+use Rattle.dsde_sound_expressions.specs.given.syntax.item_ViaKey.{ViaKey}
+use Rattle.dsde_sound_expressions.specs.given.syntax.item_ViaPart.{ViaPart}
+use Rattle.dsde_executive_plans.specs.given.values.name_Name.{Name}
+use Rattle.dsde_executive_plans.specs.given.values.types_Field.{Field}
+use Rattle.dsde_executive_plans.specs.given.values.types_Ty.{Ty}
+use Rattle.dsde_executive_plans.specs.given.values.types_Types.{Types}
+use Rattle.dsde_executive_plans.specs.given.values.value_Value.{Value}
+use Rattle.dsde_sound_expressions.specs.given.language.DeclaredModels.{whole_of, types_of, port_fields, Own, owns_of}
+use Rattle.dsde_executive_plans.specs.given.structure.plan_End.{End}
+use Rattle.dsde_executive_plans.specs.given.structure.plan_Entry.{Entry}
+use Rattle.dsde_executive_plans.specs.given.structure.plan_Link.{Link}
+use Rattle.dsde_executive_plans.specs.given.structure.plan_Part.{Part}
+use Rattle.dsde_executive_plans.specs.given.structure.plan_Part_TheVariants as part
+use Rattle.dsde_executive_plans.specs.given.structure.plan_Plan.{Plan}
+use Rattle.dsde_executive_plans.specs.given.structure.plan_Via.{Via}
+use Rattle.dsde_executive_plans.specs.given.structure.sources_Given.{Given}
+use Rattle.dsde_executive_plans.specs.given.structure.sources_Sources.{Sources}
+use Rattle.dsde_executive_plans.specs.given.structure.Gather.{Ports}
+use Rattle.dsde_executive_plans.specs.given.structure.Gather.{is_same_name}
+use Rattle.dsde_executive_plans.specs.given.structure.Survival.{IsInOrder}
+use Rattle.dsde_sound_expressions.specs.given.language.Typed.{Typed}
+use Rattle.dsde_sound_expressions.specs.given.language.DeclaredStructures.{vias_of}
+use Rattle.dsde_sound_expressions.specs.Conditions.{IsVia}
 use Rattle.dsde_system.specs.Fitting.{AreOf, FitsArgs}
 
 -- the out ports or the in ports of a model, as those see them that link to it, and those of its body

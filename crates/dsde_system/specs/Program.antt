@@ -1,25 +1,25 @@
 -- The meaning of a program: a tuple for each of its models and arguments.
 use Rattle.std.specs.Prelude.{ℕ, true, false, List, [], ◌∷◌, ◌++◌, length, Option, Some, None, Ok, Err, slice_get, unwrap_or}
 use Rattle.std.specs.Option.{option_map_or}
-use Rattle.dsde_syntax.specs.declared.expr.Expr.{Expr}
-use Rattle.dsde_syntax.specs.declared.decl.Model.{Model}
-use Rattle.dsde_syntax.specs.declared.item.Item.{Item}
-use Rattle.dsde_syntax.specs.declared.item.ViaKey.{ViaKey}
-use Rattle.dsde_syntax.specs.declared.item.ViaPart.{ViaPart}
-use Rattle.dsde_values.specs.declared.value.Value.{Value}
-use Rattle.dsde_faults.specs.declared.kind.Site.TheVariants as site
-use Rattle.dsde_faults.specs.declared.end.LeafEnd.TheVariants as leaf_end
-use Rattle.dsde_declared.specs.Models.{top_number, whole_of, port_fields, Own, owns_of, top_in, body_ins, body_outs}
-use Rattle.dsde_declared.specs.Structures.{place_of_items, structures_of, vias_of, first_via}
-use Rattle.dsde_structure.specs.declared.plan.Plan.{Plan}
-use Rattle.dsde_structure.specs.declared.plan.Via.{Via}
-use Rattle.dsde_eval_meaning.specs.Functions.{functions_of, mean_of}
-use Rattle.dsde_eval_meaning.specs.Meaning.{Vars}
-use Rattle.dsde_eval_meaning.specs.Outcome.{Outcome, ◌>>=◌, option_of, present}
+use Rattle.dsde_sound_expressions.specs.given.syntax.expr_Expr.{Expr}
+use Rattle.dsde_sound_expressions.specs.given.syntax.decl_Model.{Model}
+use Rattle.dsde_sound_expressions.specs.given.syntax.item_Item.{Item}
+use Rattle.dsde_sound_expressions.specs.given.syntax.item_ViaKey.{ViaKey}
+use Rattle.dsde_sound_expressions.specs.given.syntax.item_ViaPart.{ViaPart}
+use Rattle.dsde_executive_plans.specs.given.values.value_Value.{Value}
+use Rattle.dsde_sound_expressions.specs.given.faults.kind_Site_TheVariants as site
+use Rattle.dsde_sound_expressions.specs.given.faults.end_LeafEnd_TheVariants as leaf_end
+use Rattle.dsde_sound_expressions.specs.given.language.DeclaredModels.{top_number, whole_of, port_fields, Own, owns_of, top_in, body_ins, body_outs}
+use Rattle.dsde_sound_expressions.specs.given.language.DeclaredStructures.{place_of_items, structures_of, vias_of, first_via}
+use Rattle.dsde_executive_plans.specs.given.structure.plan_Plan.{Plan}
+use Rattle.dsde_executive_plans.specs.given.structure.plan_Via.{Via}
+use Rattle.dsde_sound_expressions.specs.given.language.Functions.{functions_of, mean_of}
+use Rattle.dsde_sound_expressions.specs.given.language.Meaning.{Vars}
+use Rattle.dsde_sound_expressions.specs.given.language.Outcome.{Outcome, ◌>>=◌, option_of, present}
 use Rattle.dsde_executive_plans.specs.Layout as layout
 use Rattle.dsde_formalism.specs.System.{State, Component, Network, System, Chosen}
 use Rattle.dsde_system.specs.Body.{at_site, inits_from, vars_of, body_vars, due, sends, internal, external, confluent}
-use Rattle.dsde_declared.specs.Models as bodies
+use Rattle.dsde_sound_expressions.specs.given.language.DeclaredModels as bodies
 
 -- an atomic model with arguments, or the executive of a network
 abbrev pub component : Model → Own → List Value → Component

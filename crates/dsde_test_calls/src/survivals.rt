@@ -3,7 +3,7 @@
 use crate::memory::ample;
 use crate::names::name_of;
 use anyhow::{Context, Result};
-use dsde_declared::ModelId;
+use dsde_language::ModelId;
 use dsde_structure::{Entry, survives};
 use dsde_test_data::{Value, check_names, items_at, number_at, numbers_at};
 use dsde_values::{Seq, Value as Argument};

@@ -1,9 +1,9 @@
 //! What is noted of statuses by themselves.
 
 use anyhow::{Result, anyhow};
-use dsde_check_rules::WrongKind;
 use dsde_cli::{Refusal, SaveFault, Status, What, report};
 use dsde_io::{MemorySink, Sink};
+use dsde_language::WrongKind;
 use dsde_values::{Path, Seq, Text};
 use std::str;
 

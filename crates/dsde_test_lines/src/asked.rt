@@ -2,15 +2,11 @@
 //!
 //! What is made of a model is not dropped: the program ends soon.
 
-ghost use Rattle.dsde_check_rules.specs.Right.{IsRight};
+ghost use Rattle.dsde_language.specs.Right.{IsRight};
 
-use crate::large::append_large;
 use crate::lines::{append_changed, append_event};
-use crate::turns::append_turns;
 use dsde_cli_verdict::read_model;
-use dsde_lexer::{Places, lex};
 use dsde_program::{Program, resolve};
-use dsde_run::Running;
 use dsde_syntax::Model;
 use dsde_values::Memory;
 use std::alloc::Global;
@@ -22,7 +18,7 @@ pub(crate) fn answers(alloc: Global, file: &str) -> Result<String, Memory> {
     let (text, asked) = file.split_once("\n\n").unwrap_or((file, ""));
     let read = read_model(alloc, text.as_bytes());
     let appended = match &read {
-        Ok(model) => append_answers(alloc, &mut answers, model, text.as_bytes(), asked),
+        Ok(model) => append_answers(alloc, &mut answers, model, asked),
         Err(_) => append_line(&mut answers, "a model that is not accepted"),
     };
     mem::forget(read);
@@ -32,19 +28,18 @@ pub(crate) fn answers(alloc: Global, file: &str) -> Result<String, Memory> {
     }
 }
 
-/// Appends what comes of the lines behind a model, which has this text.
+/// Appends what comes of the lines behind a model.
 fn append_answers(
     alloc: Global,
     answers: &mut String,
     model: &Model,
-    text: &[u8],
     asked: &str,
 ) -> Result<(), Memory>
     requires { IsRight model.now }
 {
     let program = resolve(alloc, model);
     let appended = match &program {
-        Ok(program) => append_over(alloc, answers, program, text, asked),
+        Ok(program) => append_over(alloc, answers, program, asked),
         Err(Memory) => Err(Memory),
     };
     mem::forget(program);
@@ -52,30 +47,16 @@ fn append_answers(
 }
 
 /// Appends what comes of lines over a program.
-fn append_over<'p>(
+fn append_over(
     alloc: Global,
     answers: &mut String,
-    program: &'p Program<'p>,
-    text: &[u8],
+    program: &Program,
     asked: &str,
 ) -> Result<(), Memory> {
-    let places = places_of(alloc, text)?;
-    let own = Running::new(program, &places);
     for line in asked.lines() {
-        append_answer(alloc, answers, line, &own)?;
+        append_answer(alloc, answers, line, program)?;
     }
     Ok(())
-}
-
-/// The places of a text that has tokens.
-fn places_of(alloc: Global, text: &[u8]) -> Result<Places, Memory> {
-    let tokens = lex(alloc, text);
-    let places = match &tokens {
-        Ok(tokens) => Places::new(alloc, text, tokens.as_slice()),
-        Err(_) => Err(Memory),
-    };
-    mem::forget(tokens);
-    places
 }
 
 /// Appends what comes of a line.
@@ -83,20 +64,18 @@ fn append_answer(
     alloc: Global,
     answers: &mut String,
     line: &str,
-    own: &Running<'_>,
+    program: &Program,
 ) -> Result<(), Memory> {
     let (word, rest) = line.split_once(' ').unwrap_or((line, ""));
     match word {
-        "event" => append_event(alloc, answers, rest, own.program()),
-        "changed" => append_changed(alloc, answers, rest, own.program()),
-        "run" => append_turns(alloc, answers, rest, own),
-        "big" => append_large(alloc, answers, rest),
+        "event" => append_event(alloc, answers, rest, program),
+        "changed" => append_changed(alloc, answers, rest, program),
         _ => append_line(answers, line),
     }
 }
 
 /// Appends a line as it stands.
-pub(crate) fn append_line(answers: &mut String, line: &str) -> Result<(), Memory> {
+fn append_line(answers: &mut String, line: &str) -> Result<(), Memory> {
     answers.push_str(line)?;
     answers.push('\n')?;
     Ok(())

@@ -1,5 +1,4 @@
-//! `dsde_test_lines`: reads lines of traces back into events and writes these again, takes turns of models
-//! over inputs in memory, and writes what comes of it.
+//! `dsde_test_lines`: reads lines of traces back into events and writes these again.
 //!
 //! The words after the program's name are names of files. Each has the text of a model, then an empty
 //! line, and behind it lines that ask for something; others are written as they stand. `|` in them stands
@@ -8,16 +7,10 @@
 //! - `event LINE`: the line that is written of the event whose line that is, behind the numbers of its
 //!   model and its port; or that it is the line of none.
 //! - `changed LINE`: how many of its bytes can be replaced by a tilde so that it still is a line.
-//! - `run TURNS LARGEST READ WRITE INPUT`: how the turns of a run end, at most so many, after how many
-//!   reads, and their trace, over an input that is read in pieces of at most `LARGEST` bytes. The read and
-//!   the write of these numbers, counted from 1, fail. The lines of the start are not among the trace's.
-//! - `big SEED`: the last line of the large model of a seed.
 #![tactic(auto)]
 
 mod asked;
-mod large;
 mod lines;
-mod turns;
 
 use asked::answers;
 use dsde_values::Memory;

@@ -1,13 +1,13 @@
 //! What differs between two engines of a model.
 
-ghost use Rattle.dsde_check_rules.specs.Right.{IsRight};
+ghost use Rattle.dsde_language.specs.Right.{IsRight};
 
 use crate::outcome::{Outcome, by_grove, by_walking};
 use crate::table::Table;
 use dsde_cli_verdict::read_model;
 use dsde_lexer::{Places, lex};
+use dsde_plain::given::run::Running;
 use dsde_program::resolve;
-use dsde_run::Running;
 use dsde_syntax::Model;
 use dsde_values::Memory;
 use std::alloc::Global;

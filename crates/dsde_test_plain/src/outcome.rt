@@ -1,8 +1,8 @@
 //! Runs over memory, by two engines.
 
 use dsde_io::{SureSink, SureSource};
+use dsde_plain::given::run::{Running, run_leaving, run_started};
 use dsde_plain::{Plain, Sim};
-use dsde_run::{Running, run_leaving, run_started};
 use dsde_trace::Pick;
 use dsde_values::{Memory, Seq, Text};
 use std::alloc::Global;

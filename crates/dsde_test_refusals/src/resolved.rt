@@ -1,11 +1,10 @@
 //! What an accepted model is resolved to: a line for each thing that has a number.
 
-ghost use Rattle.dsde_check_rules.specs.Right.{IsRight};
+ghost use Rattle.dsde_language.specs.Right.{IsRight};
 
 use anyhow::{Result, bail};
-use dsde_declared::{ModelId, ViaId};
+use dsde_language::{BlockId, ExprId, ModelId, ViaId};
 use dsde_program::{Program, resolve};
-use dsde_program_nodes::{BlockId, ExprId};
 use dsde_syntax::Model;
 use std::alloc::Global;
 

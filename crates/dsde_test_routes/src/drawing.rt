@@ -2,7 +2,7 @@
 
 use crate::change::Change;
 use dsde_bank::Handle;
-use dsde_declared::ViaId;
+use dsde_language::ViaId;
 use dsde_lists::{Boxed, Memory, Stem};
 use dsde_routes_wiring::{Links, WiredKid, Wiring};
 use dsde_structure::{End, Link, Part, Via};

@@ -4,7 +4,7 @@ use crate::change::{Change, make};
 use crate::rows::{copy_row, show};
 use dsde_bank::Handle;
 use dsde_base::Steps;
-use dsde_declared::ViaId;
+use dsde_language::ViaId;
 use dsde_lists::{Boxed, Memory, Stem};
 use dsde_repair_fitting::add_handles;
 use dsde_routes::build;

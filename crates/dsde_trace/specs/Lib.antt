@@ -1,3 +1,4 @@
 pub mod Count
 pub mod Pick
 pub mod Text
+pub mod given

@@ -1,8 +1,8 @@
 -- Which lines of a trace a selection keeps.
 use Rattle.std.specs.Prelude.{ℕ, Bool, true, false, if◌then◌else◌, List, [], flat_map}
 use Rattle.dsde_syntax.specs.declared.decl.Model.{Model}
-use Rattle.dsde_sim_events.specs.declared.event.Event.{Event}
-use Rattle.dsde_sim_events.specs.declared.event.Event.TheVariants.{AddNet, AddLeaf, Turn, Out, Drop, Finish}
+use Rattle.dsde_sim_tree.specs.declared.event.Event.{Event}
+use Rattle.dsde_sim_tree.specs.declared.event.Event.TheVariants.{AddNet, AddLeaf, Turn, Out, Drop, Finish}
 use Rattle.dsde_trace.specs.declared.pick.Pick.{Pick}
 use Rattle.dsde_trace.specs.declared.pick.Pick.TheVariants.{All, Outputs, Structure}
 use Rattle.dsde_trace.specs.Text.{event_text}

@@ -13,17 +13,17 @@ use Rattle.dsde_faults.specs.declared.kind.FaultKind.{FaultKind}
 use Rattle.dsde_faults.specs.declared.kind.FaultKind.TheVariants as kind
 use Rattle.dsde_faults.specs.declared.kind.Site.{Site}
 use Rattle.dsde_faults.specs.declared.kind.Site.TheVariants as site
-use Rattle.dsde_formalism.specs.declared.leaf.MoveKind.{MoveKind}
-use Rattle.dsde_formalism.specs.declared.leaf.MoveKind.TheVariants as move
-use Rattle.dsde_declared.specs.declared.ids.ModelId.{ModelId}
-use Rattle.dsde_declared.specs.Models.{Own, body_ins, own_at, state_slots, top_outs, types_of}
-use Rattle.dsde_sim_events.specs.declared.event.Event.{Event}
-use Rattle.dsde_sim_events.specs.declared.event.Event.TheVariants.{AddNet, AddLeaf, Turn, Out, Get, Move, Drop, Finish}
-use Rattle.dsde_sim_events.specs.declared.event.Finish as finish
-use Rattle.dsde_sim_events.specs.declared.event.Finish.TheVariants as how
-use Rattle.dsde_sim_events.specs.declared.event.InputKind.{InputKind}
-use Rattle.dsde_sim_events.specs.declared.event.InputKind.TheVariants.{BadLine, Backwards, LineTooLong}
-use Rattle.dsde_sim_events.specs.declared.fault.Fault.{Fault}
+use Rattle.dsde_sim_tree.specs.given.formalism.leaf_MoveKind.{MoveKind}
+use Rattle.dsde_sim_tree.specs.given.formalism.leaf_MoveKind_TheVariants as move
+use Rattle.dsde_language.specs.declared.ids.ModelId.{ModelId}
+use Rattle.dsde_language.specs.DeclaredModels.{Own, body_ins, own_at, state_slots, top_outs, types_of}
+use Rattle.dsde_sim_tree.specs.declared.event.Event.{Event}
+use Rattle.dsde_sim_tree.specs.declared.event.Event.TheVariants.{AddNet, AddLeaf, Turn, Out, Get, Move, Drop, Finish}
+use Rattle.dsde_sim_tree.specs.declared.event.Finish as finish
+use Rattle.dsde_sim_tree.specs.declared.event.Finish.TheVariants as how
+use Rattle.dsde_sim_tree.specs.declared.event.InputKind.{InputKind}
+use Rattle.dsde_sim_tree.specs.declared.event.InputKind.TheVariants.{BadLine, Backwards, LineTooLong}
+use Rattle.dsde_sim_tree.specs.declared.fault.Fault.{Fault}
 
 -- the name of the model with this number, where there is one
 abbrev pub model_text : Model → ModelId → List ℕ

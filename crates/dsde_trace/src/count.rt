@@ -3,7 +3,7 @@
 ghost use Rattle.std.specs.Prelude.{◌≡◌};
 ghost use Rattle.dsde_trace.specs.Count.{counted, HasRoom};
 
-use dsde_sim_events::Event;
+use dsde_sim_tree::Event;
 
 /// How many events of each kind a trace has. Executives are counted as parts that start.
 #[derive(Clone, Copy, Debug, PartialEq, Eq)]

@@ -3,7 +3,7 @@
 ghost use Rattle.std.specs.Prelude.{◌≡◌};
 ghost use Rattle.dsde_trace.specs.Pick.{picked};
 
-use dsde_sim_events::Event;
+use dsde_sim_tree::Event;
 
 /// Which lines of a trace are kept.
 #[derive(Clone, Copy, Debug, PartialEq, Eq)]

@@ -3,19 +3,18 @@
 ghost use Rattle.std.specs.Prelude.{◌≡◌, ◌++◌, length, map, take, codes, decimal, option_copied, OnOk, OnErr};
 ghost use Rattle.dsde_values.specs.Path.{path_text};
 ghost use Rattle.dsde_values.specs.Value.{spelling, joined, field_texts};
-ghost use Rattle.dsde_sim_events.specs.declared.event.Event.TheVariants as event;
-ghost use Rattle.dsde_declared.specs.Models.{own_at, top_outs};
-ghost use Rattle.dsde_program_declared.specs.Declared.{Declares};
+ghost use Rattle.dsde_sim_tree.specs.declared.event.Event.TheVariants as event;
+ghost use Rattle.dsde_language.specs.DeclaredModels.{own_at, top_outs};
+ghost use Rattle.dsde_program.specs.given.program_layout.Declared.{Declares};
 ghost use Rattle.dsde_trace.specs.Text.{event_text, end_text, finish_text, fault_text, settled_text, passed_text, port_text, move_text, input_text, site_text, kind_text, model_text, states_at, ins_at};
 
-use dsde_declared::ModelId;
 use dsde_faults::{FaultKind, Site};
-use dsde_formalism::MoveKind;
+use dsde_language::{Info, ModelId};
 use dsde_lists::append_decimal;
 use dsde_program::Program;
-use dsde_program_declared::infos_are_declared;
-use dsde_program_nodes::Info;
-use dsde_sim_events::{Event, Fault, Finish, InputKind};
+use dsde_program::given::program_layout::infos_are_declared;
+use dsde_sim_tree::given::formalism::MoveKind;
+use dsde_sim_tree::{Event, Fault, Finish, InputKind};
 use dsde_values::{
     Field, Memory, Path, Text, Types, Value, When, write_fields, write_path, write_value,
 };

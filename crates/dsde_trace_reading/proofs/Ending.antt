@@ -6,9 +6,9 @@ use Rattle.dsde_values.specs.Path.{IsPath, path_text}
 use Rattle.dsde_values.specs.declared.path.Path.{Path}
 use Rattle.dsde_faults.specs.declared.kind.FaultKind.{FaultKind}
 use Rattle.dsde_faults.specs.declared.kind.Site.{Site}
-use Rattle.dsde_sim_events.specs.declared.event.Finish as finish
-use Rattle.dsde_sim_events.specs.declared.event.Finish.TheVariants as how
-use Rattle.dsde_sim_events.specs.declared.event.InputKind.{InputKind}
+use Rattle.dsde_sim_tree.specs.declared.event.Finish as finish
+use Rattle.dsde_sim_tree.specs.declared.event.Finish.TheVariants as how
+use Rattle.dsde_sim_tree.specs.declared.event.InputKind.{InputKind}
 use Rattle.dsde_trace.specs.Text.{input_text}
 use Rattle.dsde_trace_words.specs.Words.{Finds, IsAny, NoneBefore, Pairs, Spells}
 use Rattle.dsde_trace_words.specs.declared.names.Ending.{Ending}

@@ -9,11 +9,11 @@ use Rattle.dsde_values.specs.declared.value.Value.{Value}
 use Rattle.dsde_values.specs.declared.when.When.{When}
 use Rattle.dsde_values.specs.declared.when.When.TheVariants.{At, Never}
 use Rattle.std.specs.Prelude.{map}
-use Rattle.dsde_declared.specs.Models.{top_outs, types_of}
-use Rattle.dsde_sim_events.specs.declared.event.Event.{Event}
-use Rattle.dsde_sim_events.specs.declared.event.Event.TheVariants.{AddNet, AddLeaf, Turn, Out, Get, Move, Drop, Finish}
-use Rattle.dsde_sim_events.specs.declared.event.Finish as finish
-use Rattle.dsde_sim_events.specs.declared.event.Finish.TheVariants as how
+use Rattle.dsde_language.specs.DeclaredModels.{top_outs, types_of}
+use Rattle.dsde_sim_tree.specs.declared.event.Event.{Event}
+use Rattle.dsde_sim_tree.specs.declared.event.Event.TheVariants.{AddNet, AddLeaf, Turn, Out, Get, Move, Drop, Finish}
+use Rattle.dsde_sim_tree.specs.declared.event.Finish as finish
+use Rattle.dsde_sim_tree.specs.declared.event.Finish.TheVariants as how
 use Rattle.dsde_trace.specs.Text as trace
 use Rattle.dsde_trace.specs.Text.{event_text, finish_text, input_text, ins_at, kind_text, model_text, move_text, port_text, site_text, states_at}
 use Rattle.dsde_trace_words.specs.Words.{passed_text, settled_text, when_text}

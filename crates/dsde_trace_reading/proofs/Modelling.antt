@@ -13,13 +13,13 @@ use Rattle.dsde_values.specs.declared.value.Value.{Value}
 use Rattle.dsde_values.specs.declared.when.When.{When}
 use Rattle.dsde_input_records.specs.Lines.{Lacks}
 use Rattle.dsde_input_parser.specs.lemmas.Cuts.{same_cut}
-use Rattle.dsde_check_rules.specs.Right.{IsRight}
-use Rattle.dsde_declared.specs.declared.ids.ModelId.{ModelId}
-use Rattle.dsde_declared.specs.Models.{Own, body_ins, own_at, own_outs, owns_of, state_slots, top_number, top_outs, types_of}
-use Rattle.dsde_program_declared.specs.Declared.{Declares, InfosAreDeclared, leaf_ins}
-use Rattle.dsde_program_nodes.specs.Models.{infos_of}
-use Rattle.dsde_program_nodes.specs.declared.info.Info.{Info}
-use Rattle.dsde_sound_inputs.specs.Lawful.{ModelsAreNamed, is_named_own}
+use Rattle.dsde_language.specs.Right.{IsRight}
+use Rattle.dsde_language.specs.declared.ids.ModelId.{ModelId}
+use Rattle.dsde_language.specs.DeclaredModels.{Own, body_ins, own_at, own_outs, owns_of, state_slots, top_number, top_outs, types_of}
+use Rattle.dsde_program_layout.specs.Declared.{Declares, InfosAreDeclared, leaf_ins}
+use Rattle.dsde_language.specs.NodeModels.{infos_of}
+use Rattle.dsde_language.specs.declared.info.Info.{Info}
+use Rattle.dsde_sound_structures.specs.Lawful.{ModelsAreNamed, is_named_own}
 use Rattle.dsde_trace.specs.Text.{ins_at, model_text, states_at}
 use Rattle.dsde_trace_words.specs.Words.{Finds, IsPassed, IsSettled, NoneBefore, Precedes, Spells, passed_text, settled_text}
 use Rattle.dsde_trace_words.specs.lemmas.Behind.{finds-as}

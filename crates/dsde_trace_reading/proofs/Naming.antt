@@ -10,8 +10,8 @@ use Rattle.dsde_faults.specs.declared.kind.Site.{Site}
 use Rattle.dsde_faults.specs.declared.kind.Site.TheVariants as site
 use Rattle.dsde_formalism.specs.declared.leaf.MoveKind.{MoveKind}
 use Rattle.dsde_formalism.specs.declared.leaf.MoveKind.TheVariants as move
-use Rattle.dsde_sim_events.specs.declared.event.InputKind.{InputKind}
-use Rattle.dsde_sim_events.specs.declared.event.InputKind.TheVariants as input
+use Rattle.dsde_sim_tree.specs.declared.event.InputKind.{InputKind}
+use Rattle.dsde_sim_tree.specs.declared.event.InputKind.TheVariants as input
 use Rattle.dsde_trace.specs.Text.{input_text, kind_text, move_text, site_text}
 use Rattle.dsde_trace_words.specs.Names.{ending_text, endings, fault_kinds, found_in, input_kinds, line_word_text, line_words, move_kinds, sites}
 use Rattle.dsde_trace_words.specs.Words.{Inverts, IsAny, Spells}

@@ -9,13 +9,13 @@ use Rattle.dsde_values.specs.declared.path.Path.{Path}
 use Rattle.dsde_values.specs.declared.value.Value.{Value}
 use Rattle.dsde_values.specs.declared.when.When.{When}
 use Rattle.dsde_formalism.specs.declared.leaf.MoveKind.{MoveKind}
-use Rattle.dsde_declared.specs.declared.ids.ModelId.{ModelId}
-use Rattle.dsde_declared.specs.Models.{top_outs, types_of}
+use Rattle.dsde_language.specs.declared.ids.ModelId.{ModelId}
+use Rattle.dsde_language.specs.DeclaredModels.{top_outs, types_of}
 use Rattle.dsde_input_records.specs.Lines.{Lacks}
 use Rattle.dsde_input_parser.specs.lemmas.Cuts.{no_cut, same_cut}
-use Rattle.dsde_sim_events.specs.declared.event.Event.{Event}
-use Rattle.dsde_sim_events.specs.declared.event.Event.TheVariants.{AddNet, AddLeaf, Turn, Out, Get, Move, Drop, Finish}
-use Rattle.dsde_sim_events.specs.declared.event.Finish as finish
+use Rattle.dsde_sim_tree.specs.declared.event.Event.{Event}
+use Rattle.dsde_sim_tree.specs.declared.event.Event.TheVariants.{AddNet, AddLeaf, Turn, Out, Get, Move, Drop, Finish}
+use Rattle.dsde_sim_tree.specs.declared.event.Finish as finish
 use Rattle.dsde_trace.specs.Text.{model_text, states_at}
 use Rattle.dsde_trace_words.specs.Names.{ending_text, line_word_text}
 use Rattle.dsde_trace_words.specs.Words.{Finds, Inverts, IsAny, IsCount, IsPassed, NoneBefore, Pairs, Precedes, Spells, is_executive, passed_text, settled_text}

@@ -4,12 +4,12 @@ use Rattle.std.specs.Option.{option_map}
 use Rattle.dsde_syntax.specs.declared.decl.Model.{Model}
 use Rattle.dsde_values.specs.Path.{IsPath}
 use Rattle.dsde_values.specs.declared.path.Path.{Path}
-use Rattle.dsde_declared.specs.declared.ids.ModelId.{ModelId}
-use Rattle.dsde_declared.specs.Models.{Own, own_at, top_outs, types_of}
-use Rattle.dsde_sim_events.specs.declared.event.Event.{Event}
-use Rattle.dsde_sim_events.specs.declared.event.Event.TheVariants.{AddNet, AddLeaf, Turn, Out, Get, Move, Drop, Finish}
-use Rattle.dsde_sim_events.specs.declared.event.Finish as finish
-use Rattle.dsde_sim_events.specs.declared.event.Finish.TheVariants as how
+use Rattle.dsde_language.specs.declared.ids.ModelId.{ModelId}
+use Rattle.dsde_language.specs.DeclaredModels.{Own, own_at, top_outs, types_of}
+use Rattle.dsde_sim_tree.specs.declared.event.Event.{Event}
+use Rattle.dsde_sim_tree.specs.declared.event.Event.TheVariants.{AddNet, AddLeaf, Turn, Out, Get, Move, Drop, Finish}
+use Rattle.dsde_sim_tree.specs.declared.event.Finish as finish
+use Rattle.dsde_sim_tree.specs.declared.event.Finish.TheVariants as how
 use Rattle.dsde_trace.specs.Text.{event_text, ins_at, states_at}
 use Rattle.dsde_trace_words.specs.Words.{IsCount, IsPassed, IsPlace, IsSettled, is_executive}
 

@@ -7,15 +7,15 @@ use Rattle.dsde_values.specs.declared.when.When.{When}
 use Rattle.dsde_faults.specs.declared.kind.FaultKind.{FaultKind}
 use Rattle.dsde_faults.specs.declared.kind.Site.{Site}
 use Rattle.dsde_formalism.specs.declared.leaf.MoveKind.{MoveKind}
-use Rattle.dsde_declared.specs.declared.ids.ModelId.{ModelId}
-use Rattle.dsde_declared.specs.Models.{top_outs, types_of}
-use Rattle.dsde_program_declared.specs.Declared.{leaf_ins}
-use Rattle.dsde_program_nodes.specs.declared.info.Info.{Info}
-use Rattle.dsde_sim_events.specs.declared.event.Event.{Event}
-use Rattle.dsde_sim_events.specs.declared.event.Event.TheVariants.{AddNet, AddLeaf, Turn, Out, Get, Move, Drop, Finish}
-use Rattle.dsde_sim_events.specs.declared.event.Finish as finish
-use Rattle.dsde_sim_events.specs.declared.event.Finish.TheVariants as how
-use Rattle.dsde_sim_events.specs.declared.event.InputKind.{InputKind}
+use Rattle.dsde_language.specs.declared.ids.ModelId.{ModelId}
+use Rattle.dsde_language.specs.DeclaredModels.{top_outs, types_of}
+use Rattle.dsde_program_layout.specs.Declared.{leaf_ins}
+use Rattle.dsde_language.specs.declared.info.Info.{Info}
+use Rattle.dsde_sim_tree.specs.declared.event.Event.{Event}
+use Rattle.dsde_sim_tree.specs.declared.event.Event.TheVariants.{AddNet, AddLeaf, Turn, Out, Get, Move, Drop, Finish}
+use Rattle.dsde_sim_tree.specs.declared.event.Finish as finish
+use Rattle.dsde_sim_tree.specs.declared.event.Finish.TheVariants as how
+use Rattle.dsde_sim_tree.specs.declared.event.InputKind.{InputKind}
 use Rattle.dsde_trace.specs.Text.{ins_at, input_text, kind_text, model_text, move_text, site_text, states_at}
 use Rattle.dsde_trace_words.specs.Names.{ending_text, line_word_text}
 use Rattle.dsde_trace_words.specs.Words.{Finds, IsAny, IsCount, IsPassed, IsPlace, IsSettled, Spells, passed_text, place_text, settled_text}

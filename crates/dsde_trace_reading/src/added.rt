@@ -5,10 +5,10 @@ ghost use Rattle.dsde_trace_words.specs.declared.names.LineWord.TheVariants as l
 ghost use Rattle.dsde_trace_reading.specs.Parts.{Reads};
 
 use crate::searches::{net_of, started_of};
-use dsde_declared::ModelId;
-use dsde_program::Program;
-use dsde_sim_events::Event;
-use dsde_sound_inputs::names_are_words;
+use dsde_language::ModelId;
+use dsde_sim_tree::Event;
+use dsde_sound_structures::names_are_words;
+use dsde_trace::given::program::Program;
 use dsde_trace_words::{cut, is_executive, path_of};
 use dsde_values::Memory;
 use std::alloc::Global;

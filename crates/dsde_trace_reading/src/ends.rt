@@ -10,7 +10,7 @@ ghost use Rattle.dsde_trace_reading.specs.Parts.{IsEnded, IsKinded, IsLined, IsP
 
 use crate::parts::times_of;
 use dsde_faults::{FaultKind, Site};
-use dsde_sim_events::{Event, Fault, Finish, InputKind};
+use dsde_sim_tree::{Event, Fault, Finish, InputKind};
 use dsde_trace_words::{
     Ending, behind, cut, ending_of, fault_kind_of, input_kind_of, number_of, path_of, place_of,
     site_of,

@@ -1,18 +1,17 @@
 //! What a program says of its models.
 
 ghost use Rattle.std.specs.Prelude.{◌≡◌, ◌<◌, ℕ, Bool, length};
-ghost use Rattle.dsde_declared.specs.Models.{top_outs, types_of};
-ghost use Rattle.dsde_program_nodes.specs.Models.{infos_of};
+ghost use Rattle.dsde_language.specs.DeclaredModels.{top_outs, types_of};
+ghost use Rattle.dsde_language.specs.NodeModels.{infos_of};
 ghost use Rattle.dsde_values.specs.Value.{IsLawful};
-ghost use Rattle.dsde_program_declared.specs.Declared.{leaf_ins};
+ghost use Rattle.dsde_program_layout.specs.Declared.{leaf_ins};
 ghost use Rattle.dsde_trace_reading.specs.Lines.{network_at};
 ghost use Rattle.dsde_trace_reading.specs.Parts.{IsTold, model_at};
 
-use dsde_declared::ModelId;
-use dsde_program::Program;
-use dsde_program_declared::infos_are_declared;
-use dsde_program_nodes::Info;
-use dsde_sound_inputs::{top_is_declared, types_are_lawful};
+use dsde_language::{Info, ModelId};
+use dsde_program_layout::infos_are_declared;
+use dsde_sound_structures::{top_is_declared, types_are_lawful};
+use dsde_trace::given::program::Program;
 use dsde_values::{Field, Types};
 
 /// What the model with a number declares.

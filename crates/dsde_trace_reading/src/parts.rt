@@ -9,9 +9,9 @@ ghost use Rattle.dsde_trace_reading.specs.Parts.{Reads, at_text};
 
 use crate::models::{outs_of, types_of};
 use crate::searches::{got_of, moved_of};
-use dsde_declared::ModelId;
-use dsde_program::Program;
-use dsde_sim_events::Event;
+use dsde_language::ModelId;
+use dsde_sim_tree::Event;
+use dsde_trace::given::program::Program;
 use dsde_trace_words::{behind, cut, is_executive, number_of, passed_of, path_of};
 use dsde_values::{Memory, Path};
 use std::alloc::Global;

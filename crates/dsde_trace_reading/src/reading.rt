@@ -1,7 +1,7 @@
 //! Lines, read back.
 
 ghost use Rattle.std.specs.Prelude.{◌≡◌, Err, IfOk};
-ghost use Rattle.dsde_sim_events.specs.declared.event.Event.{Event};
+ghost use Rattle.dsde_sim_tree.specs.declared.event.Event.{Event};
 ghost use Rattle.dsde_trace_words.specs.Words.{Finds};
 ghost use Rattle.dsde_trace_reading.specs.Lines.{ComesBefore, IsFirst, IsLine};
 ghost use Rattle.dsde_trace_reading.specs.Parts.{Reads};
@@ -10,8 +10,8 @@ ghost use Rattle.dsde_trace_reading.specs.declared.reading.ReadEvent.TheVariants
 use crate::added::read_add;
 use crate::ends::read_end;
 use crate::parts::{read_drop, read_get, read_move, read_out, read_turn};
-use dsde_program::Program;
-use dsde_sim_events::Event;
+use dsde_sim_tree::Event;
+use dsde_trace::given::program::Program;
 use dsde_trace_words::{LineWord, cut, line_word_of};
 use dsde_values::Memory;
 use std::alloc::Global;

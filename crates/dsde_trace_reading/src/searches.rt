@@ -2,15 +2,15 @@
 
 ghost use Rattle.std.specs.Prelude.{◌≡◌, ◌<◌, ◌↔◌, true, length, IfOk};
 ghost use Rattle.std.specs.Str.{bytes_eq};
-ghost use Rattle.dsde_program_nodes.specs.Models.{infos_of};
+ghost use Rattle.dsde_language.specs.NodeModels.{infos_of};
 ghost use Rattle.dsde_trace.specs.Text.{move_text};
 ghost use Rattle.dsde_trace_words.specs.Words.{Finds, IsAny, NoneBefore, Pairs, Precedes, Spells};
 ghost use Rattle.dsde_trace_reading.specs.Parts.{IsGot, IsNet, IsStarted, IsStateOf, got_text, net_text, state_text};
 
 use crate::models::{count_of, info_of, ins_of, types_of};
 use dsde_formalism::MoveKind;
-use dsde_program::Program;
-use dsde_program_nodes::Info;
+use dsde_language::Info;
+use dsde_trace::given::program::Program;
 use dsde_trace_words::{cut, move_kind_of, passed_of, settled_of};
 use dsde_values::{Memory, Value, Values, When};
 use std::alloc::Global;

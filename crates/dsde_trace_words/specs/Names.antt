@@ -8,8 +8,8 @@ use Rattle.dsde_faults.specs.declared.kind.Site.{Site}
 use Rattle.dsde_faults.specs.declared.kind.Site.TheVariants as site
 use Rattle.dsde_formalism.specs.declared.leaf.MoveKind.{MoveKind}
 use Rattle.dsde_formalism.specs.declared.leaf.MoveKind.TheVariants as move
-use Rattle.dsde_sim_events.specs.declared.event.InputKind.{InputKind}
-use Rattle.dsde_sim_events.specs.declared.event.InputKind.TheVariants as input
+use Rattle.dsde_sim_tree.specs.declared.event.InputKind.{InputKind}
+use Rattle.dsde_sim_tree.specs.declared.event.InputKind.TheVariants as input
 use Rattle.dsde_trace_words.specs.declared.names.Ending.{Ending}
 use Rattle.dsde_trace_words.specs.declared.names.Ending.TheVariants as ending
 use Rattle.dsde_trace_words.specs.declared.names.LineWord.{LineWord}

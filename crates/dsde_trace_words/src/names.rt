@@ -7,7 +7,7 @@ ghost use Rattle.dsde_trace_words.specs.Names.{endings, fault_kinds, found_in, i
 
 use dsde_faults::{FaultKind, Site};
 use dsde_formalism::MoveKind;
-use dsde_sim_events::InputKind;
+use dsde_sim_tree::InputKind;
 
 /// The word with which a line begins.
 #[derive(Clone, Copy, Debug, PartialEq, Eq)]

@@ -3,3 +3,4 @@ pub mod Reading
 pub mod Value
 pub mod When
 pub mod Word
+pub mod given

@@ -4,6 +4,7 @@
 
 mod arrival;
 mod decimal;
+pub mod given;
 mod lawful;
 mod laws;
 mod name;

@@ -4,8 +4,8 @@ use Rattle.std.specs.List.{flat_map, AllByRecursion}
 use Rattle.dsde_bank.specs.declared.handle.Handle.{Handle}
 use Rattle.dsde_values.specs.declared.name.Name.{Name}
 use Rattle.dsde_values.specs.declared.path.Path.{Path}
-use Rattle.dsde_structure.specs.Gather.{is_same_name}
-use Rattle.dsde_sim_events.specs.Told.{below}
+use Rattle.dsde_routes_wiring.specs.given.structure.Gather.{is_same_name}
+use Rattle.dsde_sim_tree.specs.Told.{below}
 use Rattle.dsde_routes_wiring.specs.declared.wiring.Wiring.{Wiring}
 use Rattle.dsde_routes_wiring.specs.declared.wiring.WiredKid.{WiredKid}
 use Rattle.dsde_routes_wiring.specs.declared.wiring.WiredKid.TheOpen.{Wiring-F, WiredKid-F}

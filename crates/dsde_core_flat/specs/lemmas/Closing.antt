@@ -8,11 +8,11 @@ use Rattle.dsde_values.specs.declared.name.Name.{Name}
 use Rattle.dsde_values.specs.declared.path.Path.{Path}
 use Rattle.dsde_values.specs.declared.value.Value.{Value}
 use Rattle.dsde_values.specs.Path.{root}
-use Rattle.dsde_declared.specs.declared.ids.ModelId.{ModelId}
-use Rattle.dsde_formalism.specs.declared.leaf.Leaf.{Leaf}
-use Rattle.dsde_structure.specs.declared.plan.Link.{Link}
+use Rattle.dsde_language.specs.declared.ids.ModelId.{ModelId}
+use Rattle.dsde_sim_tree.specs.given.formalism.leaf_Leaf.{Leaf}
+use Rattle.dsde_routes_wiring.specs.given.structure.plan_Link.{Link}
 use Rattle.dsde_values.specs.Path.{EXEC}
-use Rattle.dsde_sim_events.specs.Told.{to_boss}
+use Rattle.dsde_sim_tree.specs.Told.{to_boss}
 use Rattle.dsde_grove.specs.Grove as grove
 use Rattle.dsde_grove.specs.Grove.{Grove, spot, value_of, with_value}
 use Rattle.dsde_sim_tree.specs.declared.sim.Net.{Net}

@@ -6,7 +6,7 @@ use Rattle.std.specs.FinMap as finmap
 use Rattle.std.proofs.lemmas.List.{length-map}
 use Rattle.dsde_bank.specs.declared.handle.Handle.{Handle}
 use Rattle.dsde_values.specs.declared.when.When.TheVariants.{At}
-use Rattle.dsde_formalism.specs.declared.leaf.Leaf.{Leaf}
+use Rattle.dsde_sim_tree.specs.given.formalism.leaf_Leaf.{Leaf}
 use Rattle.dsde_grove.specs.Grove as grove
 use Rattle.dsde_grove.specs.Grove.{Grove, spot, value_of}
 use Rattle.dsde_core_flat.specs.declared.spot.Spot.{Spot}

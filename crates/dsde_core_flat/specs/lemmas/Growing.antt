@@ -8,8 +8,8 @@ use Rattle.dsde_bank.specs.declared.handle.Handle.{Handle}
 use Rattle.dsde_values.specs.declared.name.Name.{Name}
 use Rattle.dsde_values.specs.declared.path.Path.{Path}
 use Rattle.dsde_values.specs.Path.{EXEC}
-use Rattle.dsde_sim_events.specs.Told.{below}
-use Rattle.dsde_structure.specs.declared.plan.Entry.{Entry}
+use Rattle.dsde_sim_tree.specs.Told.{below}
+use Rattle.dsde_routes_wiring.specs.given.structure.plan_Entry.{Entry}
 use Rattle.dsde_grove.specs.Grove as grove
 use Rattle.dsde_grove.specs.Grove.{Grove, IsTree, IsKid, Grows, spot}
 use Rattle.dsde_sim_tree.specs.declared.sim.Kid.{Kid}

@@ -11,7 +11,7 @@ use Rattle.dsde_bank.specs.declared.handle.Handle.{Handle}
 use Rattle.dsde_values.specs.declared.when.When.{When}
 use Rattle.dsde_values.specs.declared.when.When.TheVariants.{At, Never}
 use Rattle.dsde_values.specs.Path.{root}
-use Rattle.dsde_formalism.specs.declared.leaf.Leaf.{Leaf}
+use Rattle.dsde_sim_tree.specs.given.formalism.leaf_Leaf.{Leaf}
 use Rattle.dsde_grove.specs.Grove as grove
 use Rattle.dsde_grove.specs.Grove.{Grove, spot, value_of}
 use Rattle.dsde_queue.specs.Queue.{Queue, IsOrdered, NoneBefore, TakesFirst, comes_before, first_of}
@@ -26,7 +26,7 @@ use Rattle.dsde_core_flat.specs.Stands.{is_net, StandsAt, HasBirth, StandsFor}
 use Rattle.dsde_core_flat.specs.lemmas.Keeping.{spot-got}
 use Rattle.dsde_core_flat.specs.lemmas.Groves.{spot-slot}
 use Rattle.dsde_core_flat.specs.lemmas.Live.{IsNext}
-use Rattle.dsde_formalism.specs.Leaf.{is_due}
+use Rattle.dsde_sim_tree.specs.given.formalism.Leaf.{is_due}
 use Rattle.dsde_core_flat.specs.Scheduled.{is_next, IsScheduled}
 use Rattle.dsde_core_flat.specs.lemmas.Least.{IsNotLater, HasNext, IsLate, tree-least}
 

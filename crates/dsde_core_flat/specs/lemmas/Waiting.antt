@@ -7,12 +7,12 @@ use Rattle.dsde_bank.specs.declared.handle.Handle.{Handle}
 use Rattle.dsde_values.specs.declared.path.Path.{Path}
 use Rattle.dsde_values.specs.declared.when.When.{When}
 use Rattle.dsde_values.specs.declared.when.When.TheVariants.{At, Never}
-use Rattle.dsde_formalism.specs.declared.leaf.Leaf.{Leaf}
+use Rattle.dsde_sim_tree.specs.given.formalism.leaf_Leaf.{Leaf}
 use Rattle.dsde_grove.specs.Grove as grove
 use Rattle.dsde_grove.specs.Grove.{Grove, IsTree, DropsSubtree, Grows, IsUnder, spot, value_of, with_value, in_slot}
-use Rattle.dsde_sim_events.specs.Told.{◌then◌}
+use Rattle.dsde_sim_tree.specs.Told.{◌then◌}
 use Rattle.dsde_queue.specs.Queue.{put, comes_before}
-use Rattle.dsde_sim_delivery.specs.lemmas.Events.{Among, among-from, contains-from}
+use Rattle.dsde_sim_movers.specs.lemmas.Events.{Among, among-from, contains-from}
 use Rattle.dsde_core_flat.specs.declared.spot.Spot.{Spot}
 use Rattle.dsde_core_flat.specs.declared.spot.Spot.TheVariants as variant
 use Rattle.dsde_core_flat.specs.Shown.{leaf_in}

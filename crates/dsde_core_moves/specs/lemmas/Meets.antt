@@ -6,27 +6,27 @@ use Rattle.dsde_bank.specs.declared.handle.Handle.{Handle}
 use Rattle.dsde_values.specs.declared.name.Name.{Name}
 use Rattle.dsde_values.specs.declared.path.Path.{Path}
 use Rattle.dsde_values.specs.Path.{root}
-use Rattle.dsde_formalism.specs.declared.leaf.Leaf.{Leaf}
-use Rattle.dsde_formalism.specs.declared.leaf.MoveKind.{MoveKind}
-use Rattle.dsde_formalism.specs.System.{System, Ports}
-use Rattle.dsde_formalism.specs.Leaf.{kind_of}
-use Rattle.dsde_sim_events.specs.declared.event.Event.{Event}
-use Rattle.dsde_sim_events.specs.declared.fault.TurnEnd.{TurnEnd}
-use Rattle.dsde_sim_events.specs.Told.{Told, told, ◌then◌, Tells}
-use Rattle.dsde_grove.specs.Grove as grove
-use Rattle.dsde_grove.specs.Grove.{Grove, IsTree, spot, value_of, with_value}
+use Rattle.dsde_sim_tree.specs.given.formalism.leaf_Leaf.{Leaf}
+use Rattle.dsde_sim_tree.specs.given.formalism.leaf_MoveKind.{MoveKind}
+use Rattle.dsde_sim_tree.specs.given.formalism.System.{System, Ports}
+use Rattle.dsde_sim_tree.specs.given.formalism.Leaf.{kind_of}
+use Rattle.dsde_sim_tree.specs.declared.event.Event.{Event}
+use Rattle.dsde_sim_tree.specs.declared.fault.TurnEnd.{TurnEnd}
+use Rattle.dsde_sim_tree.specs.Told.{Told, told, ◌then◌, Tells}
+use Rattle.dsde_core_flat.specs.given.grove.Grove as grove
+use Rattle.dsde_core_flat.specs.given.grove.Grove.{Grove, IsTree, spot, value_of, with_value}
 use Rattle.dsde_sim_tree.specs.declared.sim.Sim.{Sim}
 use Rattle.dsde_sim_tree.specs.declared.sim.Sim.TheVariants as sim
 use Rattle.dsde_sim_tree.specs.Move.{take_move, move_leaf_at}
-use Rattle.dsde_sim_movers.specs.Parts as movers
-use Rattle.dsde_sim_movers.specs.Names as law
+use Rattle.dsde_core_flat.specs.given.sim_movers.Parts as movers
+use Rattle.dsde_core_flat.specs.given.sim_movers.Names as law
 use Rattle.dsde_core_flat.specs.declared.spot.Spot.{Spot}
 use Rattle.dsde_core_flat.specs.declared.spot.Spot.TheVariants as variant
 use Rattle.dsde_routes_wiring.specs.declared.wiring.Wiring.{Wiring}
 use Rattle.dsde_core_flat.specs.Shown.{leaf_in, part_under}
 use Rattle.dsde_core_flat.specs.lemmas.Beneath.{IsNoBoss}
 use Rattle.dsde_core_flat.specs.Stands.{is_net, StandsFor}
-use Rattle.dsde_core_laws.specs.lemmas.Component.{component-is, component-stands}
+use Rattle.dsde_core_flat.specs.lemmas.Component.{component-is, component-stands}
 use Rattle.dsde_core_moves.specs.Moved.{put_under}
 use Rattle.dsde_core_moves.specs.lemmas.Seen.{seen-ok}
 

@@ -1,10 +1,10 @@
 -- A step whose value is seen as another one.
 use Rattle.std.proofs.Common.{◌≡◌, List, [], ◌++◌, Result, Ok, Err, refl, sym, ap, subst, ◌∙◌}
 use Rattle.std.proofs.lemmas.List.{append-nil}
-use Rattle.dsde_sim_events.specs.declared.event.Event.{Event}
-use Rattle.dsde_sim_events.specs.declared.fault.TurnEnd.{TurnEnd}
-use Rattle.dsde_sim_events.specs.declared.fault.TurnEnd.TheVariants as turn_end
-use Rattle.dsde_sim_events.specs.Told.{Told, told, ◌then◌, Tells, IsCut}
+use Rattle.dsde_sim_tree.specs.declared.event.Event.{Event}
+use Rattle.dsde_sim_tree.specs.declared.fault.TurnEnd.{TurnEnd}
+use Rattle.dsde_sim_tree.specs.declared.fault.TurnEnd.TheVariants as turn_end
+use Rattle.dsde_sim_tree.specs.Told.{Told, told, ◌then◌, Tells, IsCut}
 
 -- a step whose value is seen as another one tells what it does
 pub viewed-events : {A B : Type 0} (view : A → B) (events : List Event) (end : Result A TurnEnd) →

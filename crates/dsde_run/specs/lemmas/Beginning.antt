@@ -2,18 +2,18 @@
 use Rattle.std.proofs.Common.{◌≡◌, List, [], refl, sym, ap, subst}
 use Rattle.std.specs.Prelude.{is_some, Result, Ok, Err, IfOk, IfErr}
 use Rattle.dsde_values.specs.Path.{root}
-use Rattle.dsde_formalism.specs.System.{System, Chosen}
-use Rattle.dsde_sim_events.specs.declared.event.Event.{Event}
-use Rattle.dsde_sim_events.specs.declared.fault.TurnEnd.{TurnEnd}
-use Rattle.dsde_sim_events.specs.Told.{Told, Tells, at, told, quietly, ◌then◌}
-use Rattle.dsde_sim_turns.specs.Engine.{Engine, begun}
-use Rattle.dsde_sim_turns.specs.Turn as turning
-use Rattle.dsde_sim_turns.specs.Turn.{started_tree}
-use Rattle.dsde_system.specs.Program.{system}
+use Rattle.dsde_sim_tree.specs.given.formalism.System.{System, Chosen}
+use Rattle.dsde_sim_tree.specs.declared.event.Event.{Event}
+use Rattle.dsde_sim_tree.specs.declared.fault.TurnEnd.{TurnEnd}
+use Rattle.dsde_sim_tree.specs.Told.{Told, Tells, at, told, quietly, ◌then◌}
+use Rattle.dsde_sim_tree.specs.Engine.{Engine, begun}
+use Rattle.dsde_sim_tree.specs.Turn as turning
+use Rattle.dsde_sim_tree.specs.Turn.{started_tree}
+use Rattle.dsde_image_written.specs.given.system.Program.{system}
 use Rattle.dsde_syntax.specs.declared.decl.Model.{Model}
 use Rattle.dsde_run.specs.Run.{Running}
 use Rattle.dsde_run.specs.Steps.{Begins, IsBegun, IsRoot, Starts}
-use Rattle.dsde_run_engine.specs.lemmas.Steps.{ends-first, same_ok}
+use Rattle.dsde_run.specs.lemmas.Steps.{ends-first, same_ok}
 
 -- The events that were told behind none are those of the start.
 pub begins-by : {Machine State : Type 0} (state : Machine → State) (begins : Told State) (none told : List Event) (started : Result Machine TurnEnd) → none ≡ [] →

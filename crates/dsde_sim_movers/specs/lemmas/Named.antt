@@ -10,10 +10,10 @@ use Rattle.std.specs.Str.{bytes_eq}
 use Rattle.std.specs.List.{AllByRecursion, IsDistinct, flat_map}
 use Rattle.dsde_values.specs.declared.name.Name.{Name}
 use Rattle.dsde_values.specs.Path.{EXEC, name_cmp, is_executive}
-use Rattle.dsde_structure.specs.declared.plan.Entry.{Entry}
-use Rattle.dsde_structure.specs.Gather.{is_same_name}
-use Rattle.dsde_structure.specs.Survival as entry
-use Rattle.dsde_structure.specs.Survival.{AreInOrder, IsInOrder}
+use Rattle.dsde_sim_tree.specs.given.structure.plan_Entry.{Entry}
+use Rattle.dsde_sim_tree.specs.given.structure.Gather.{is_same_name}
+use Rattle.dsde_sim_tree.specs.given.structure.Survival as entry
+use Rattle.dsde_sim_tree.specs.given.structure.Survival.{AreInOrder, IsInOrder}
 use Rattle.dsde_sim_tree.specs.declared.sim.Kid.{Kid}
 use Rattle.dsde_sim_tree.specs.declared.sim.Net.{Net}
 use Rattle.dsde_sim_tree.specs.declared.sim.Sim.{Sim}
@@ -22,7 +22,7 @@ use Rattle.dsde_sim_tree.specs.declared.sim.Sim.TheViews.{out-Kid, out-Net}
 use Rattle.dsde_sim_tree.specs.Opened.{shape_in, spots-Net, spots-kid, spots-net}
 use Rattle.dsde_sim_tree.specs.Spots.{Spot, spots, spots_of_kid}
 use Rattle.dsde_sim_tree.specs.Tree.{entry_of, name_of}
-use Rattle.dsde_sim_delivery.specs.lemmas.Events.{each-weaker, each-flat}
+use Rattle.dsde_sim_movers.specs.lemmas.Events.{each-weaker, each-flat}
 use Rattle.dsde_sim_movers.specs.Names.{AreNames, HasNames, IsNamed}
 
 -- The names of a network's components are distinct, and none is an executive's.

@@ -6,13 +6,13 @@ use Rattle.dsde_sim_tree.specs.Tree.{name_of}
 use Rattle.dsde_values.specs.declared.name.Name.{Name}
 use Rattle.dsde_values.specs.declared.path.Path.{Path}
 use Rattle.dsde_values.specs.declared.value.Value.{Value}
-use Rattle.dsde_declared.specs.declared.ids.ModelId.{ModelId}
-use Rattle.dsde_formalism.specs.declared.leaf.Leaf.{Leaf}
-use Rattle.dsde_formalism.specs.System.{System, Ports}
-use Rattle.dsde_structure.specs.declared.plan.Link.{Link}
-use Rattle.dsde_structure.specs.Gather.{is_same_name}
+use Rattle.dsde_sim_tree.specs.given.language.ids_ModelId.{ModelId}
+use Rattle.dsde_sim_tree.specs.given.formalism.leaf_Leaf.{Leaf}
+use Rattle.dsde_sim_tree.specs.given.formalism.System.{System, Ports}
+use Rattle.dsde_sim_tree.specs.given.structure.plan_Link.{Link}
+use Rattle.dsde_sim_tree.specs.given.structure.Gather.{is_same_name}
 use Rattle.dsde_values.specs.Path.{EXEC}
-use Rattle.dsde_sim_events.specs.Told.{below, Told, told, ◌then◌}
+use Rattle.dsde_sim_tree.specs.Told.{below, Told, told, ◌then◌}
 use Rattle.dsde_sim_tree.specs.declared.sim.Kid.{Kid}
 use Rattle.dsde_sim_tree.specs.declared.sim.Net.{Net}
 use Rattle.dsde_sim_tree.specs.declared.sim.Sim.{Sim}
@@ -23,7 +23,7 @@ use Rattle.dsde_sim_tree.specs.declared.sim.Sim.TheViews.{out-Sim, out-Kid, out-
 use Rattle.dsde_sim_tree.specs.Move.{boss_moves, move_leaf_at}
 use Rattle.dsde_sim_tree.specs.Opened.{as_leaf, as_net}
 use Rattle.dsde_sim_tree.specs.Start.{kid_of, net_of}
-use Rattle.dsde_sim_delivery.specs.Deliveries.{Delivery}
+use Rattle.dsde_sim_movers.specs.Deliveries.{Delivery}
 use Rattle.dsde_sim_movers.specs.Parts.{kid_named, with_named, part_in, part_at, with_in, with_part}
 use Rattle.dsde_sim_movers.specs.Movers.{Seat, seat_within, seat_of, leaf_in, leaf_at, Step, step_at, moves_in, moves, path_behind, move_at, seat_behind, move_one, is_called, is_mover}
 use Rattle.dsde_sim_movers.specs.lemmas.Steps.{then-assoc, then-same}

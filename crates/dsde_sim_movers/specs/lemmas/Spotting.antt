@@ -4,11 +4,11 @@ use Rattle.std.specs.Prelude.{if◌then◌else◌, option_and_then}
 use Rattle.std.specs.List.{AllByRecursion}
 use Rattle.dsde_values.specs.declared.name.Name.{Name}
 use Rattle.dsde_values.specs.declared.value.Value.{Value}
-use Rattle.dsde_declared.specs.declared.ids.ModelId.{ModelId}
-use Rattle.dsde_formalism.specs.declared.leaf.Leaf.{Leaf}
-use Rattle.dsde_structure.specs.declared.plan.Entry.{Entry}
-use Rattle.dsde_structure.specs.declared.plan.Link.{Link}
-use Rattle.dsde_structure.specs.Gather.{is_same_name}
+use Rattle.dsde_sim_tree.specs.given.language.ids_ModelId.{ModelId}
+use Rattle.dsde_sim_tree.specs.given.formalism.leaf_Leaf.{Leaf}
+use Rattle.dsde_sim_tree.specs.given.structure.plan_Entry.{Entry}
+use Rattle.dsde_sim_tree.specs.given.structure.plan_Link.{Link}
+use Rattle.dsde_sim_tree.specs.given.structure.Gather.{is_same_name}
 use Rattle.dsde_sim_tree.specs.declared.sim.Kid.{Kid}
 use Rattle.dsde_sim_tree.specs.declared.sim.Net.{Net}
 use Rattle.dsde_sim_tree.specs.declared.sim.Sim.{Sim}
@@ -19,7 +19,7 @@ use Rattle.dsde_sim_tree.specs.Opened.{shape_in, spots-Net, spots-kid, spots-net
 use Rattle.dsde_sim_tree.specs.Spots.{Spot, Shape, shape_of, spots, spots_of_kid}
 use Rattle.dsde_sim_tree.specs.Start.{kid_of, net_of}
 use Rattle.dsde_sim_tree.specs.Tree.{model_of, args_of, entry_of, name_of}
-use Rattle.dsde_sim_delivery.specs.lemmas.Events.{each-weaker, flat-each}
+use Rattle.dsde_sim_movers.specs.lemmas.Events.{each-weaker, flat-each}
 use Rattle.dsde_sim_movers.specs.Parts.{kid_named, with_named, part_at, with_part}
 use Rattle.dsde_sim_movers.specs.lemmas.Seats.{out-Net-of, whole, named, own-sim, part_at-whole, with_part-whole}
 use Rattle.dsde_sim_movers.specs.lemmas.Lenses.{by_parts, part-leaf}

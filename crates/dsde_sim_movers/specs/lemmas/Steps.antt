@@ -1,8 +1,8 @@
 -- Steps one behind another.
 use Rattle.std.proofs.Common.{◌≡◌, List, [], ◌++◌, Result, Ok, Err, refl, append_assoc, append-nil}
-use Rattle.dsde_sim_events.specs.declared.event.Event.{Event}
-use Rattle.dsde_sim_events.specs.declared.fault.TurnEnd.{TurnEnd}
-use Rattle.dsde_sim_events.specs.Told.{Told, told, telling, ◌then◌}
+use Rattle.dsde_sim_tree.specs.declared.event.Event.{Event}
+use Rattle.dsde_sim_tree.specs.declared.fault.TurnEnd.{TurnEnd}
+use Rattle.dsde_sim_tree.specs.Told.{Told, told, telling, ◌then◌}
 
 abbrev pub made : {A : Type 0} → List Event → Result A TurnEnd → Told A
 made events end = record { events = events; end = end }

@@ -1,8 +1,8 @@
 -- A tree fits where its parts do.
 use Rattle.std.proofs.Common.{◌++◌, List, [], ◌∷◌, sym, subst}
 use Rattle.std.specs.List.{flat_map, AllByRecursion}
-use Rattle.dsde_syntax.specs.declared.decl.Model.{Model}
-use Rattle.dsde_formalism.specs.declared.leaf.Leaf.{Leaf}
+use Rattle.dsde_language.specs.given.syntax.decl_Model.{Model}
+use Rattle.dsde_sim_tree.specs.given.formalism.leaf_Leaf.{Leaf}
 use Rattle.dsde_sim_tree.specs.declared.sim.Kid.{Kid}
 use Rattle.dsde_sim_tree.specs.declared.sim.Net.{Net}
 use Rattle.dsde_sim_tree.specs.declared.sim.Sim.TheVariants as sim

@@ -3,21 +3,21 @@ use Rattle.std.proofs.Common.{◌≡◌, ◌⊎◌, ℕ, zero, suc, ◌<◌, Boo
 use Rattle.std.specs.Prelude.{slice_get}
 use Rattle.std.specs.List.{AllByRecursion, Contains}
 use Rattle.std.proofs.lemmas.Simd.{map-map}
-use Rattle.dsde_syntax.specs.declared.decl.Model.{Model}
+use Rattle.dsde_language.specs.given.syntax.decl_Model.{Model}
 use Rattle.dsde_values.specs.declared.name.Name.{Name}
 use Rattle.dsde_values.specs.declared.types.Field.{Field}
 use Rattle.dsde_values.specs.declared.types.Ty.{Ty}
 use Rattle.dsde_values.specs.Path.{EXEC}
-use Rattle.dsde_declared.specs.declared.ids.ModelId.{ModelId}
-use Rattle.dsde_declared.specs.Models.{Own, owns_of}
-use Rattle.dsde_structure.specs.declared.plan.End.{End}
-use Rattle.dsde_structure.specs.declared.plan.Entry.{Entry}
-use Rattle.dsde_structure.specs.declared.plan.Link.{Link}
-use Rattle.dsde_structure.specs.declared.plan.Part.{Part}
-use Rattle.dsde_structure.specs.declared.plan.Part.TheVariants as part
-use Rattle.dsde_structure.specs.Gather.{is_same_name}
-use Rattle.dsde_structure.specs.Survival.{AreInOrder, names, role, roles}
-use Rattle.dsde_system.specs.Plans.{ArePortsOf, FitsLink, HasKid, IsAt}
+use Rattle.dsde_language.specs.declared.ids.ModelId.{ModelId}
+use Rattle.dsde_language.specs.DeclaredModels.{Own, owns_of}
+use Rattle.dsde_sim_tree.specs.given.structure.plan_End.{End}
+use Rattle.dsde_sim_tree.specs.given.structure.plan_Entry.{Entry}
+use Rattle.dsde_sim_tree.specs.given.structure.plan_Link.{Link}
+use Rattle.dsde_sim_tree.specs.given.structure.plan_Part.{Part}
+use Rattle.dsde_sim_tree.specs.given.structure.plan_Part_TheVariants as part
+use Rattle.dsde_sim_tree.specs.given.structure.Gather.{is_same_name}
+use Rattle.dsde_sim_tree.specs.given.structure.Survival.{AreInOrder, names, role, roles}
+use Rattle.dsde_executive.specs.given.system.Plans.{ArePortsOf, FitsLink, HasKid, IsAt}
 use Rattle.dsde_sim_tree.specs.Tree.{started_as}
 use Rattle.dsde_sim_starting.specs.Fitting.{FitsLinks}
 

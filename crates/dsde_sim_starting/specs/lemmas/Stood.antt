@@ -2,21 +2,21 @@
 use Rattle.std.proofs.Common.{◌≡◌, ℕ, ◌<◌, true, false, List, [], ◌∷◌, length, Option, Some, None, slice_get, refl, sym, ap, subst, ◌∙◌, zero, suc}
 use Rattle.std.specs.Option.{option_map_or}
 use Rattle.std.specs.List.{AllByRecursion}
-use Rattle.dsde_syntax.specs.declared.decl.Decl.{Decl}
-use Rattle.dsde_syntax.specs.declared.decl.Decl.TheVariants as decl
-use Rattle.dsde_syntax.specs.declared.decl.Model.{Model}
-use Rattle.dsde_syntax.specs.declared.decl.PortDecl.{PortDecl}
+use Rattle.dsde_language.specs.given.syntax.decl_Decl.{Decl}
+use Rattle.dsde_language.specs.given.syntax.decl_Decl_TheVariants as decl
+use Rattle.dsde_language.specs.given.syntax.decl_Model.{Model}
+use Rattle.dsde_language.specs.given.syntax.decl_PortDecl.{PortDecl}
 use Rattle.dsde_values.specs.declared.types.Field.{Field}
 use Rattle.dsde_values.specs.declared.value.Value.{Value}
-use Rattle.dsde_declared.specs.declared.ids.ModelId.{ModelId}
-use Rattle.dsde_declared.specs.Models.{whole_of, types_of, port_fields, Own, owns_of, body_ins}
-use Rattle.dsde_program_nodes.specs.Models.{infos_of}
-use Rattle.dsde_formalism.specs.declared.leaf.Leaf.{Leaf}
-use Rattle.dsde_formalism.specs.System.{System, Ports}
-use Rattle.dsde_formalism.specs.Leaf.{component_of}
-use Rattle.dsde_system.specs.Program.{system, component_at, network_at}
-use Rattle.dsde_system.specs.Fitting.{FitsInputs, Reach}
-use Rattle.dsde_system.specs.Plans.{ways}
+use Rattle.dsde_language.specs.declared.ids.ModelId.{ModelId}
+use Rattle.dsde_language.specs.DeclaredModels.{whole_of, types_of, port_fields, Own, owns_of, body_ins}
+use Rattle.dsde_language.specs.NodeModels.{infos_of}
+use Rattle.dsde_sim_tree.specs.given.formalism.leaf_Leaf.{Leaf}
+use Rattle.dsde_sim_tree.specs.given.formalism.System.{System, Ports}
+use Rattle.dsde_sim_tree.specs.given.formalism.Leaf.{component_of}
+use Rattle.dsde_executive.specs.given.system.Program.{system, component_at, network_at}
+use Rattle.dsde_executive.specs.given.system.Fitting.{FitsInputs, Reach}
+use Rattle.dsde_executive.specs.given.system.Plans.{ways}
 use Rattle.dsde_sim_tree.specs.declared.sim.Kid.{Kid}
 use Rattle.dsde_sim_tree.specs.declared.sim.Net.{Net}
 use Rattle.dsde_sim_tree.specs.declared.sim.Sim.{Sim}

@@ -2,10 +2,10 @@
 use Rattle.std.proofs.Common.{◌≡◌, ◌≤◌, List, [], ◌++◌, length, take, refl, sym, ap, subst, ◌∙◌, arith, append_assoc, append-nil, Result, Ok, Err}
 use Rattle.std.proofs.lemmas.List.{take-append-le, take-take, length-take}
 use Rattle.std.proofs.Math.Seq.{take-append_seam}
-use Rattle.dsde_sim_events.specs.declared.event.Event.{Event}
-use Rattle.dsde_sim_events.specs.declared.fault.TurnEnd.{TurnEnd}
-use Rattle.dsde_sim_events.specs.declared.fault.TurnEnd.TheVariants.{Fault, Memory}
-use Rattle.dsde_sim_events.specs.Told.{Told, Tells, IsCut, Comes, told, quietly, telling, ◌then◌}
+use Rattle.dsde_sim_tree.specs.declared.event.Event.{Event}
+use Rattle.dsde_sim_tree.specs.declared.fault.TurnEnd.{TurnEnd}
+use Rattle.dsde_sim_tree.specs.declared.fault.TurnEnd.TheVariants.{Fault, Memory}
+use Rattle.dsde_sim_tree.specs.Told.{Told, Tells, IsCut, Comes, told, quietly, telling, ◌then◌}
 
 -- What was told so far, followed by what the rest tells, is what the whole tells, and both come to the same.
 pub record GoesOn {A : Type 0} (whole rest : Told A) (old new : List Event) : Type 0 where

@@ -5,18 +5,18 @@ use Rattle.dsde_values.specs.declared.arrival.Arrival.{Arrival}
 use Rattle.dsde_values.specs.declared.when.When.{When}
 use Rattle.dsde_values.specs.declared.when.When.TheVariants.{At, Never}
 use Rattle.dsde_values.specs.When.{IsMoment}
-use Rattle.dsde_formalism.specs.System.{System}
-use Rattle.dsde_sim_events.specs.declared.event.Event.{Event}
-use Rattle.dsde_sim_events.specs.declared.fault.TurnEnd.{TurnEnd}
-use Rattle.dsde_sim_events.specs.Told.{Told, Tells, ◌then◌}
-use Rattle.dsde_system.specs.Fitting.{IsInTime}
+use Rattle.dsde_sim_tree.specs.given.formalism.System.{System}
+use Rattle.dsde_sim_tree.specs.declared.event.Event.{Event}
+use Rattle.dsde_sim_tree.specs.declared.fault.TurnEnd.{TurnEnd}
+use Rattle.dsde_sim_tree.specs.Told.{Told, Tells, ◌then◌}
+use Rattle.dsde_sound_forward.specs.given.system.Fitting.{IsInTime}
 use Rattle.dsde_sim_tree.specs.declared.sim.Sim.{Sim}
 use Rattle.dsde_sim_tree.specs.Tree.{next_time, model_of}
-use Rattle.dsde_sim_turns.specs.declared.step.Step.{Step}
-use Rattle.dsde_sim_turns.specs.declared.step.Step.TheVariants.{Turned}
-use Rattle.dsde_sim_turns.specs.Engine.{Engine, turned}
-use Rattle.dsde_sim_turns.specs.Turn.{turn, turn_time, is_taken, items_at, after_turn, advance}
-use Rattle.dsde_sim_telling.specs.lemmas.GoingOn.{GoesOn, goes-begin, goes-step, goes-stops, goes-end}
+use Rattle.dsde_sim_tree.specs.declared.step.Step.{Step}
+use Rattle.dsde_sim_tree.specs.declared.step.Step.TheVariants.{Turned}
+use Rattle.dsde_sim_tree.specs.Engine.{Engine, turned}
+use Rattle.dsde_sim_tree.specs.Turn.{turn, turn_time, is_taken, items_at, after_turn, advance}
+use Rattle.dsde_sim_moving.specs.given.sim_telling.lemmas_GoingOn.{GoesOn, goes-begin, goes-step, goes-stops, goes-end}
 use Rattle.dsde_sim_moving.specs.Fitting.{FitsTree}
 use Rattle.dsde_sim_working.specs.Working.{Comes, FitsItems}
 use Rattle.dsde_sim_moving.specs.Stood.{stood}

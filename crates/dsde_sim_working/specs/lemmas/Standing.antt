@@ -6,16 +6,16 @@ use Rattle.dsde_values.specs.declared.arrival.Arrival.{Arrival}
 use Rattle.dsde_values.specs.declared.value.Value.{Value}
 use Rattle.dsde_values.specs.Path.{root}
 use Rattle.dsde_values.specs.When.{IsMoment}
-use Rattle.dsde_declared.specs.declared.ids.ModelId.{ModelId}
-use Rattle.dsde_formalism.specs.System.{System, Chosen}
-use Rattle.dsde_sim_events.specs.declared.fault.TurnEnd.{TurnEnd}
-use Rattle.dsde_sim_events.specs.Told.{Told, at, told, quietly, ◌then◌}
-use Rattle.dsde_system.specs.Program.{system}
+use Rattle.dsde_language.specs.declared.ids.ModelId.{ModelId}
+use Rattle.dsde_sim_tree.specs.given.formalism.System.{System, Chosen}
+use Rattle.dsde_sim_tree.specs.declared.fault.TurnEnd.{TurnEnd}
+use Rattle.dsde_sim_tree.specs.Told.{Told, at, told, quietly, ◌then◌}
+use Rattle.dsde_sound_forward.specs.given.system.Program.{system}
 use Rattle.dsde_sim_tree.specs.declared.sim.Sim.{Sim}
-use Rattle.dsde_sim_turns.specs.declared.step.Step.{Step}
-use Rattle.dsde_sim_turns.specs.Engine.{Engine, begun}
-use Rattle.dsde_sim_turns.specs.Turn.{start, started_tree, advance}
-use Rattle.dsde_sim_stands.specs.Stands.{StartStands, AdvanceStands}
+use Rattle.dsde_sim_tree.specs.declared.step.Step.{Step}
+use Rattle.dsde_sim_tree.specs.Engine.{Engine, begun}
+use Rattle.dsde_sim_tree.specs.Turn.{start, started_tree, advance}
+use Rattle.dsde_sound_forward.specs.given.sim_movers.Stands.{StartStands, AdvanceStands}
 use Rattle.dsde_sound_forward.specs.Forward.{ProgramsLeadOn}
 use Rattle.dsde_sim_working.specs.Working.{StandsAt}
 

@@ -1,8 +1,8 @@
 use Rattle.std.proofs.Common.{Err, Result, sym, subst}
 use Rattle.std.proofs.lemmas.Result.{err_from_is_err_and}
-use Rattle.dsde_formalism.specs.System.{State}
+use Rattle.dsde_system.specs.given.formalism.System.{State}
 use Rattle.dsde_faults.specs.declared.end.LeafEnd.{LeafEnd}
-use Rattle.dsde_formalism.specs.Leaf as formalism
+use Rattle.dsde_system.specs.given.formalism.Leaf as formalism
 use Rattle.dsde_system.specs.Program.{system}
 use Rattle.dsde_atomic.proofs.Ends.{leaf-end, leaf-then}
 use Rattle.dsde_atomic.proofs.Transitions.{confluent-none, confluent-has, confluent-gives}

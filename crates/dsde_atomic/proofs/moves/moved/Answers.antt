@@ -1,7 +1,7 @@
 use Rattle.std.proofs.Common.{List, Ok, Err, subst}
 use Rattle.std.proofs.lemmas.Result.{err_from_is_err_and}
 use Rattle.dsde_values.specs.declared.arrival.Item.{Item}
-use Rattle.dsde_sound_places.specs.Conditions.{Ran}
+use Rattle.dsde_system.specs.given.sound_expressions.Conditions.{Ran}
 use Rattle.dsde_atomic.proofs.Landing.{move-can, move-long, move-fails, moved-by}
 use Rattle.dsde_atomic.proofs.moves.moved.Goals as goal
 

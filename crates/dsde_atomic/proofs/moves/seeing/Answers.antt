@@ -1,7 +1,7 @@
 use Rattle.std.proofs.Common.{◌≡◌, ◌++◌, ◌∷◌, [], List, pos, length, sym, ◌∙◌, ap, false, append_assoc}
 use Rattle.dsde_values.specs.declared.value.Value.{Value}
 use Rattle.dsde_values.specs.declared.value.Value.TheVariants as value
-use Rattle.dsde_formalism.specs.System.{Ports}
+use Rattle.dsde_system.specs.given.formalism.System.{Ports}
 use Rattle.dsde_system.specs.Body.{is_flooded, lists_of}
 use Rattle.dsde_atomic.proofs.Outer.{sees-can, sees-ok, sees-end, sees-fits}
 use Rattle.dsde_atomic.proofs.Phases.{resized}

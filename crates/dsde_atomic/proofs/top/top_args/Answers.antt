@@ -1,7 +1,7 @@
 use Rattle.std.proofs.Common.{List, sym, ◌∙◌, ap, subst, slice_index_or}
 use Rattle.dsde_values.specs.declared.value.Value.{Value}
 use Rattle.dsde_eval.specs.declared.env.Env.{Env}
-use Rattle.dsde_sound_places.specs.Conditions.{CanEval, Came}
+use Rattle.dsde_system.specs.given.sound_expressions.Conditions.{CanEval, Came}
 use Rattle.dsde_atomic.proofs.Tops.{top-start, top-can, top-next, top-end, top-at, top-all, top-gives, top-fits}
 use Rattle.dsde_atomic.proofs.top.top_args.Goals as goal
 

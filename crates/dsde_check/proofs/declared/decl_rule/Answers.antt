@@ -1,5 +1,5 @@
 use Rattle.std.proofs.Common.{rules, []}
-use Rattle.dsde_check_rules.specs.Rules.{around_with, decl_rule, top_rule}
+use Rattle.dsde_language.specs.Rules.{around_with, decl_rule, top_rule}
 use Rattle.dsde_check.proofs.Refusals.{refused}
 use Rattle.dsde_check.proofs.declared.decl_rule.Goals as goal
 

@@ -1,5 +1,5 @@
 use Rattle.std.proofs.Common.{◌≡◌, drop}
-use Rattle.dsde_check_rules.specs.Rules.{apart_all}
+use Rattle.dsde_language.specs.Rules.{apart_all}
 use Rattle.dsde_check.proofs.own.take_all.Given as goal
 
 abbrev pub invariant-loop-decl : goal.invariant-loop-decl

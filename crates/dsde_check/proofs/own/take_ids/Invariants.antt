@@ -1,5 +1,5 @@
 use Rattle.std.proofs.Common.{◌≡◌, drop}
-use Rattle.dsde_check_rules.specs.Rules.{distinct}
+use Rattle.dsde_language.specs.Rules.{distinct}
 use Rattle.dsde_check.proofs.own.take_ids.Given as goal
 
 abbrev pub invariant-loop-id : goal.invariant-loop-id

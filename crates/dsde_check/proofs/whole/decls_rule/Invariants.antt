@@ -1,5 +1,5 @@
 use Rattle.std.proofs.Common.{◌≡◌, drop}
-use Rattle.dsde_check_rules.specs.Rules.{decls_rule}
+use Rattle.dsde_language.specs.Rules.{decls_rule}
 use Rattle.dsde_check.proofs.whole.decls_rule.Given as goal
 
 abbrev pub invariant-loop-decl : goal.invariant-loop-decl

@@ -1,6 +1,6 @@
 use Rattle.std.proofs.Common.{subst}
-use Rattle.dsde_check_rules.specs.Judge.{judge}
-use Rattle.dsde_check_scope.specs.Says.{Walks}
+use Rattle.dsde_language.specs.Judge.{judge}
+use Rattle.dsde_check_expressions.specs.given.check_scope.Says.{Walks}
 use Rattle.dsde_check_bodies.proofs.Found.{sent_by}
 use Rattle.dsde_check_bodies.proofs.assignments.send_to.Goals as goal
 

@@ -1,6 +1,6 @@
 use Rattle.std.proofs.Common.{Some, subst, ◌∙◌, rules}
-use Rattle.dsde_check_rules.specs.Judge.{judge}
-use Rattle.dsde_check_scope.specs.Says.{Walks}
+use Rattle.dsde_language.specs.Judge.{judge}
+use Rattle.dsde_check_expressions.specs.given.check_scope.Says.{Walks}
 use Rattle.dsde_check_bodies.proofs.Found.{set_by, set_went}
 use Rattle.dsde_check_bodies.proofs.assignments.set_to.Goals as goal
 

@@ -1,5 +1,5 @@
 use Rattle.std.proofs.Common.{◌≡◌, drop, map}
-use Rattle.dsde_check_rules.specs.Blocks.{state_of, walk_all}
+use Rattle.dsde_language.specs.Blocks.{state_of, walk_all}
 use Rattle.dsde_check_bodies.proofs.bodies.states.Given as goal
 
 abbrev pub invariant-loop-own : goal.invariant-loop-own

@@ -1,5 +1,5 @@
 use Rattle.std.proofs.Common.{◌≡◌, drop, length, take}
-use Rattle.dsde_check_rules.specs.Blocks.{inputs_seen}
+use Rattle.dsde_language.specs.Blocks.{inputs_seen}
 use Rattle.dsde_check_bodies.proofs.phases.inputs_seen.Given as goal
 
 abbrev pub invariant-loop-port : goal.invariant-loop-port

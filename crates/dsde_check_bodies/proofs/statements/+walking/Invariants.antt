@@ -1,6 +1,6 @@
 -- What is seen of the rest, after what was seen so far, stays the same.
 use Rattle.std.proofs.Common.{◌≡◌, drop, length, map, take}
-use Rattle.dsde_check_rules.specs.Blocks.{arms_walk, walk, walk_all, walk_arm}
+use Rattle.dsde_language.specs.Blocks.{arms_walk, walk, walk_all, walk_arm}
 use Rattle.dsde_check_bodies.proofs.statements.+walking.Given as goal
 
 abbrev pub invariant-stmts-loop-each : goal.invariant-stmts-loop-each

@@ -1,5 +1,5 @@
 use Rattle.std.proofs.Common.{◌≡◌, map, drop}
-use Rattle.dsde_check_rules.specs.Judge.{all_fields}
+use Rattle.dsde_language.specs.Judge.{all_fields}
 use Rattle.dsde_check_expressions.specs.Parts.{judge_set}
 use Rattle.dsde_check_expressions.proofs.declared.all_fields.Given as goal
 

@@ -1,5 +1,5 @@
 use Rattle.std.proofs.Common.{◌≡◌, ◌&&◌, map, drop, length}
-use Rattle.dsde_check_rules.specs.Judge.{in_order}
+use Rattle.dsde_language.specs.Judge.{in_order}
 use Rattle.dsde_check_expressions.specs.Parts.{judge_set}
 use Rattle.dsde_check_expressions.proofs.declared.in_order.Given as goal
 

@@ -1,7 +1,7 @@
 use Rattle.std.proofs.Common.{◌≡◌, ◌+◌, Err, [], map, drop, sym, ap, subst, ◌∙◌, arith}
 use Rattle.std.proofs.lemmas.List.{nil_from_length}
 use Rattle.dsde_syntax.specs.declared.expr.Expr.TheVariants as expr
-use Rattle.dsde_check_rules.specs.Judge.{judge, links_from, new_of, variant_of}
+use Rattle.dsde_language.specs.Judge.{judge, links_from, new_of, variant_of}
 use Rattle.dsde_check_scope.specs.Says.{Says}
 use Rattle.dsde_check_expressions.specs.Parts.{judge_set, judge_sign_tail, judge_suffix, judge_tail}
 use Rattle.dsde_check_expressions.proofs.Chains.{link_went, link_failed, passed_on}

@@ -1,7 +1,7 @@
 -- What is seen of the rest, after what was seen so far, stays the same.
 use Rattle.std.proofs.Common.{◌≡◌, map, drop, length}
 use Rattle.dsde_values.specs.declared.types.Ty.TheVariants as ty
-use Rattle.dsde_check_rules.specs.Judge.{judge, links_from, fit, all_of, fill, fit_parts, arms_of}
+use Rattle.dsde_language.specs.Judge.{judge, links_from, fit, all_of, fill, fit_parts, arms_of}
 use Rattle.dsde_check_expressions.specs.Parts.{judge_tail, judge_sign_tail, judge_suffix, judge_arm, judge_set}
 use Rattle.dsde_check_expressions.proofs.expr.+judging.Given as goal
 

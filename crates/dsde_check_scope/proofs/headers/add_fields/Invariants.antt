@@ -1,5 +1,5 @@
 use Rattle.std.proofs.Common.{◌≡◌, drop}
-use Rattle.dsde_check_rules.specs.Blocks.{fields_all}
+use Rattle.dsde_language.specs.Blocks.{fields_all}
 use Rattle.dsde_check_scope.proofs.headers.add_fields.Given as goal
 
 abbrev pub invariant-loop-typed : goal.invariant-loop-typed

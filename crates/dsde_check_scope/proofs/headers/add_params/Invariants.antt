@@ -1,5 +1,5 @@
 use Rattle.std.proofs.Common.{◌≡◌, drop}
-use Rattle.dsde_check_rules.specs.Blocks.{params_all}
+use Rattle.dsde_language.specs.Blocks.{params_all}
 use Rattle.dsde_check_scope.proofs.headers.add_params.Given as goal
 
 abbrev pub invariant-loop-typed : goal.invariant-loop-typed

@@ -1,5 +1,5 @@
 use Rattle.std.proofs.Common.{◌≡◌, drop}
-use Rattle.dsde_check_rules.specs.Blocks.{ports_all}
+use Rattle.dsde_language.specs.Blocks.{ports_all}
 use Rattle.dsde_check_scope.proofs.headers.add_ports.Given as goal
 
 abbrev pub invariant-loop-port : goal.invariant-loop-port

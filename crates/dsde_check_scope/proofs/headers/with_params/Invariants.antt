@@ -1,5 +1,5 @@
 use Rattle.std.proofs.Common.{◌≡◌, drop}
-use Rattle.dsde_check_rules.specs.Blocks.{with_params}
+use Rattle.dsde_language.specs.Blocks.{with_params}
 use Rattle.dsde_check_scope.proofs.headers.with_params.Given as goal
 
 abbrev pub invariant-loop-param : goal.invariant-loop-param

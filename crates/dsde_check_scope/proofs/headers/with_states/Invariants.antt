@@ -1,5 +1,5 @@
 use Rattle.std.proofs.Common.{◌≡◌, drop}
-use Rattle.dsde_check_rules.specs.Blocks.{with_states}
+use Rattle.dsde_language.specs.Blocks.{with_states}
 use Rattle.dsde_check_scope.proofs.headers.with_states.Given as goal
 
 abbrev pub invariant-loop-state : goal.invariant-loop-state

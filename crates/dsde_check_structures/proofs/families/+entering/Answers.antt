@@ -4,10 +4,10 @@ use Rattle.dsde_syntax.specs.declared.expr.Expr.{Expr}
 use Rattle.dsde_syntax.specs.declared.item.Bracket.{Bracket}
 use Rattle.dsde_syntax.specs.declared.item.Item.TheVariants as item
 use Rattle.dsde_syntax.specs.declared.item.Item.TheFolds.{the_lemmas}
-use Rattle.dsde_check_rules.specs.declared.known.Known.{Known}
-use Rattle.dsde_check_rules.specs.declared.signatures.Family.{Family}
-use Rattle.dsde_check_rules.specs.Structures.{comp_family, enter}
-use Rattle.dsde_check_scope.specs.Says.{Leaves}
+use Rattle.dsde_language.specs.declared.known.Known.{Known}
+use Rattle.dsde_language.specs.declared.signatures.Family.{Family}
+use Rattle.dsde_language.specs.RuleStructures.{comp_family, enter}
+use Rattle.dsde_check_expressions.specs.given.check_scope.Says.{Leaves}
 use Rattle.dsde_check_structures.proofs.families.+entering.Goals as goal
 
 -- what a `comp` brings, by its own rule

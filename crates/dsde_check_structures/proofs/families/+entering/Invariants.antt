@@ -1,6 +1,6 @@
 -- What is found in the rest, behind what was found so far, stays the same.
 use Rattle.std.proofs.Common.{◌≡◌, map, drop}
-use Rattle.dsde_check_rules.specs.Structures.{enter, enter_all}
+use Rattle.dsde_language.specs.RuleStructures.{enter, enter_all}
 use Rattle.dsde_check_structures.specs.Parts.{enter_arm}
 use Rattle.dsde_check_structures.proofs.families.+entering.Given as goal
 

@@ -1,6 +1,6 @@
 use Rattle.std.proofs.Common.{rules, sym, ap, subst, ◌∙◌}
-use Rattle.dsde_check_rules.specs.Structures.{item_walk}
-use Rattle.dsde_check_scope.specs.Says.{Says, Walks}
+use Rattle.dsde_language.specs.RuleStructures.{item_walk}
+use Rattle.dsde_check_expressions.specs.given.check_scope.Says.{Says, Walks}
 use Rattle.dsde_check_structures.proofs.Opened.{arm_opened, item_for}
 use Rattle.dsde_check_structures.proofs.items.+walking.Goals as goal
 

@@ -1,7 +1,7 @@
 -- What is seen of the rest, after what was seen so far, stays the same.
 use Rattle.std.proofs.Common.{◌≡◌, map, drop, take, length}
-use Rattle.dsde_check_rules.specs.Blocks.{arms_walk, walk_all}
-use Rattle.dsde_check_rules.specs.Structures.{item_walk}
+use Rattle.dsde_language.specs.Blocks.{arms_walk, walk_all}
+use Rattle.dsde_language.specs.RuleStructures.{item_walk}
 use Rattle.dsde_check_structures.specs.Parts.{item_arm_walk}
 use Rattle.dsde_check_structures.proofs.items.+walking.Given as goal
 

@@ -1,5 +1,5 @@
 use Rattle.std.proofs.Common.{◌≡◌, drop}
-use Rattle.dsde_check_rules.specs.Types.{depths_from}
+use Rattle.dsde_language.specs.Types.{depths_from}
 use Rattle.dsde_check_tables.proofs.text.add_depths.Given as goal
 
 abbrev pub invariant-loop-shape : goal.invariant-loop-shape

@@ -1,5 +1,5 @@
 use Rattle.std.proofs.Common.{◌≡◌, drop}
-use Rattle.dsde_check_rules.specs.Tables.{text_ports}
+use Rattle.dsde_language.specs.RuleTables.{text_ports}
 use Rattle.dsde_check_tables.proofs.text.add_ports.Given as goal
 
 abbrev pub invariant-loop-port : goal.invariant-loop-port

@@ -1,5 +1,5 @@
 use Rattle.std.proofs.Common.{◌≡◌, drop}
-use Rattle.dsde_check_rules.specs.Tables.{shapes_from}
+use Rattle.dsde_language.specs.RuleTables.{shapes_from}
 use Rattle.dsde_check_tables.proofs.text.add_shapes.Given as goal
 
 abbrev pub invariant-loop-decl : goal.invariant-loop-decl

@@ -1,5 +1,5 @@
 use Rattle.std.proofs.Common.{◌≡◌, ◌++◌, drop}
-use Rattle.dsde_check_rules.specs.Tables.{text_params}
+use Rattle.dsde_language.specs.RuleTables.{text_params}
 use Rattle.dsde_check_tables.proofs.text.add_types.Given as goal
 
 abbrev pub invariant-loop-param : goal.invariant-loop-param

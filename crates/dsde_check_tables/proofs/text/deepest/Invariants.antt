@@ -1,5 +1,5 @@
 use Rattle.std.proofs.Common.{◌≡◌, drop}
-use Rattle.dsde_check_rules.specs.Types.{deepest}
+use Rattle.dsde_language.specs.Types.{deepest}
 use Rattle.dsde_check_tables.proofs.text.deepest.Given as goal
 
 abbrev pub invariant-loop-field : goal.invariant-loop-field

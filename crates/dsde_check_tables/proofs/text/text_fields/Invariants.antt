@@ -1,5 +1,5 @@
 use Rattle.std.proofs.Common.{◌≡◌, drop}
-use Rattle.dsde_check_rules.specs.Tables.{text_fields}
+use Rattle.dsde_language.specs.RuleTables.{text_fields}
 use Rattle.dsde_check_tables.proofs.text.text_fields.Given as goal
 
 abbrev pub invariant-loop-field : goal.invariant-loop-field

@@ -1,5 +1,5 @@
 use Rattle.std.proofs.Common.{◌≡◌, drop}
-use Rattle.dsde_check_rules.specs.Tables.{with_names}
+use Rattle.dsde_language.specs.RuleTables.{with_names}
 use Rattle.dsde_check_tables.proofs.text.with_names.Given as goal
 
 abbrev pub invariant-loop-id : goal.invariant-loop-id

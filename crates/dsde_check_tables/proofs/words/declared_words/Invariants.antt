@@ -1,5 +1,5 @@
 use Rattle.std.proofs.Common.{◌≡◌, drop}
-use Rattle.dsde_check_rules.specs.Tables.{declared_words}
+use Rattle.dsde_language.specs.RuleTables.{declared_words}
 use Rattle.dsde_check_tables.proofs.words.declared_words.Given as goal
 
 abbrev pub invariant-loop-decl : goal.invariant-loop-decl

@@ -1,5 +1,5 @@
 use Rattle.std.proofs.Common.{◌≡◌, drop}
-use Rattle.dsde_check_rules.specs.Tables.{used_ports}
+use Rattle.dsde_language.specs.RuleTables.{used_ports}
 use Rattle.dsde_check_tables.proofs.words.used_ports.Given as goal
 
 abbrev pub invariant-loop-port : goal.invariant-loop-port

@@ -1,5 +1,5 @@
 use Rattle.std.proofs.Common.{◌≡◌, drop}
-use Rattle.dsde_check_rules.specs.Tables.{used_typed}
+use Rattle.dsde_language.specs.RuleTables.{used_typed}
 use Rattle.dsde_check_tables.proofs.words.used_typed.Given as goal
 
 abbrev pub invariant-loop-part : goal.invariant-loop-part

@@ -1,6 +1,6 @@
 use Rattle.std.proofs.Common.{◌≡◌, subst, ◌∙◌}
 use Rattle.std.specs.Prelude.{IfOk}
-use Rattle.dsde_run.specs.Run.{Running}
+use Rattle.dsde_run_free.specs.given.run.Run.{Running}
 use Rattle.dsde_cli.specs.Causes.{Runs}
 use Rattle.dsde_cli.specs.Loaded.{own_of}
 use Rattle.dsde_cli.proofs.big.load_big.Goals as goal

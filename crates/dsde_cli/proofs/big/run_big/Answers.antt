@@ -1,10 +1,10 @@
 use Rattle.std.proofs.Common.{Some, [], sym, subst}
 use Rattle.std.specs.Prelude.{IfSome}
 use Rattle.dsde_run_big.specs.Model.{big_text}
-use Rattle.dsde_run_count.specs.Counting.{summary_text}
+use Rattle.dsde_run_free.specs.given.run.Counting.{summary_text}
 use Rattle.dsde_cli.specs.Big.{Summarizes, big_run}
 use Rattle.dsde_cli.specs.Loaded.{own_of}
-use Rattle.dsde_cli_run.specs.Outcome.{SaysEnd}
+use Rattle.dsde_cli.specs.RunOutcome.{SaysEnd}
 use Rattle.dsde_cli_status.specs.declared.status.Status.TheVariants.{Memory}
 use Rattle.dsde_cli.proofs.Drawing.{big-completes, big-memory, big-refused, big-unrefused, cause-made, cause-none, summary-none}
 use Rattle.dsde_cli.proofs.big.run_big.Goals as goal

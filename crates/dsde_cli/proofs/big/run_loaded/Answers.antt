@@ -1,10 +1,10 @@
 use Rattle.std.proofs.Common.{◌≡◌, Some, [], ap, subst, ◌∙◌}
 use Rattle.std.specs.Prelude.{IfSome}
-use Rattle.dsde_run.specs.Run.{running}
-use Rattle.dsde_run_count.specs.Counting.{summary_text}
+use Rattle.dsde_run_free.specs.given.run.Run.{running}
+use Rattle.dsde_run_free.specs.given.run.Counting.{summary_text}
 use Rattle.dsde_cli.specs.Big.{Summarizes, big_run}
 use Rattle.dsde_cli.specs.Loaded.{own_of}
-use Rattle.dsde_cli_run.specs.Outcome.{SaysEnd}
+use Rattle.dsde_cli.specs.RunOutcome.{SaysEnd}
 use Rattle.dsde_cli.proofs.big.run_loaded.Goals as goal
 
 pub returns-in-Ok-clause-summarizes : goal.returns-in-Ok-clause-summarizes

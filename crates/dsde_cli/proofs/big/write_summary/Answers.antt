@@ -1,7 +1,7 @@
 use Rattle.std.proofs.Common.{Some, [], sym, subst}
 use Rattle.std.specs.Prelude.{IfSome}
 use Rattle.dsde_cli.specs.Big.{Summarizes}
-use Rattle.dsde_cli_run.specs.Outcome.{SaysEnd}
+use Rattle.dsde_cli.specs.RunOutcome.{SaysEnd}
 use Rattle.dsde_cli.proofs.big.write_summary.Goals as goal
 
 pub returns-in-Ok-clause-summarizes : goal.returns-in-Ok-clause-summarizes

@@ -1,6 +1,6 @@
 use Rattle.std.proofs.Common.{Some, [], sym, subst}
 use Rattle.dsde_cli.specs.Big.{IsOfSummary}
-use Rattle.dsde_cli_run.specs.Outcome.{SaysEnd}
+use Rattle.dsde_cli.specs.RunOutcome.{SaysEnd}
 use Rattle.dsde_cli.proofs.Drawing.{of-summary, says-own, summary-written}
 use Rattle.dsde_cli.proofs.big.write_told.Goals as goal
 

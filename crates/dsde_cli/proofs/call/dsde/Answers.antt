@@ -1,19 +1,19 @@
 use Rattle.std.proofs.Common.{◌≡◌, ℕ, List, Option, Some, None, [], map, string_bytes, refl, subst, sym, ap, ◌∙◌}
 use Rattle.std.specs.Prelude.{IfSome}
 use Rattle.dsde_io.specs.Fault.{Rose}
-use Rattle.dsde_run.specs.Reading.{Told, TakesWanted}
-use Rattle.dsde_run.specs.Run.{Running, run, records_in}
+use Rattle.dsde_run_free.specs.given.run.Reading.{Told, TakesWanted}
+use Rattle.dsde_run_free.specs.given.run.Run.{Running, run, records_in}
 use Rattle.dsde_run_big.specs.Model.{big_text}
-use Rattle.dsde_run_count.specs.Counting.{summary_text}
-use Rattle.dsde_run_resume.specs.Resumed.{records_for, resumed, resumed_on}
-use Rattle.dsde_run_saved.specs.Saved.{image_left}
-use Rattle.dsde_trace.specs.declared.pick.Pick.TheVariants.{All}
+use Rattle.dsde_run_free.specs.given.run.Counting.{summary_text}
+use Rattle.dsde_run_free.specs.given.run.Resumed.{records_for, resumed, resumed_on}
+use Rattle.dsde_run_free.specs.given.run.SavedRuns.{image_left}
+use Rattle.dsde_cli_status.specs.given.trace.pick_Pick_TheVariants.{All}
 use Rattle.dsde_cli_command.specs.Commands.{BigCommand, CheckCommand, FreeCommand, ResumeCommand, RunCommand, checks, counts, draws, resumes, run_asked, runs}
-use Rattle.dsde_cli_run.specs.Asked.{drawn_on, pick_of, tells_on}
-use Rattle.dsde_cli_run.specs.Back.{ComesBack, IsRefusedFor, NoneSaved, Restores, SaysBack, TellsSave}
-use Rattle.dsde_cli_run.specs.Loads.{Has}
-use Rattle.dsde_cli_run.specs.Outcome.{Comes, SaysEnd}
-use Rattle.dsde_cli_run.specs.Saved.{Leaves, Stores}
+use Rattle.dsde_cli.specs.Asked.{drawn_on, pick_of, tells_on}
+use Rattle.dsde_cli.specs.Back.{ComesBack, IsRefusedFor, NoneSaved, Restores, SaysBack, TellsSave}
+use Rattle.dsde_cli.specs.Loads.{Has}
+use Rattle.dsde_cli.specs.RunOutcome.{Comes, SaysEnd}
+use Rattle.dsde_cli.specs.Saved.{Leaves, Stores}
 use Rattle.dsde_cli_status.specs.declared.status.SaveFault.{SaveFault}
 use Rattle.dsde_cli.specs.Answer.{Answers, answer_of}
 use Rattle.dsde_cli.specs.Big.{Summarizes, big_run}

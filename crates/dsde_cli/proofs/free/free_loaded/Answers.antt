@@ -1,12 +1,12 @@
 use Rattle.std.proofs.Common.{◌≡◌, [], ap, subst, ◌∙◌}
 use Rattle.std.specs.Prelude.{IfSome}
-use Rattle.dsde_run.specs.Reading.{Told, TakesWanted}
-use Rattle.dsde_run.specs.Run.{records_in, running}
-use Rattle.dsde_trace.specs.declared.pick.Pick.TheVariants.{All}
+use Rattle.dsde_run_free.specs.given.run.Reading.{Told, TakesWanted}
+use Rattle.dsde_run_free.specs.given.run.Run.{records_in, running}
+use Rattle.dsde_cli_status.specs.given.trace.pick_Pick_TheVariants.{All}
 use Rattle.dsde_cli.specs.Loaded.{own_of}
-use Rattle.dsde_cli_run.specs.Asked.{drawn_on}
-use Rattle.dsde_cli_run.specs.Outcome.{Comes, SaysEnd}
-use Rattle.dsde_cli_run.specs.lemmas.Fronts.{none-taken}
+use Rattle.dsde_cli.specs.Asked.{drawn_on}
+use Rattle.dsde_cli.specs.RunOutcome.{Comes, SaysEnd}
+use Rattle.dsde_cli.specs.lemmas.Fronts.{none-taken}
 use Rattle.dsde_cli.proofs.free.free_loaded.Goals as goal
 
 pub returns-in-Ok-clause-comes : goal.returns-in-Ok-clause-comes

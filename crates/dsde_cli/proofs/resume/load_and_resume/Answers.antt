@@ -1,22 +1,22 @@
 use Rattle.std.proofs.Common.{◌≡◌, [], inl, inr, sym, subst}
 use Rattle.std.specs.Prelude.{IfSome}
-use Rattle.dsde_sim_turns.specs.Engine.{Engine}
+use Rattle.dsde_sim_tree.specs.Engine.{Engine}
 use Rattle.dsde_io.specs.Fault.{Rose}
-use Rattle.dsde_run.specs.Reading.{Told, TakesWanted}
-use Rattle.dsde_run.specs.Run.{Running}
-use Rattle.dsde_run_resume.specs.Resumed.{records_for, resumed, resumed_on}
-use Rattle.dsde_run_saved.specs.Saved.{image_left}
+use Rattle.dsde_run_free.specs.given.run.Reading.{Told, TakesWanted}
+use Rattle.dsde_run_free.specs.given.run.Run.{Running}
+use Rattle.dsde_run_free.specs.given.run.Resumed.{records_for, resumed, resumed_on}
+use Rattle.dsde_run_free.specs.given.run.SavedRuns.{image_left}
 use Rattle.dsde_cli_command.specs.Commands.{run_asked}
-use Rattle.dsde_cli_run.specs.Asked.{pick_of}
-use Rattle.dsde_cli_run.specs.Back.{ComesBack, IsMade, IsRefusedFor, NoneSaved, Restores, SaysBack}
-use Rattle.dsde_cli_run.specs.Loads.{Has}
-use Rattle.dsde_cli_run.specs.Saved.{Stores}
+use Rattle.dsde_cli.specs.Asked.{pick_of}
+use Rattle.dsde_cli.specs.Back.{ComesBack, IsMade, IsRefusedFor, NoneSaved, Restores, SaysBack}
+use Rattle.dsde_cli.specs.Loads.{Has}
+use Rattle.dsde_cli.specs.Saved.{Stores}
 use Rattle.dsde_cli_status.specs.declared.status.Status.TheVariants.{Done}
-use Rattle.dsde_cli_verdict.specs.Verdict.{Refuses}
+use Rattle.dsde_cli_status.specs.given.cli_verdict.Verdict.{Refuses}
 use Rattle.dsde_cli.specs.Loaded.{own_of}
 use Rattle.dsde_cli.proofs.Completing.{back-made, cut-memory}
-use Rattle.dsde_cli_run.specs.lemmas.Fronts.{none-taken}
-use Rattle.dsde_cli_run.specs.lemmas.Later.{leaves-later, rose-later}
+use Rattle.dsde_cli.specs.lemmas.Fronts.{none-taken}
+use Rattle.dsde_cli.specs.lemmas.Later.{leaves-later, rose-later}
 use Rattle.dsde_cli.proofs.Later.{before-back, cause-later, made-later, taken-up-cause}
 use Rattle.dsde_cli.proofs.Loads.{back-unloaded, done_is_no_cut, leaves-unloaded, never-none, refusal_tells, run_cut, run_unrefused, says-unloaded, tells-cut}
 use Rattle.dsde_cli.proofs.resume.load_and_resume.Goals as goal

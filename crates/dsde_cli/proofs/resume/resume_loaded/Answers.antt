@@ -1,20 +1,20 @@
 use Rattle.std.proofs.Common.{◌≡◌, [], refl, ap, subst, ◌∙◌}
 use Rattle.std.specs.Prelude.{IfSome}
-use Rattle.dsde_sim_turns.specs.Engine.{Engine}
+use Rattle.dsde_sim_tree.specs.Engine.{Engine}
 use Rattle.dsde_io.specs.Fault.{Rose}
-use Rattle.dsde_run.specs.Reading.{Told, TakesWanted}
-use Rattle.dsde_run.specs.Run.{Running, running}
-use Rattle.dsde_run_resume.specs.Resumed.{records_for, resumed, resumed_on}
-use Rattle.dsde_run_saved.specs.Saved.{image_left}
+use Rattle.dsde_run_free.specs.given.run.Reading.{Told, TakesWanted}
+use Rattle.dsde_run_free.specs.given.run.Run.{Running, running}
+use Rattle.dsde_run_free.specs.given.run.Resumed.{records_for, resumed, resumed_on}
+use Rattle.dsde_run_free.specs.given.run.SavedRuns.{image_left}
 use Rattle.dsde_cli_command.specs.Commands.{run_asked}
-use Rattle.dsde_cli_run.specs.Asked.{pick_of}
-use Rattle.dsde_cli_run.specs.Back.{CauseBack, ComesBack, IsMade, IsRefusedFor, NoneSaved, Restores, SaysBack, TellsSave}
-use Rattle.dsde_cli_run.specs.Loads.{Has}
-use Rattle.dsde_cli_run.specs.Saved.{Stores}
+use Rattle.dsde_cli.specs.Asked.{pick_of}
+use Rattle.dsde_cli.specs.Back.{CauseBack, ComesBack, IsMade, IsRefusedFor, NoneSaved, Restores, SaysBack, TellsSave}
+use Rattle.dsde_cli.specs.Loads.{Has}
+use Rattle.dsde_cli.specs.Saved.{Stores}
 use Rattle.dsde_cli_status.specs.declared.status.SaveFault.{SaveFault}
 use Rattle.dsde_cli_status.specs.declared.status.Status.TheVariants.{Done}
 use Rattle.dsde_cli.specs.Loaded.{own_of}
-use Rattle.dsde_cli_run.specs.lemmas.Fronts.{none-taken}
+use Rattle.dsde_cli.specs.lemmas.Fronts.{none-taken}
 use Rattle.dsde_cli.proofs.Loads.{leaves-memory}
 use Rattle.dsde_cli.proofs.Outcomes.{back-none}
 use Rattle.dsde_cli.proofs.resume.resume_loaded.Goals as goal

@@ -1,17 +1,17 @@
 use Rattle.std.proofs.Common.{◌≡◌, [], inl, inr, sym, subst}
 use Rattle.std.specs.Prelude.{IfSome}
-use Rattle.dsde_run.specs.Reading.{Told, TakesWanted}
-use Rattle.dsde_run.specs.Run.{records_in}
-use Rattle.dsde_run_saved.specs.Saved.{image_left}
+use Rattle.dsde_run_free.specs.given.run.Reading.{Told, TakesWanted}
+use Rattle.dsde_run_free.specs.given.run.Run.{records_in}
+use Rattle.dsde_run_free.specs.given.run.SavedRuns.{image_left}
 use Rattle.dsde_cli_command.specs.Commands.{run_asked}
-use Rattle.dsde_cli_run.specs.Asked.{pick_of, tells_on}
-use Rattle.dsde_cli_run.specs.Outcome.{Comes, SaysEnd}
-use Rattle.dsde_cli_run.specs.Saved.{Stores}
+use Rattle.dsde_cli.specs.Asked.{pick_of, tells_on}
+use Rattle.dsde_cli.specs.RunOutcome.{Comes, SaysEnd}
+use Rattle.dsde_cli.specs.Saved.{Stores}
 use Rattle.dsde_cli_status.specs.declared.status.Status.TheVariants.{Done}
-use Rattle.dsde_cli_verdict.specs.Verdict.{Refuses}
+use Rattle.dsde_cli_status.specs.given.cli_verdict.Verdict.{Refuses}
 use Rattle.dsde_cli.proofs.Completing.{none-completes, run-completes, run-ends}
-use Rattle.dsde_cli_run.specs.lemmas.Fronts.{none-taken}
-use Rattle.dsde_cli_run.specs.lemmas.Later.{leaves-later, rose-later, stored-later}
+use Rattle.dsde_cli.specs.lemmas.Fronts.{none-taken}
+use Rattle.dsde_cli.specs.lemmas.Later.{leaves-later, rose-later, stored-later}
 use Rattle.dsde_cli.proofs.Later.{run-not-before}
 use Rattle.dsde_cli.proofs.Loads.{comes-cut, leaves-unloaded, never-none, refusal_tells, run_cut, run_unrefused, told_same, done_is_no_cut}
 use Rattle.dsde_cli.proofs.run.load_and_run.Goals as goal

@@ -1,15 +1,15 @@
 use Rattle.std.proofs.Common.{◌≡◌, [], refl, ap, subst, ◌∙◌}
 use Rattle.std.specs.Prelude.{IfSome}
-use Rattle.dsde_run.specs.Reading.{Told, TakesWanted}
-use Rattle.dsde_run.specs.Run.{records_in, running}
-use Rattle.dsde_run_saved.specs.Saved.{image_left}
+use Rattle.dsde_run_free.specs.given.run.Reading.{Told, TakesWanted}
+use Rattle.dsde_run_free.specs.given.run.Run.{records_in, running}
+use Rattle.dsde_run_free.specs.given.run.SavedRuns.{image_left}
 use Rattle.dsde_cli_command.specs.Commands.{run_asked}
-use Rattle.dsde_cli_run.specs.Asked.{pick_of, tells_on}
-use Rattle.dsde_cli_run.specs.Outcome.{Comes, SaysEnd}
-use Rattle.dsde_cli_run.specs.Saved.{Stores}
+use Rattle.dsde_cli.specs.Asked.{pick_of, tells_on}
+use Rattle.dsde_cli.specs.RunOutcome.{Comes, SaysEnd}
+use Rattle.dsde_cli.specs.Saved.{Stores}
 use Rattle.dsde_cli_status.specs.declared.status.Status.TheVariants.{Done}
 use Rattle.dsde_cli.specs.Loaded.{own_of}
-use Rattle.dsde_cli_run.specs.lemmas.Fronts.{none-taken}
+use Rattle.dsde_cli.specs.lemmas.Fronts.{none-taken}
 use Rattle.dsde_cli.proofs.Loads.{leaves-memory}
 use Rattle.dsde_cli.proofs.run.run_loaded.Goals as goal
 

@@ -1,5 +1,5 @@
 use Rattle.std.proofs.Common.{◌≡◌, ◌+◌, ◌*◌, ◌≤◌, length}
-use Rattle.dsde_grove.specs.Grove.{IsTree}
+use Rattle.dsde_core_flat.specs.given.grove.Grove.{IsTree}
 use Rattle.dsde_routes_wiring.specs.declared.wiring.WiredKid.TheViews.{out-Wiring}
 use Rattle.dsde_core_moves.proofs.Leaving.{Drops}
 use Rattle.dsde_core_moves.proofs.dropping.drop_others.Given as goal

@@ -1,8 +1,8 @@
 use Rattle.std.proofs.Common.{◌≡◌, ℕ, List, ◌∷◌, Option, sym, ap, subst, ◌∙◌}
 use Rattle.dsde_bank.specs.declared.handle.Handle.{Handle}
-use Rattle.dsde_formalism.specs.declared.leaf.Leaf.{Leaf}
-use Rattle.dsde_system.specs.Fitting.{FitsInputs, FitsLeaf}
-use Rattle.dsde_grove.specs.Grove.{Grove, value_of}
+use Rattle.dsde_sim_tree.specs.given.formalism.leaf_Leaf.{Leaf}
+use Rattle.dsde_sim_changing.specs.given.system.Fitting.{FitsInputs, FitsLeaf}
+use Rattle.dsde_core_flat.specs.given.grove.Grove.{Grove, value_of}
 use Rattle.dsde_core_flat.specs.declared.spot.Spot.{Spot}
 use Rattle.dsde_core_flat.specs.Scheduled.{IsScheduledBut}
 use Rattle.dsde_core_flat.specs.Shown.{leaf_in}

@@ -1,13 +1,13 @@
 use Rattle.std.proofs.Common.{◌≡◌, ◌∙◌, ℕ, List, Result, Err, map, ap, sym, subst}
 use Rattle.std.proofs.lemmas.Result.{err_from_is_err_and}
 use Rattle.dsde_values.specs.Path.{root}
-use Rattle.dsde_sim_events.specs.declared.fault.TurnEnd.{TurnEnd}
-use Rattle.dsde_sim_events.specs.Told.{Tells}
-use Rattle.dsde_system.specs.Program.{system}
+use Rattle.dsde_sim_tree.specs.declared.fault.TurnEnd.{TurnEnd}
+use Rattle.dsde_sim_tree.specs.Told.{Tells}
+use Rattle.dsde_sim_starting.specs.given.system.Program.{system}
 use Rattle.dsde_sim_movers.specs.Movers.{move_each}
-use Rattle.dsde_core_steps.specs.declared.flat.Mover.{Mover}
-use Rattle.dsde_core_steps.specs.Flat.{delivery_of, tree_of}
-use Rattle.dsde_core_restructuring.specs.Restructured.{with_room}
+use Rattle.dsde_core_moves.specs.declared.flat.Mover.{Mover}
+use Rattle.dsde_core_moves.specs.Flat.{delivery_of, tree_of}
+use Rattle.dsde_core_moving.specs.Restructured.{with_room}
 use Rattle.dsde_core_moving.proofs.Going.{Gone, all-gone, all-scheduled, births-few, births-left, gone-none, next-called, next-fits, next-gone, next-stops, next-there, none-later, room-left}
 use Rattle.dsde_core_moving.proofs.each.movers_move.Goals as goal
 

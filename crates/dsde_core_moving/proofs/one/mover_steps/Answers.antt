@@ -1,13 +1,13 @@
 use Rattle.std.proofs.Common.{◌∙◌, ◌+◌, ◌≤◌, ℕ, Result, Err, sym, ap, subst, arith}
 use Rattle.std.proofs.lemmas.Result.{err_from_is_err_and}
 use Rattle.dsde_values.specs.Path.{root}
-use Rattle.dsde_system.specs.Program.{system}
-use Rattle.dsde_sim_events.specs.declared.fault.TurnEnd.{TurnEnd}
-use Rattle.dsde_sim_events.specs.Told.{Tells}
+use Rattle.dsde_sim_starting.specs.given.system.Program.{system}
+use Rattle.dsde_sim_tree.specs.declared.fault.TurnEnd.{TurnEnd}
+use Rattle.dsde_sim_tree.specs.Told.{Tells}
 use Rattle.dsde_sim_tree.specs.Tree.{parts}
 use Rattle.dsde_sim_movers.specs.Movers.{move_one}
-use Rattle.dsde_core_steps.specs.Flat.{delivery_of, tree_of}
-use Rattle.dsde_core_restructuring.specs.Restructured.{with_room}
+use Rattle.dsde_core_moves.specs.Flat.{delivery_of, tree_of}
+use Rattle.dsde_core_moving.specs.Restructured.{with_room}
 use Rattle.dsde_core_moving.proofs.Stepping.{births-by, is-component, is-executive, some-kind}
 use Rattle.dsde_core_moving.proofs.one.mover_steps.Goals as goal
 

@@ -1,5 +1,5 @@
 use Rattle.std.proofs.Common.{subst}
-use Rattle.dsde_system.specs.Program.{system}
+use Rattle.dsde_core_moves.specs.given.system.Program.{system}
 use Rattle.dsde_core_parcels.specs.Parcels.{KeepsTypes}
 use Rattle.dsde_core_parcels.proofs.Translating.{along-further, goes-further}
 use Rattle.dsde_core_parcels.proofs.along.along.Goals as goal

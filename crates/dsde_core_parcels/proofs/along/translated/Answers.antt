@@ -1,8 +1,8 @@
 use Rattle.std.proofs.Common.{◌≡◌, Option, sym, subst}
 use Rattle.dsde_values.specs.declared.value.Value.{Value}
-use Rattle.dsde_sound_places.specs.Conditions.{CanTranslate, Translated}
-use Rattle.dsde_eval.specs.Translations.{HasTargetType}
-use Rattle.dsde_system.specs.Program.{system}
+use Rattle.dsde_core_moves.specs.given.sound_expressions.Conditions.{CanTranslate, Translated}
+use Rattle.dsde_core_moves.specs.given.eval.Translations.{HasTargetType}
+use Rattle.dsde_core_moves.specs.given.system.Program.{system}
 use Rattle.dsde_core_parcels.specs.Parcels.{KeepsTypes}
 use Rattle.dsde_core_parcels.proofs.Translating.{if-ok, keeps-types}
 use Rattle.dsde_core_parcels.proofs.along.translated.Goals as goal

@@ -1,6 +1,6 @@
 use Rattle.std.proofs.Common.{subst}
 use Rattle.std.specs.List.{AllByRecursion}
-use Rattle.dsde_system.specs.Program.{system}
+use Rattle.dsde_core_moves.specs.given.system.Program.{system}
 use Rattle.dsde_core_parcels.specs.Parcels.{ArePushed, GoFrom}
 use Rattle.dsde_core_parcels.proofs.Pushing.{port-more, rows-go, none-more}
 use Rattle.dsde_core_parcels.proofs.parcel.push_all.Goals as goal

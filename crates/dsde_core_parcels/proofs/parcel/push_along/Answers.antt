@@ -1,4 +1,4 @@
-use Rattle.dsde_system.specs.Program.{system}
+use Rattle.dsde_core_moves.specs.given.system.Program.{system}
 use Rattle.dsde_core_parcels.proofs.Pushing.{row-goes, row-more, rows-later}
 use Rattle.dsde_core_parcels.proofs.parcel.push_along.Goals as goal
 

@@ -1,6 +1,6 @@
 use Rattle.std.proofs.Common.{◌≡◌, ◌++◌, length}
 use Rattle.std.specs.List.{AllByRecursion}
-use Rattle.dsde_system.specs.Program.{system}
+use Rattle.dsde_core_moves.specs.given.system.Program.{system}
 use Rattle.dsde_core_parcels.specs.Along.{GoAlong}
 use Rattle.dsde_core_parcels.specs.Parcels.{parcels_of}
 use Rattle.dsde_core_parcels.proofs.parcel.push_along.Given as goal

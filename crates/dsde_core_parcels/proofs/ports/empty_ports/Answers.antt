@@ -1,7 +1,7 @@
 use Rattle.std.proofs.Common.{List, [], ◌∷◌, ◌++◌, ◌∙◌, ap, sym, arith}
 use Rattle.std.proofs.lemmas.List.FromFn.{map-range_with_len_more}
 use Rattle.dsde_values.specs.declared.value.Value.{Value}
-use Rattle.dsde_structure.specs.Gather.{Ports}
+use Rattle.dsde_routes_wiring.specs.given.structure.Gather.{Ports}
 use Rattle.dsde_core_parcels.proofs.ports.empty_ports.Goals as goal
 
 pub loop-port-preserved : goal.loop-port-preserved

@@ -1,5 +1,5 @@
 use Rattle.std.proofs.Common.{◌≡◌}
-use Rattle.dsde_sim_gathering.specs.Boxes.{empty_ports}
+use Rattle.dsde_core_moves.specs.given.sim_gathering.Boxes.{empty_ports}
 use Rattle.dsde_core_parcels.proofs.ports.empty_ports.Given as goal
 
 abbrev pub invariant-loop-port : goal.invariant-loop-port

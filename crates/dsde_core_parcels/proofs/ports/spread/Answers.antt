@@ -1,5 +1,5 @@
 use Rattle.std.proofs.Common.{◌∙◌, ap}
-use Rattle.dsde_structure.specs.Gather.{Ports}
+use Rattle.dsde_routes_wiring.specs.given.structure.Gather.{Ports}
 use Rattle.dsde_core_parcels.specs.Ports.{add_all}
 use Rattle.dsde_core_parcels.proofs.Adding.{all-spread}
 use Rattle.dsde_core_parcels.proofs.ports.spread.Goals as goal

@@ -1,5 +1,5 @@
 use Rattle.std.proofs.Common.{subst}
-use Rattle.dsde_eval_meaning.specs.Tables.{Coded, state_of}
+use Rattle.dsde_language.specs.MeaningTables.{Coded, state_of}
 use Rattle.dsde_eval_tables.specs.Evaluating as evaluating
 use Rattle.dsde_eval_tables.specs.Passing.{PassesIn}
 use Rattle.dsde_eval.proofs.Blocks.{run-allowed, run-ran}

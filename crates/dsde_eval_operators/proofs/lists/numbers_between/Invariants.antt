@@ -1,5 +1,5 @@
 use Rattle.std.proofs.Common.{◌≡◌, ◌-ℤ◌, ◌++◌}
-use Rattle.dsde_eval_meaning.specs.Operators.{count_of, numbers_from}
+use Rattle.dsde_language.specs.MeaningOperators.{count_of, numbers_from}
 use Rattle.dsde_eval_operators.proofs.lists.numbers_between.Given as goal
 
 abbrev pub invariant-loop-number : goal.invariant-loop-number

@@ -1,6 +1,6 @@
 use Rattle.std.proofs.Common.{sym}
-use Rattle.dsde_declared.specs.declared.operator.Builtin.TheVariants as builtin
-use Rattle.dsde_eval_meaning.specs.Operators.{of_three}
+use Rattle.dsde_language.specs.declared.operator.Builtin.TheVariants as builtin
+use Rattle.dsde_language.specs.MeaningOperators.{of_three}
 use Rattle.dsde_eval_short.proofs.InSlot.{may-change, changed-there, kept-there}
 use Rattle.dsde_eval_short.proofs.in_slot.put_slot.Goals as goal
 

@@ -1,5 +1,5 @@
 -- The place of an item is a step.
-use Rattle.dsde_eval_meaning.specs.Operators.{indexed}
+use Rattle.dsde_language.specs.MeaningOperators.{indexed}
 use Rattle.dsde_eval_tables.proofs.Steps.{steps-in}
 use Rattle.dsde_eval_tables.proofs.spot.step_to.Goals as goal
 

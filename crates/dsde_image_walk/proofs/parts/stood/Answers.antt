@@ -1,7 +1,7 @@
 use Rattle.std.proofs.Common.{subst, List, Option}
 use Rattle.std.specs.Prelude.{IfSome}
 use Rattle.dsde_values.specs.declared.value.Value.{Value}
-use Rattle.dsde_system.specs.Fitting.{FitsState}
+use Rattle.dsde_image_fits.specs.given.system.Fitting.{FitsState}
 use Rattle.dsde_image_walk.proofs.Fitting.{leaf-fits, not-later}
 use Rattle.dsde_image_walk.proofs.parts.stood.Goals as goal
 

@@ -1,8 +1,8 @@
 use Rattle.std.proofs.Common.{◌≡◌, true, subst, sym, arith}
 use Rattle.std.proofs.lemmas.Result.{err_from_is_err_and}
-use Rattle.dsde_system.specs.Program.{system}
+use Rattle.dsde_image_fits.specs.given.system.Program.{system}
 use Rattle.dsde_image_fits.specs.Walk.{took_net, with_args, restored}
-use Rattle.dsde_image_texts.specs.Script.{script}
+use Rattle.dsde_image_fits.specs.Script.{script}
 use Rattle.dsde_image_walk.specs.Walks.{WalksOn, with_left}
 use Rattle.dsde_image_walk.proofs.Opening.{restored-network, net-opens, stops, goes}
 use Rattle.dsde_image_walk.proofs.Fitting.{made-fits, kid-fits}

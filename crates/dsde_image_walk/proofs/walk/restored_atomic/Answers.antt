@@ -1,6 +1,6 @@
 use Rattle.std.proofs.Common.{subst, false, Option}
 use Rattle.std.specs.Prelude.{IfSome}
-use Rattle.dsde_formalism.specs.declared.leaf.Leaf.{Leaf}
+use Rattle.dsde_sim_tree.specs.given.formalism.leaf_Leaf.{Leaf}
 use Rattle.dsde_image_walk.specs.Walks.{FitsComponent}
 use Rattle.dsde_image_walk.proofs.Fitting.{atomic-fits}
 use Rattle.dsde_image_walk.proofs.walk.restored_atomic.Goals as goal

@@ -1,8 +1,8 @@
 use Rattle.std.proofs.Common.{false}
 use Rattle.dsde_sim_tree.specs.declared.sim.TheConstants.{DEEPEST}
-use Rattle.dsde_sim_turns.specs.declared.step.TheConstants.{MOST_PARTS}
-use Rattle.dsde_system.specs.Program.{system}
-use Rattle.dsde_image_texts.specs.Script.{script}
+use Rattle.dsde_sim_tree.specs.declared.step.TheConstants.{MOST_PARTS}
+use Rattle.dsde_image_fits.specs.given.system.Program.{system}
+use Rattle.dsde_image_fits.specs.Script.{script}
 use Rattle.dsde_image_walk.specs.Walks.{HasLocation}
 use Rattle.dsde_image_walk.proofs.Lasting.{first-of-last}
 use Rattle.dsde_image_walk.proofs.walk.whole_tree.Goals as goal

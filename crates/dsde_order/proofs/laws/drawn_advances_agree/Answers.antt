@@ -1,5 +1,5 @@
-use Rattle.dsde_sim_turns.specs.Engine.{next_of}
-use Rattle.dsde_sim_turns.specs.Turn.{turn_time}
+use Rattle.dsde_sim_tree.specs.Engine.{next_of}
+use Rattle.dsde_sim_tree.specs.Turn.{turn_time}
 use Rattle.dsde_order.proofs.Advances.{advances-agree}
 use Rattle.dsde_order.proofs.laws.drawn_advances_agree.Goals as goal
 

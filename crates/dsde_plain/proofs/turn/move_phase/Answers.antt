@@ -3,14 +3,14 @@ use Rattle.std.proofs.lemmas.Result.{err_from_is_err_and}
 use Rattle.dsde_values.specs.declared.path.Path.{Path}
 use Rattle.dsde_values.specs.Path.{root}
 use Rattle.dsde_formalism.specs.System.{Ports}
-use Rattle.dsde_sim_events.specs.Told.{Tells, ◌then◌}
-use Rattle.dsde_system.specs.Program.{system}
+use Rattle.dsde_sim_tree.specs.Told.{Tells, ◌then◌}
+use Rattle.dsde_run.specs.given.system.Program.{system}
 use Rattle.dsde_sim_tree.specs.Tree.{parts}
 use Rattle.dsde_sim_tree.specs.Output.{outs_from}
 use Rattle.dsde_sim_tree.specs.Move.{move}
-use Rattle.dsde_sim_turns.specs.declared.step.TheConstants.{MOST_PARTS}
-use Rattle.dsde_sim_turns.specs.Turn.{move_phase, without_room}
-use Rattle.dsde_sim_telling.specs.lemmas.GoingOn.{goes-begin, goes-told, goes-step, goes-end, stops}
+use Rattle.dsde_sim_tree.specs.declared.step.TheConstants.{MOST_PARTS}
+use Rattle.dsde_sim_tree.specs.Turn.{move_phase, without_room}
+use Rattle.dsde_run.specs.given.sim_telling.lemmas_GoingOn.{goes-begin, goes-told, goes-step, goes-end, stops}
 use Rattle.dsde_plain.proofs.turn.move_phase.Goals as goal
 
 pub returns-in_err-tree-clause-told : goal.returns-in_err-tree-clause-told

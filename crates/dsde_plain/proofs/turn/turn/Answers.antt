@@ -2,13 +2,13 @@ use Rattle.std.proofs.Common.{◌∙◌, ap, subst, [], ◌∷◌, Err}
 use Rattle.std.proofs.lemmas.Result.{err_from_is_err_and}
 use Rattle.dsde_values.specs.Path.{root}
 use Rattle.dsde_formalism.specs.System.{Ports}
-use Rattle.dsde_sim_events.specs.declared.event.Event.TheVariants.{Turn}
-use Rattle.dsde_sim_events.specs.Told.{Tells, quietly, ◌then◌}
-use Rattle.dsde_system.specs.Program.{system}
+use Rattle.dsde_sim_tree.specs.declared.event.Event.TheVariants.{Turn}
+use Rattle.dsde_sim_tree.specs.Told.{Tells, quietly, ◌then◌}
+use Rattle.dsde_run.specs.given.system.Program.{system}
 use Rattle.dsde_sim_tree.specs.Output.{by_port, output}
 use Rattle.dsde_sim_tree.specs.Move.{ins_of}
-use Rattle.dsde_sim_turns.specs.Turn.{turn, move_phase}
-use Rattle.dsde_sim_telling.specs.lemmas.GoingOn.{goes-begin, goes-told, goes-ok, ends, lacks, tail}
+use Rattle.dsde_sim_tree.specs.Turn.{turn, move_phase}
+use Rattle.dsde_run.specs.given.sim_telling.lemmas_GoingOn.{goes-begin, goes-told, goes-ok, ends, lacks, tail}
 use Rattle.dsde_plain.proofs.turn.turn.Goals as goal
 
 pub returns-in_err-sent-clause-told : goal.returns-in_err-sent-clause-told

@@ -2,10 +2,10 @@
 use Rattle.std.proofs.Common.{◌≡◌, ℕ, List, [], ◌∷◌, ◌++◌, Result, Ok, Err, OnOk, ap, subst, ◌∙◌}
 use Rattle.dsde_syntax.specs.declared.decl.Body.{Body}
 use Rattle.dsde_syntax.specs.declared.decl.Typed.{Typed}
-use Rattle.dsde_check_rules.specs.declared.known.Known.{Known}
-use Rattle.dsde_program_nodes.specs.declared.code.Code.{Code}
-use Rattle.dsde_program_nodes.specs.declared.tables.Tables.{Tables}
-use Rattle.dsde_program_layout.specs.LayStatements.{lay_body}
+use Rattle.dsde_language.specs.declared.known.Known.{Known}
+use Rattle.dsde_language.specs.declared.code.Code.{Code}
+use Rattle.dsde_language.specs.declared.tables.Tables.{Tables}
+use Rattle.dsde_program_bodies.specs.given.program_layout.LayStatements.{lay_body}
 use Rattle.dsde_program.specs.Behind.{behind_body}
 use Rattle.dsde_program.specs.declared.made.Made.{Made}
 use Rattle.dsde_program.proofs.made.behind_body.Goals as goal

@@ -1,6 +1,6 @@
 use Rattle.std.proofs.Common.{List, IfOk, subst}
 use Rattle.dsde_syntax.specs.declared.decl.Decl.{Decl}
-use Rattle.dsde_check_rules.specs.declared.known.Known.{Known}
+use Rattle.dsde_language.specs.declared.known.Known.{Known}
 use Rattle.dsde_program.specs.Whole.{IsWhole}
 use Rattle.dsde_program.proofs.whole.whole_in.Goals as goal
 

@@ -1,8 +1,8 @@
 -- What the rest lays behind what was laid so far is what all lay.
 use Rattle.std.proofs.Common.{◌≡◌, ◌++◌, drop}
-use Rattle.dsde_declared.specs.Models.{state_fields}
-use Rattle.dsde_declared.specs.Names.{with_slots}
-use Rattle.dsde_program_layout.specs.LayStatements.{lay_states}
+use Rattle.dsde_language.specs.DeclaredModels.{state_fields}
+use Rattle.dsde_language.specs.Names.{with_slots}
+use Rattle.dsde_program_expressions.specs.given.program_layout.LayStatements.{lay_states}
 use Rattle.dsde_program_bodies.proofs.bodies.add_states.Given as goal
 
 abbrev pub invariant-loop-state : goal.invariant-loop-state

@@ -1,7 +1,7 @@
 use Rattle.std.proofs.Common.{◌≡◌, [], IfOk, OnOk, ap, subst, ◌∙◌}
-use Rattle.dsde_check_rules.specs.declared.known.Known.{Known}
-use Rattle.dsde_declared.specs.Models.{typed_fields}
-use Rattle.dsde_declared.specs.Names.{Scope, with_slots}
+use Rattle.dsde_language.specs.declared.known.Known.{Known}
+use Rattle.dsde_language.specs.DeclaredModels.{typed_fields}
+use Rattle.dsde_language.specs.Names.{Scope, with_slots}
 use Rattle.dsde_program_bodies.specs.Parts.{lay_code}
 use Rattle.dsde_program_bodies.proofs.bodies.body.Goals as goal
 

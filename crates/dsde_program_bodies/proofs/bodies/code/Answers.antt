@@ -1,10 +1,10 @@
 use Rattle.std.proofs.Common.{◌≡◌, [], List, IfOk, OnOk, ap, subst, ◌∙◌}
 use Rattle.dsde_syntax.specs.declared.decl.StateDecl.{StateDecl}
-use Rattle.dsde_program_nodes.specs.declared.ids.ExprId.{ExprId}
-use Rattle.dsde_program_nodes.specs.declared.tables.Tables.{Tables}
-use Rattle.dsde_declared.specs.Models.{state_fields}
-use Rattle.dsde_declared.specs.Names.{Scope, with_slots}
-use Rattle.dsde_program_layout.specs.LayStatements.{lay_states}
+use Rattle.dsde_language.specs.declared.node_ids.ExprId.{ExprId}
+use Rattle.dsde_language.specs.declared.tables.Tables.{Tables}
+use Rattle.dsde_language.specs.DeclaredModels.{state_fields}
+use Rattle.dsde_language.specs.Names.{Scope, with_slots}
+use Rattle.dsde_program_expressions.specs.given.program_layout.LayStatements.{lay_states}
 use Rattle.dsde_program_bodies.specs.Parts.{lay_moves}
 use Rattle.dsde_program_bodies.proofs.bodies.code.Goals as goal
 

@@ -1,9 +1,9 @@
 -- A statement or an arm lays what its parts lay.
 use Rattle.std.proofs.Common.{◌≡◌, IfOk, OnOk, sym, ap, subst, ◌∙◌, rules}
-use Rattle.dsde_program_nodes.specs.declared.act.Act.{Act}
-use Rattle.dsde_program_nodes.specs.declared.act.ActArm.{ActArm}
-use Rattle.dsde_program_layout.specs.LayPieces.{LaidPiece, Step}
-use Rattle.dsde_program_layout.specs.LayStatements.{lay_stmt}
+use Rattle.dsde_language.specs.declared.act.Act.{Act}
+use Rattle.dsde_language.specs.declared.act.ActArm.{ActArm}
+use Rattle.dsde_program_expressions.specs.given.program_layout.LayPieces.{LaidPiece, Step}
+use Rattle.dsde_program_expressions.specs.given.program_layout.LayStatements.{lay_stmt}
 use Rattle.dsde_program_bodies.proofs.Opened.{arm_opened, stmt_for, stmt_let, stmt_send, stmt_set}
 use Rattle.dsde_program_bodies.proofs.statements.+resolving.Goals as goal
 

@@ -1,6 +1,6 @@
 -- What the rest lays behind what was laid so far is what all lay.
 use Rattle.std.proofs.Common.{◌≡◌, ◌++◌, ◌≤◌, drop, take, length}
-use Rattle.dsde_program_layout.specs.LayStatements.{lay_stmts}
+use Rattle.dsde_program_expressions.specs.given.program_layout.LayStatements.{lay_stmts}
 use Rattle.dsde_program_bodies.specs.Parts.{lay_arms}
 use Rattle.dsde_program_bodies.proofs.statements.+resolving.Given as goal
 

@@ -1,5 +1,5 @@
 use Rattle.std.proofs.Common.{◌≡◌, ◌++◌, drop}
-use Rattle.dsde_declared.specs.Models.{port_fields}
+use Rattle.dsde_language.specs.DeclaredModels.{port_fields}
 use Rattle.dsde_program_infos.proofs.fields.port_fields.Given as goal
 
 abbrev pub invariant-loop-port : goal.invariant-loop-port

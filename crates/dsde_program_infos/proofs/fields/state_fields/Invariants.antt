@@ -1,5 +1,5 @@
 use Rattle.std.proofs.Common.{◌≡◌, ◌++◌, drop}
-use Rattle.dsde_declared.specs.Models.{state_fields}
+use Rattle.dsde_language.specs.DeclaredModels.{state_fields}
 use Rattle.dsde_program_infos.proofs.fields.state_fields.Given as goal
 
 abbrev pub invariant-loop-state : goal.invariant-loop-state

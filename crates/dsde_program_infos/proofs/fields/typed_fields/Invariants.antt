@@ -1,5 +1,5 @@
 use Rattle.std.proofs.Common.{◌≡◌, ◌++◌, drop}
-use Rattle.dsde_declared.specs.Models.{typed_fields}
+use Rattle.dsde_language.specs.DeclaredModels.{typed_fields}
 use Rattle.dsde_program_infos.proofs.fields.typed_fields.Given as goal
 
 abbrev pub invariant-loop-param : goal.invariant-loop-param

@@ -1,5 +1,5 @@
 use Rattle.std.proofs.Common.{◌≡◌, [], drop}
-use Rattle.dsde_program_nodes.specs.Models.{infos_from}
+use Rattle.dsde_language.specs.NodeModels.{infos_from}
 use Rattle.dsde_program_infos.proofs.infos.infos_of.Given as goal
 
 abbrev pub invariant-loop-decl : goal.invariant-loop-decl

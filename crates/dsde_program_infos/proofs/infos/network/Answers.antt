@@ -1,5 +1,5 @@
 use Rattle.std.proofs.Common.{◌∙◌, true, false, ap}
-use Rattle.dsde_declared.specs.Models.{state_fields, port_fields}
+use Rattle.dsde_language.specs.DeclaredModels.{state_fields, port_fields}
 use Rattle.dsde_program_infos.proofs.Parts.{same_info}
 use Rattle.dsde_program_infos.proofs.infos.network.Goals as goal
 

@@ -1,5 +1,5 @@
 use Rattle.std.proofs.Common.{◌≡◌, ◌++◌, drop, length}
-use Rattle.dsde_declared.specs.Models.{defs_from}
+use Rattle.dsde_language.specs.DeclaredModels.{defs_from}
 use Rattle.dsde_program_infos.proofs.types.add_defs.Given as goal
 
 abbrev pub invariant-loop-word : goal.invariant-loop-word

@@ -1,5 +1,5 @@
 use Rattle.std.proofs.Common.{◌≡◌, drop}
-use Rattle.dsde_declared.specs.Models.{with_funcs}
+use Rattle.dsde_language.specs.DeclaredModels.{with_funcs}
 use Rattle.dsde_program_infos.proofs.whole.with_funcs.Given as goal
 
 abbrev pub invariant-loop-decl : goal.invariant-loop-decl

@@ -1,6 +1,6 @@
 use Rattle.std.proofs.Common.{◌≡◌, [], drop}
-use Rattle.dsde_declared.specs.Names.{with_slots}
-use Rattle.dsde_declared.specs.Models.{port_fields}
+use Rattle.dsde_language.specs.Names.{with_slots}
+use Rattle.dsde_language.specs.DeclaredModels.{port_fields}
 use Rattle.dsde_program_slots.proofs.bodies.ports_scope.Given as goal
 
 abbrev pub invariant-loop-port : goal.invariant-loop-port

@@ -1,7 +1,7 @@
 use Rattle.std.proofs.Common.{◌≡◌, drop, false, length, take}
-use Rattle.dsde_declared.specs.Names.{with_slots}
-use Rattle.dsde_declared.specs.Models.{port_fields}
-use Rattle.dsde_program_nodes.specs.Statements.{input_fields}
+use Rattle.dsde_language.specs.Names.{with_slots}
+use Rattle.dsde_language.specs.DeclaredModels.{port_fields}
+use Rattle.dsde_language.specs.Statements.{input_fields}
 use Rattle.dsde_program_slots.proofs.bodies.see_inputs.Given as goal
 
 abbrev pub invariant-loop-port : goal.invariant-loop-port

@@ -1,6 +1,6 @@
 use Rattle.std.proofs.Common.{◌≡◌, drop}
-use Rattle.dsde_declared.specs.Names.{with_slots}
-use Rattle.dsde_declared.specs.Models.{typed_fields}
+use Rattle.dsde_language.specs.Names.{with_slots}
+use Rattle.dsde_language.specs.DeclaredModels.{typed_fields}
 use Rattle.dsde_program_slots.proofs.bodies.see_params.Given as goal
 
 abbrev pub invariant-loop-param : goal.invariant-loop-param

@@ -1,6 +1,6 @@
 use Rattle.std.proofs.Common.{◌≡◌, drop}
-use Rattle.dsde_declared.specs.Names.{with_slots}
-use Rattle.dsde_declared.specs.Models.{state_fields}
+use Rattle.dsde_language.specs.Names.{with_slots}
+use Rattle.dsde_language.specs.DeclaredModels.{state_fields}
 use Rattle.dsde_program_slots.proofs.bodies.see_states.Given as goal
 
 abbrev pub invariant-loop-state : goal.invariant-loop-state

@@ -1,6 +1,6 @@
 use Rattle.std.proofs.Common.{◌≡◌, ◌∙◌, ℕ, List, [], Option, ap, subst, position, unwrap_or, IfOk}
 use Rattle.std.specs.Str.{bytes_eq}
-use Rattle.dsde_check_rules.specs.Judge.{variants_at}
+use Rattle.dsde_language.specs.Judge.{variants_at}
 use Rattle.dsde_program_slots.proofs.numbers.variant_number.Goals as goal
 
 -- the names that were looked at are those of the enum's variants

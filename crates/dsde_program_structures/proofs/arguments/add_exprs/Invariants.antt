@@ -1,6 +1,6 @@
 -- What the rest lays behind what was laid so far is what all lay.
 use Rattle.std.proofs.Common.{◌≡◌, ◌++◌, drop}
-use Rattle.dsde_program_layout.specs.LayItems.{lay_all}
+use Rattle.dsde_program_expressions.specs.given.program_layout.LayItems.{lay_all}
 use Rattle.dsde_program_structures.proofs.arguments.add_exprs.Given as goal
 
 abbrev pub invariant-loop-own : goal.invariant-loop-own

@@ -1,6 +1,6 @@
 -- What the rest adds behind what was added so far is what all add.
 use Rattle.std.proofs.Common.{◌≡◌, map, drop}
-use Rattle.dsde_declared.specs.Structures.{kin_all, kin_of}
+use Rattle.dsde_language.specs.DeclaredStructures.{kin_all, kin_of}
 use Rattle.dsde_program_structures.specs.Parts.{kin_arm}
 use Rattle.dsde_program_structures.proofs.families.+entering.Given as goal
 

@@ -1,6 +1,6 @@
 use Rattle.std.proofs.Common.{◌≡◌, drop}
-use Rattle.dsde_declared.specs.Names.{with_slots}
-use Rattle.dsde_declared.specs.Structures.{directed}
+use Rattle.dsde_language.specs.Names.{with_slots}
+use Rattle.dsde_language.specs.DeclaredStructures.{directed}
 use Rattle.dsde_program_structures.proofs.gates.see_ports.Given as goal
 
 abbrev pub invariant-loop-port : goal.invariant-loop-port

@@ -1,10 +1,10 @@
 -- An item or an arm lays what its part lays.
 use Rattle.std.proofs.Common.{◌≡◌, IfOk, OnOk, sym, ap, subst, ◌∙◌, rules}
-use Rattle.dsde_check_rules.specs.declared.known.Known.{Known}
-use Rattle.dsde_program_nodes.specs.declared.make.Make.{Make}
-use Rattle.dsde_program_nodes.specs.declared.make.MakeArm.{MakeArm}
-use Rattle.dsde_program_layout.specs.LayPieces.{LaidPiece, Step}
-use Rattle.dsde_program_layout.specs.LayItems.{lay_item}
+use Rattle.dsde_language.specs.declared.known.Known.{Known}
+use Rattle.dsde_language.specs.declared.make.Make.{Make}
+use Rattle.dsde_language.specs.declared.make.MakeArm.{MakeArm}
+use Rattle.dsde_program_expressions.specs.given.program_layout.LayPieces.{LaidPiece, Step}
+use Rattle.dsde_program_expressions.specs.given.program_layout.LayItems.{lay_item}
 use Rattle.dsde_program_structures.specs.Parts.{lay_comp}
 use Rattle.dsde_program_structures.proofs.Opened.{arm_opened, item_comp, item_for, item_let, item_link}
 use Rattle.dsde_program_structures.proofs.items.+resolving.Goals as goal

@@ -1,6 +1,6 @@
 -- What the rest lays behind what was laid so far is what all lay.
 use Rattle.std.proofs.Common.{◌≡◌, ◌++◌, drop, take, length}
-use Rattle.dsde_program_layout.specs.LayItems.{lay_items}
+use Rattle.dsde_program_expressions.specs.given.program_layout.LayItems.{lay_items}
 use Rattle.dsde_program_structures.specs.Parts.{lay_arms}
 use Rattle.dsde_program_structures.proofs.items.+resolving.Given as goal
 

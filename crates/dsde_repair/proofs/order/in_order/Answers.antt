@@ -6,7 +6,7 @@ use Rattle.dsde_routes_wiring.specs.declared.wiring.WiredKid.{WiredKid}
 use Rattle.dsde_repair_walks.specs.Found.{InOrder, name_of}
 use Rattle.dsde_repair.proofs.Ordered.{strictly}
 use Rattle.std.specs.List.{IsDistinct}
-use Rattle.dsde_structure.specs.Gather.{is_same_name}
+use Rattle.dsde_routes_wiring.specs.given.structure.Gather.{is_same_name}
 use Rattle.dsde_repair.proofs.order.in_order.Goals as goal
 
 pub returns-clause-order : goal.returns-clause-order

@@ -1,7 +1,7 @@
 use Rattle.std.proofs.Common.{◌≡◌, ◌++◌, List, map, sym, ap, ◌∙◌, subst}
 use Rattle.std.specs.FinSet as set
 use Rattle.std.specs.List.{flat_map, IsDistinct}
-use Rattle.dsde_structure.specs.Gather.{is_same_name}
+use Rattle.dsde_routes_wiring.specs.given.structure.Gather.{is_same_name}
 use Rattle.dsde_routes_wiring.specs.declared.wiring.WiredKid.{WiredKid}
 use Rattle.dsde_routes_wiring.specs.Flatten.{flatten}
 use Rattle.dsde_routes_wiring.specs.Routes.{row_of}
@@ -9,8 +9,8 @@ use Rattle.dsde_routes_wiring.specs.Places.{going, inside, staying}
 use Rattle.dsde_routes_wiring.specs.Sets.{Rows, row_cmp-total, row_cmp-same}
 use Rattle.dsde_routes_wiring.specs.Touched.{handles_of, handles_of_kid}
 use Rattle.dsde_routes_wiring.specs.Wired.{AreWired}
-use Rattle.dsde_repair_laws.proofs.Counting.{distinct-handles}
-use Rattle.dsde_repair_laws.proofs.Sets.{in-flatten}
+use Rattle.dsde_repair_walks.proofs.Counting.{distinct-handles}
+use Rattle.dsde_repair_walks.proofs.Sets.{in-flatten}
 use Rattle.dsde_repair_walks.specs.Found.{name_of}
 use Rattle.dsde_repair.specs.Change.{wiring_after}
 use Rattle.dsde_repair.proofs.Changing.{ok-const, ok-map, bare-wired, after-is, same-after, after-wired, rows-then, ticks-repaired, going-wired}

@@ -7,7 +7,7 @@ use Rattle.dsde_repair_walks.proofs.Serving.{numbers-done}
 use Rattle.dsde_repair.specs.Walks.{between_link, open_around, passing_kids}
 use Rattle.dsde_repair.proofs.Thoroughfares.{few-out}
 use Rattle.dsde_values.specs.declared.name.Name.{Name}
-use Rattle.dsde_structure.specs.declared.plan.Part.TheVariants as part
+use Rattle.dsde_routes_wiring.specs.given.structure.plan_Part_TheVariants as part
 use Rattle.dsde_routes_wiring.specs.Numbers.{numbers_at}
 use Rattle.dsde_routes_wiring.specs.declared.side.Side.TheVariants.{Into}
 use Rattle.dsde_repair.proofs.through.out_all.Goals as goal

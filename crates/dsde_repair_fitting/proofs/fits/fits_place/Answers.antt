@@ -1,9 +1,9 @@
 use Rattle.std.proofs.Common.{List, ◌++◌, map, sym, ◌∙◌, subst}
 use Rattle.std.specs.List.{IsDistinct}
-use Rattle.dsde_structure.specs.Gather.{is_same_name}
+use Rattle.dsde_routes_wiring.specs.given.structure.Gather.{is_same_name}
 use Rattle.dsde_routes_wiring.specs.declared.wiring.WiredKid.{WiredKid}
 use Rattle.dsde_routes_wiring.specs.Places.{staying}
-use Rattle.dsde_repair_laws.proofs.Changes.{kids-there}
+use Rattle.dsde_repair_walks.proofs.Changes.{kids-there}
 use Rattle.dsde_repair_walks.specs.Found.{name_of}
 use Rattle.dsde_repair_fitting.proofs.Fitted.{if-ok, on-true}
 use Rattle.dsde_repair_fitting.proofs.fits.fits_place.Goals as goal

@@ -2,9 +2,9 @@ use Rattle.std.proofs.Common.{subst}
 use Rattle.std.specs.List.{IsDistinct}
 use Rattle.std.proofs.lemmas.List.Sorted.{IsPermutation-sym}
 use Rattle.std.proofs.lemmas.Map.Keys.{IsDistinct-IsPermutation}
-use Rattle.dsde_structure.specs.Gather.{is_same_name}
-use Rattle.dsde_structure.specs.Survival.{AreInOrder}
-use Rattle.dsde_repair_laws.proofs.Counting.{ordered-distinct}
+use Rattle.dsde_routes_wiring.specs.given.structure.Gather.{is_same_name}
+use Rattle.dsde_routes_wiring.specs.given.structure.Survival.{AreInOrder}
+use Rattle.dsde_repair_walks.proofs.Counting.{ordered-distinct}
 use Rattle.dsde_repair_walks.proofs.Searching.{either-way}
 use Rattle.dsde_repair_fitting.proofs.Fitted.{on-true}
 use Rattle.dsde_repair_fitting.proofs.names.are_different.Goals as goal

@@ -1,5 +1,5 @@
 use Rattle.std.proofs.Common.{drop}
-use Rattle.dsde_structure.specs.Survival.{AreInOrder}
+use Rattle.dsde_routes_wiring.specs.given.structure.Survival.{AreInOrder}
 use Rattle.dsde_repair_fitting.proofs.names.are_in_order.Given as goal
 
 abbrev pub invariant-loop-index : goal.invariant-loop-index

@@ -1,7 +1,7 @@
 use Rattle.std.proofs.Common.{List, ◌++◌, map, ap, ◌∙◌, subst}
 use Rattle.std.specs.List.{AllByRecursion}
 use Rattle.dsde_values.specs.declared.name.Name.{Name}
-use Rattle.dsde_structure.specs.Survival.{AreInOrder}
+use Rattle.dsde_routes_wiring.specs.given.structure.Survival.{AreInOrder}
 use Rattle.dsde_routes_wiring.specs.Wired.{LeadsInside}
 use Rattle.dsde_repair_walks.specs.Found.{name_of}
 use Rattle.dsde_repair_walks.specs.Places.{IsBelowWired}

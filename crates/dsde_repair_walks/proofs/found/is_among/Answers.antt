@@ -2,7 +2,7 @@ use Rattle.std.proofs.Common.{List, map, sym, subst, rules}
 use Rattle.std.proofs.lemmas.Fn.{always_returns_same}
 use Rattle.dsde_values.specs.declared.name.Name.{Name}
 use Rattle.dsde_values.specs.Path.{name_cmp}
-use Rattle.dsde_structure.specs.Survival.{AreInOrder}
+use Rattle.dsde_routes_wiring.specs.given.structure.Survival.{AreInOrder}
 use Rattle.dsde_repair_walks.specs.Found.{name_of}
 use Rattle.dsde_repair_walks.proofs.Searching.{one-found, none-found, some-any, none-any, names-themselves}
 use Rattle.dsde_repair_walks.proofs.found.is_among.Goals as goal

@@ -1,4 +1,4 @@
-use Rattle.dsde_structure.specs.declared.plan.Part.TheVariants as part
+use Rattle.dsde_routes_wiring.specs.given.structure.plan_Part_TheVariants as part
 use Rattle.dsde_routes.specs.Passing.{from_parts, ways_got}
 use Rattle.dsde_routes.proofs.Flows.{passing-more, joined}
 use Rattle.dsde_routes.proofs.flowing.to_boss.Goals as goal

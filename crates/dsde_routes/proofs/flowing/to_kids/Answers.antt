@@ -1,5 +1,5 @@
 use Rattle.std.proofs.Common.{◌++◌, ap, arith}
-use Rattle.dsde_structure.specs.declared.plan.Part.TheVariants as part
+use Rattle.dsde_routes_wiring.specs.given.structure.plan_Part_TheVariants as part
 use Rattle.dsde_routes.specs.Passing.{from_parts, ways_got, comes_to, passing}
 use Rattle.dsde_routes.proofs.Flows.{passing-more, joined, passing-none}
 use Rattle.dsde_routes.proofs.flowing.to_kids.Goals as goal

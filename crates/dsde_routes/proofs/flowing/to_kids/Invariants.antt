@@ -1,6 +1,6 @@
 use Rattle.std.proofs.Common.{◌≡◌, ◌++◌, drop}
 use Rattle.dsde_values.specs.declared.name.Name.{Name}
-use Rattle.dsde_structure.specs.declared.plan.Part.TheVariants as part
+use Rattle.dsde_routes_wiring.specs.given.structure.plan_Part_TheVariants as part
 use Rattle.dsde_routes.specs.Passing.{from_parts, passing, ways_got, comes_to}
 use Rattle.dsde_routes.proofs.flowing.to_kids.Given as goal
 

@@ -1,4 +1,4 @@
-use Rattle.dsde_structure.specs.declared.plan.Part.TheVariants as part
+use Rattle.dsde_routes_wiring.specs.given.structure.plan_Part_TheVariants as part
 use Rattle.dsde_routes.specs.Passing.{from_parts}
 use Rattle.dsde_routes_wiring.specs.Ways.{nowhere}
 use Rattle.dsde_routes.proofs.Flows.{passing-more, joined}

@@ -1,5 +1,5 @@
 use Rattle.std.proofs.Common.{◌≡◌, ◌++◌, drop}
-use Rattle.dsde_structure.specs.declared.plan.Part.TheVariants as part
+use Rattle.dsde_routes_wiring.specs.given.structure.plan_Part_TheVariants as part
 use Rattle.dsde_routes_wiring.specs.Ways.{nowhere}
 use Rattle.dsde_routes.specs.Passing.{from_parts, passing}
 use Rattle.dsde_routes.proofs.sending.to_net.Given as goal

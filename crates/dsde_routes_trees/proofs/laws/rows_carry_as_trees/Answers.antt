@@ -1,7 +1,7 @@
 use Rattle.std.proofs.Common.{◌≡◌, ℕ, List, [], get_or}
 use Rattle.std.specs.List.{flat_map}
-use Rattle.dsde_routes_wiring.specs.declared.row.Row.{Row}
-use Rattle.dsde_routes_wiring.specs.Flatten.{flatten}
+use Rattle.dsde_routes_pushing.specs.given.routes_wiring.row_Row.{Row}
+use Rattle.dsde_routes_pushing.specs.given.routes_wiring.Flatten.{flatten}
 use Rattle.dsde_routes_pushing.specs.Carried.{Delivery, pushed}
 use Rattle.dsde_routes_pushing.specs.Pushed.{AreRowsTo}
 use Rattle.dsde_routes_trees.specs.Wire.{wired_net}

@@ -1,6 +1,6 @@
 use Rattle.std.proofs.Common.{sym, subst}
 use Rattle.std.specs.Prelude.{Result}
-use Rattle.dsde_sim_events.specs.declared.event.Finish.{Finish}
+use Rattle.dsde_sim_tree.specs.declared.event.Finish.{Finish}
 use Rattle.dsde_run.specs.declared.run.Cut.{Cut}
 use Rattle.dsde_run.specs.Run.{go_by}
 use Rattle.dsde_run.specs.Reading.{Told, Comes}

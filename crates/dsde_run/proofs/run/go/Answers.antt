@@ -4,10 +4,10 @@ use Rattle.dsde_run.specs.declared.run.Head.TheVariants.{Wanted}
 use Rattle.dsde_run.specs.Run.{go_by}
 use Rattle.dsde_run.specs.Reading.{Told}
 use Rattle.dsde_run.specs.Steps.{to_give, Stands, Turns, IsNext, Waits, record_of, passed}
-use Rattle.dsde_run.proofs.Ending.{comes-halted, taken-halted, halts-not_quiet, comes-unwritten, comes-ended, comes-bound}
+use Rattle.dsde_run.proofs.RunEnding.{comes-halted, taken-halted, halts-not_quiet, comes-unwritten, comes-ended, comes-bound}
 use Rattle.dsde_run.proofs.Standing.{stands-first, stands-ready, stands-turned, stands-handed, front-stands}
 use Rattle.dsde_run.proofs.Timing.{waits-comes, waits-late, waits-passed}
-use Rattle.dsde_declared.specs.Models.{top_number}
+use Rattle.dsde_language.specs.DeclaredModels.{top_number}
 use Rattle.dsde_run.proofs.Tolds.{Told-then, Told-weaker, Told-same}
 use Rattle.dsde_run.proofs.run.go.Goals as goal
 

@@ -1,4 +1,4 @@
-use Rattle.dsde_run.proofs.Ending.{front-stopped}
+use Rattle.dsde_run.proofs.RunEnding.{front-stopped}
 use Rattle.dsde_run.proofs.run.stop.Goals as goal
 
 pub returns-in-Ok-clause-front : goal.returns-in-Ok-clause-front

@@ -4,12 +4,12 @@ use Rattle.std.specs.Option.{option_copied}
 use Rattle.std.proofs.lemmas.Result.{IfOk-weaker}
 use Rattle.dsde_syntax.specs.declared.decl.Model.{Model}
 use Rattle.dsde_values.specs.declared.arrival.Arrival.{Arrival}
-use Rattle.dsde_sim_events.specs.Told as turn
-use Rattle.dsde_sim_turns.specs.declared.step.Step.{Step}
-use Rattle.dsde_sim_turns.specs.declared.step.Step.TheVariants.{Quiet}
-use Rattle.dsde_run_engine.specs.Advancing.{StepsOn}
-use Rattle.dsde_sim_turns.specs.Engine.{next_of}
-use Rattle.dsde_sim_turns.specs.Turn.{turn_time}
+use Rattle.dsde_sim_tree.specs.Told as turn
+use Rattle.dsde_sim_tree.specs.declared.step.Step.{Step}
+use Rattle.dsde_sim_tree.specs.declared.step.Step.TheVariants.{Quiet}
+use Rattle.dsde_run.specs.Advancing.{StepsOn}
+use Rattle.dsde_sim_tree.specs.Engine.{next_of}
+use Rattle.dsde_sim_tree.specs.Turn.{turn_time}
 use Rattle.dsde_run.specs.Run.{kept_text}
 use Rattle.dsde_run.specs.Steps.{Turns, record_of}
 use Rattle.dsde_run.proofs.Coming.{head-comes}

@@ -2,14 +2,14 @@ use Rattle.std.proofs.Common.{◌≡◌, List, Ok, Err, sym, subst, arith}
 use Rattle.std.proofs.lemmas.Result.{IfOk-weaker}
 use Rattle.std.specs.Prelude.{IfOk, IfErr}
 use Rattle.dsde_syntax.specs.declared.decl.Model.{Model}
-use Rattle.dsde_declared.specs.Models.{top_number}
-use Rattle.dsde_system.specs.Program.{system}
-use Rattle.dsde_sim_working.specs.Working as sim
+use Rattle.dsde_language.specs.DeclaredModels.{top_number}
+use Rattle.dsde_image_written.specs.given.system.Program.{system}
+use Rattle.dsde_core.specs.given.sim_working.Working as sim
 use Rattle.dsde_core.specs.Standing.{Standing}
-use Rattle.dsde_sim_events.specs.declared.event.Event.{Event}
-use Rattle.dsde_sim_events.specs.declared.fault.TurnEnd.{TurnEnd}
-use Rattle.dsde_sim_events.specs.Told.{Tells}
-use Rattle.dsde_sim_turns.specs.Turn as turning
+use Rattle.dsde_sim_tree.specs.declared.event.Event.{Event}
+use Rattle.dsde_sim_tree.specs.declared.fault.TurnEnd.{TurnEnd}
+use Rattle.dsde_sim_tree.specs.Told.{Tells}
+use Rattle.dsde_sim_tree.specs.Turn as turning
 use Rattle.dsde_run.specs.Steps.{Begins}
 use Rattle.dsde_run.specs.lemmas.Beginning.{begins-by, path-starts}
 use Rattle.dsde_run.proofs.whole.run_leaving.Goals as goal

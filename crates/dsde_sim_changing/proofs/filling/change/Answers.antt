@@ -1,8 +1,8 @@
 use Rattle.std.proofs.Common.{sym, subst, map, List}
 use Rattle.std.specs.List.{AllByRecursion}
 use Rattle.dsde_sim_tree.specs.Tree.{name_of}
-use Rattle.dsde_structure.specs.declared.plan.Entry.{Entry}
-use Rattle.dsde_structure.specs.Survival.{AreInOrder}
+use Rattle.dsde_sim_tree.specs.given.structure.plan_Entry.{Entry}
+use Rattle.dsde_sim_tree.specs.given.structure.Survival.{AreInOrder}
 use Rattle.dsde_sim_starting.specs.Fitting.{FitsKid}
 use Rattle.dsde_sim_tree.specs.declared.sim.Kid.{Kid}
 use Rattle.dsde_sim_tree.specs.Move.{survives}

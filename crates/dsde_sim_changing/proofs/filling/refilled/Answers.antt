@@ -1,9 +1,9 @@
 use Rattle.std.proofs.Common.{ℕ, ◌∙◌, ap, subst, Ok, Err, []}
 use Rattle.std.proofs.lemmas.Result.{err_from_is_err_and}
-use Rattle.dsde_sim_events.specs.Told.{Tells}
-use Rattle.dsde_sim_telling.specs.lemmas.GoingOn.{stops, lacks}
-use Rattle.dsde_system.specs.Program.{system}
-use Rattle.dsde_system.specs.Plans.{FitsEntry}
+use Rattle.dsde_sim_tree.specs.Told.{Tells}
+use Rattle.dsde_sim_starting.specs.given.sim_telling.lemmas_GoingOn.{stops, lacks}
+use Rattle.dsde_sim_starting.specs.given.system.Program.{system}
+use Rattle.dsde_sim_starting.specs.given.system.Plans.{FitsEntry}
 use Rattle.dsde_sim_starting.specs.Fitting.{FitsKid}
 use Rattle.dsde_sim_tree.specs.Start.{start}
 use Rattle.dsde_sim_tree.specs.Move.{refilled, left_behind}

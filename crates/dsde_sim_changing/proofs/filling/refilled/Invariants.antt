@@ -1,5 +1,5 @@
-use Rattle.dsde_system.specs.Program.{system}
-use Rattle.dsde_system.specs.Plans.{FitsEntry}
+use Rattle.dsde_sim_starting.specs.given.system.Program.{system}
+use Rattle.dsde_sim_starting.specs.given.system.Plans.{FitsEntry}
 use Rattle.dsde_sim_starting.specs.Fitting.{FitsKid}
 use Rattle.dsde_sim_tree.specs.Start.{start}
 use Rattle.dsde_sim_tree.specs.Move.{left_behind}

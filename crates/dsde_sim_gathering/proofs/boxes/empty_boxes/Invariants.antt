@@ -1,5 +1,5 @@
 use Rattle.std.proofs.Common.{◌≡◌, map, take}
-use Rattle.dsde_system.specs.Program.{system}
+use Rattle.dsde_sound_structures.specs.given.system.Program.{system}
 use Rattle.dsde_sim_tree.specs.declared.sim.Sim.TheViews.{out-Kid}
 use Rattle.dsde_sim_tree.specs.Move.{ins_of}
 use Rattle.dsde_sim_gathering.specs.Boxes.{empty_ports}

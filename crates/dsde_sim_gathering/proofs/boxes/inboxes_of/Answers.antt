@@ -1,7 +1,7 @@
 use Rattle.std.proofs.Common.{◌<◌, ◌∙◌, List, map, take, length, sym, ap, subst, arith}
 use Rattle.dsde_sim_tree.specs.Tree.{name_of}
-use Rattle.dsde_structure.specs.declared.plan.Link.{Link}
-use Rattle.dsde_system.specs.Program.{system}
+use Rattle.dsde_sim_tree.specs.given.structure.plan_Link.{Link}
+use Rattle.dsde_sound_structures.specs.given.system.Program.{system}
 use Rattle.dsde_sim_gathering.specs.declared.boxes.Inboxes.{Inboxes}
 use Rattle.dsde_sim_gathering.specs.Boxes.{boxes_of, delivered}
 use Rattle.dsde_sim_gathering.specs.Passing.{AllPass}

@@ -1,5 +1,5 @@
 use Rattle.std.proofs.Common.{◌≡◌, take}
-use Rattle.dsde_system.specs.Program.{system}
+use Rattle.dsde_sound_structures.specs.given.system.Program.{system}
 use Rattle.dsde_sim_gathering.specs.Boxes.{boxes_of}
 use Rattle.dsde_sim_gathering.proofs.boxes.inboxes_of.Given as goal
 

@@ -1,7 +1,7 @@
 use Rattle.std.proofs.Common.{◌≡◌, take}
-use Rattle.dsde_structure.specs.declared.plan.Part.TheVariants as part
-use Rattle.dsde_structure.specs.Gather.{gathered}
-use Rattle.dsde_system.specs.Program.{system}
+use Rattle.dsde_sim_tree.specs.given.structure.plan_Part_TheVariants as part
+use Rattle.dsde_sim_tree.specs.given.structure.Gather.{gathered}
+use Rattle.dsde_sound_structures.specs.given.system.Program.{system}
 use Rattle.dsde_sim_gathering.proofs.boxes.sent_by_net.Given as goal
 
 abbrev pub invariant-loop-link : goal.invariant-loop-link

@@ -1,6 +1,6 @@
 use Rattle.std.proofs.Common.{◌≡◌, ◌++◌, [], drop, filter_map, slice_index_or}
-use Rattle.dsde_structure.specs.Gather.{carried, from_part, through}
-use Rattle.dsde_system.specs.Program.{system}
+use Rattle.dsde_sim_tree.specs.given.structure.Gather.{carried, from_part, through}
+use Rattle.dsde_sound_structures.specs.given.system.Program.{system}
 use Rattle.dsde_sim_gathering.proofs.carry.carry.Given as goal
 
 abbrev pub invariant-loop-value : goal.invariant-loop-value

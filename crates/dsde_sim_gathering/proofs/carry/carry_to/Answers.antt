@@ -1,6 +1,6 @@
 use Rattle.std.proofs.Common.{◌++◌, sym}
-use Rattle.dsde_structure.specs.Gather.{carried}
-use Rattle.dsde_system.specs.Program.{system}
+use Rattle.dsde_sim_tree.specs.given.structure.Gather.{carried}
+use Rattle.dsde_sound_structures.specs.given.system.Program.{system}
 use Rattle.dsde_sim_gathering.proofs.Adding.{changed-on, past-changed}
 use Rattle.dsde_sim_gathering.proofs.carry.carry_to.Goals as goal
 

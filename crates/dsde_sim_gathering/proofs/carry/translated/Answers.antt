@@ -1,7 +1,7 @@
 use Rattle.std.proofs.Common.{◌≡◌, Option, sym, subst}
 use Rattle.dsde_values.specs.declared.value.Value.{Value}
-use Rattle.dsde_sound_places.specs.Conditions.{CanTranslate, Translated}
-use Rattle.dsde_system.specs.Program.{system}
+use Rattle.dsde_sound_structures.specs.given.sound_expressions.Conditions.{CanTranslate, Translated}
+use Rattle.dsde_sound_structures.specs.given.system.Program.{system}
 use Rattle.dsde_sim_gathering.proofs.Adding.{if-ok}
 use Rattle.dsde_sim_gathering.proofs.carry.translated.Goals as goal
 

@@ -1,7 +1,7 @@
 use Rattle.std.proofs.Common.{Ok, Err, sym, rules}
 use Rattle.std.proofs.lemmas.Fn.{always_returns_same}
 use Rattle.dsde_values.specs.Path.{name_cmp}
-use Rattle.dsde_structure.specs.declared.sources.Given.{Given}
+use Rattle.dsde_sim_tree.specs.given.structure.sources_Given.{Given}
 use Rattle.dsde_sim_gathering.proofs.Placing.{searched}
 use Rattle.dsde_sim_gathering.proofs.names.place_of_given.Goals as goal
 

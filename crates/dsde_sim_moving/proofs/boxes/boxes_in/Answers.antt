@@ -1,14 +1,14 @@
 use Rattle.std.proofs.Common.{rules, ◌∙◌, sym, ap, subst, List, map, length}
 use Rattle.std.specs.List.{AllByRecursion}
-use Rattle.dsde_sim_gathering.specs.Boxes.{box_of}
-use Rattle.dsde_structure.specs.declared.plan.Link.{Link}
-use Rattle.dsde_structure.specs.declared.plan.Part.TheVariants as part
-use Rattle.dsde_structure.specs.Gather.{gathered}
-use Rattle.dsde_system.specs.Program.{system}
+use Rattle.dsde_sim_changing.specs.given.sim_gathering.Boxes.{box_of}
+use Rattle.dsde_sim_tree.specs.given.structure.plan_Link.{Link}
+use Rattle.dsde_sim_tree.specs.given.structure.plan_Part_TheVariants as part
+use Rattle.dsde_sim_tree.specs.given.structure.Gather.{gathered}
+use Rattle.dsde_sim_changing.specs.given.system.Program.{system}
 use Rattle.dsde_sim_tree.specs.declared.sim.Kid.{Kid}
 use Rattle.dsde_sim_tree.specs.declared.sim.Sim.TheViews.{out-Kid, out-Net}
-use Rattle.dsde_sound_links.specs.Carrying.{FitsWiring}
-use Rattle.dsde_sim_gathering.specs.Passing.{AreSortedKids, IsOfModel}
+use Rattle.dsde_sim_changing.specs.given.sound_structures.Carrying.{FitsWiring}
+use Rattle.dsde_sim_changing.specs.given.sim_gathering.Passing.{AreSortedKids, IsOfModel}
 use Rattle.dsde_sim_moving.specs.Moving.{AreFew}
 use Rattle.dsde_sim_moving.proofs.Gathering.{all-of-model, boss-fits, kids-fit, kids-sorted, length-gathered, sources-sorted, wiring-fits}
 use Rattle.dsde_sim_moving.proofs.boxes.boxes_in.Goals as goal

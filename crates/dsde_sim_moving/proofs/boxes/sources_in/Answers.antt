@@ -1,7 +1,7 @@
 use Rattle.std.proofs.Common.{sym, subst}
 use Rattle.std.specs.List.{AllByRecursion}
-use Rattle.dsde_sim_starting.specs.Fitting.{FitsKid}
-use Rattle.dsde_sim_starting.specs.lemmas.Fits.{net-kids, net-shape}
+use Rattle.dsde_sim_changing.specs.given.sim_starting.Fitting.{FitsKid}
+use Rattle.dsde_sim_changing.specs.given.sim_starting.lemmas_Fits.{net-kids, net-shape}
 use Rattle.dsde_sim_moving.proofs.Gathering.{is-asked}
 use Rattle.dsde_sim_moving.proofs.boxes.sources_in.Goals as goal
 

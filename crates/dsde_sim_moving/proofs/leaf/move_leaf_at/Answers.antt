@@ -1,4 +1,4 @@
-use Rattle.dsde_sim_starting.specs.lemmas.Stood.{inputs-of}
+use Rattle.dsde_sim_changing.specs.given.sim_starting.lemmas_Stood.{inputs-of}
 use Rattle.dsde_sim_moving.proofs.leaf.move_leaf_at.Goals as goal
 
 pub take_move-requires-clause-got : goal.take_move-requires-clause-got

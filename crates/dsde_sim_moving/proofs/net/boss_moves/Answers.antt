@@ -1,11 +1,11 @@
 use Rattle.std.proofs.Common.{◌∙◌, ap, sym, Err}
 use Rattle.std.proofs.lemmas.Result.{err_from_is_err_and}
-use Rattle.dsde_formalism.specs.Leaf.{kind_of}
-use Rattle.dsde_formalism.specs.System.{Ports}
-use Rattle.dsde_sim_events.specs.Told.{to_boss}
-use Rattle.dsde_sim_telling.specs.lemmas.GoingOn.{goes-step, stops, tail}
+use Rattle.dsde_sim_tree.specs.given.formalism.Leaf.{kind_of}
+use Rattle.dsde_sim_tree.specs.given.formalism.System.{Ports}
+use Rattle.dsde_sim_tree.specs.Told.{to_boss}
+use Rattle.dsde_sim_changing.specs.given.sim_telling.lemmas_GoingOn.{goes-step, stops, tail}
 use Rattle.dsde_sim_tree.specs.Move.{take_move, after_boss, boss_moves}
-use Rattle.dsde_system.specs.Program.{system}
+use Rattle.dsde_sim_changing.specs.given.system.Program.{system}
 use Rattle.dsde_sim_moving.proofs.Goes.{boss-goes}
 use Rattle.dsde_sim_moving.proofs.net.boss_moves.Goals as goal
 

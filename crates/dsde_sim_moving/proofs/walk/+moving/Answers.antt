@@ -1,9 +1,9 @@
 use Rattle.std.proofs.Common.{arith, ◌∙◌, ap, sym, subst, List, [], map, Err, Ok}
 use Rattle.std.proofs.lemmas.Result.{err_from_is_err_and}
-use Rattle.dsde_declared.specs.declared.ids.ModelId.{ModelId}
-use Rattle.dsde_formalism.specs.System.{Ports}
-use Rattle.dsde_sim_events.specs.Told.{Tells}
-use Rattle.dsde_sim_telling.specs.lemmas.GoingOn.{GoesOn, goes-ok, goes-step, goes-end, stops, ends, lacks, tail}
+use Rattle.dsde_language.specs.declared.ids.ModelId.{ModelId}
+use Rattle.dsde_sim_tree.specs.given.formalism.System.{Ports}
+use Rattle.dsde_sim_tree.specs.Told.{Tells}
+use Rattle.dsde_sim_changing.specs.given.sim_telling.lemmas_GoingOn.{GoesOn, goes-ok, goes-step, goes-end, stops, ends, lacks, tail}
 use Rattle.dsde_sim_tree.specs.declared.sim.Kid.{Kid}
 use Rattle.dsde_sim_tree.specs.declared.sim.Net.{Net}
 use Rattle.dsde_sim_tree.specs.declared.sim.Sim.{Sim}
@@ -12,14 +12,14 @@ use Rattle.dsde_sim_tree.specs.declared.sim.Sim.TheViews.{out-Net}
 use Rattle.dsde_sim_tree.specs.Output.{sources_of, kid_output}
 use Rattle.dsde_sim_tree.specs.Tree.{model_of, parts_of_kids}
 use Rattle.dsde_sim_tree.specs.Move.{move_leaf_at, boss_moves, after_kids, with_sources, move, kid_move, net_move}
-use Rattle.dsde_system.specs.Program.{system}
-use Rattle.dsde_sim_starting.specs.Fitting.{FitsGot, FitsTree}
+use Rattle.dsde_sim_changing.specs.given.system.Program.{system}
+use Rattle.dsde_sim_changing.specs.given.sim_starting.Fitting.{FitsGot, FitsTree}
 use Rattle.dsde_sim_moving.specs.Moving.{kid_with, kids_with}
-use Rattle.dsde_sim_starting.specs.lemmas.Fits.{leaf-tree, net-tree, tree-leaf, tree-net}
+use Rattle.dsde_sim_changing.specs.given.sim_starting.lemmas_Fits.{leaf-tree, net-tree, tree-leaf, tree-net}
 use Rattle.dsde_sim_moving.proofs.Made.{kid-made}
 use Rattle.dsde_sim_tree.specs.Opened.{as_leaf, as_net}
 use Rattle.dsde_sim_moving.proofs.Goes.{leaf-goes, net-goes, sources-go, kids-go, kid-goes, kids_behind}
-use Rattle.dsde_sim_starting.specs.lemmas.Stood.{model-leaf, model-net}
+use Rattle.dsde_sim_changing.specs.given.sim_starting.lemmas_Stood.{model-leaf, model-net}
 use Rattle.dsde_sim_moving.proofs.Turns.{ended, entries-ended, few-here, fewer-here, got-here, inside-here}
 use Rattle.dsde_sim_moving.proofs.walk.+moving.Goals as goal
 

@@ -1,9 +1,9 @@
 use Rattle.std.proofs.Common.{◌≡◌, ◌+◌, ◌*◌, ◌≤◌, [], ◌++◌, map}
 use Rattle.std.specs.List.{AllByRecursion}
-use Rattle.dsde_sim_telling.specs.lemmas.GoingOn.{GoesOn}
-use Rattle.dsde_system.specs.Program.{system}
+use Rattle.dsde_sim_changing.specs.given.sim_telling.lemmas_GoingOn.{GoesOn}
+use Rattle.dsde_sim_changing.specs.given.system.Program.{system}
 use Rattle.dsde_sim_tree.specs.Tree.{parts, parts_of_kid, parts_of_kids, parts_of_net, entry_of}
-use Rattle.dsde_sim_starting.specs.Fitting.{FitsKid}
+use Rattle.dsde_sim_changing.specs.given.sim_starting.Fitting.{FitsKid}
 use Rattle.dsde_sim_moving.specs.Moving.{kids_with, AreGot, FitsInside}
 use Rattle.dsde_sim_moving.proofs.walk.+moving.Given as goal
 

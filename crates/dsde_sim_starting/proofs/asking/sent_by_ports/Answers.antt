@@ -1,9 +1,9 @@
 use Rattle.std.proofs.Common.{List, sym, subst, ap, ◌∙◌}
-use Rattle.dsde_structure.specs.declared.plan.Link.{Link}
-use Rattle.dsde_structure.specs.declared.plan.Part.TheVariants as part
-use Rattle.dsde_structure.specs.Gather.{gathered}
-use Rattle.dsde_system.specs.Program.{system}
-use Rattle.dsde_sound_links.specs.Carrying.{FitsWiring}
+use Rattle.dsde_sim_tree.specs.given.structure.plan_Link.{Link}
+use Rattle.dsde_sim_tree.specs.given.structure.plan_Part_TheVariants as part
+use Rattle.dsde_sim_tree.specs.given.structure.Gather.{gathered}
+use Rattle.dsde_executive.specs.given.system.Program.{system}
+use Rattle.dsde_executive.specs.given.sound_structures.Carrying.{FitsWiring}
 use Rattle.dsde_sim_starting.proofs.Sending.{gathered-few, net-sorted, net-wiring}
 use Rattle.dsde_sim_starting.proofs.asking.sent_by_ports.Goals as goal
 

@@ -1,6 +1,6 @@
 use Rattle.std.proofs.Common.{sym, ap, ◌∙◌, slice_get}
-use Rattle.dsde_declared.specs.declared.ids.ModelId.{ModelId}
-use Rattle.dsde_declared.specs.Models.{owns_of}
+use Rattle.dsde_language.specs.declared.ids.ModelId.{ModelId}
+use Rattle.dsde_language.specs.DeclaredModels.{owns_of}
 use Rattle.dsde_sim_starting.proofs.networks.structure_of.Goals as goal
 
 pub structure-requires-clause-state : goal.structure-requires-clause-state

@@ -1,9 +1,9 @@
 use Rattle.std.proofs.Common.{◌≡◌, ◌∙◌, ap, sym, [], true, List, map, Err}
 use Rattle.std.proofs.lemmas.Result.{err_from_is_err_and}
-use Rattle.dsde_structure.specs.declared.plan.Entry.{Entry}
-use Rattle.dsde_structure.specs.Survival.{roles}
-use Rattle.dsde_sim_events.specs.Told.{to_boss}
-use Rattle.dsde_system.specs.Program.{system}
+use Rattle.dsde_sim_tree.specs.given.structure.plan_Entry.{Entry}
+use Rattle.dsde_sim_tree.specs.given.structure.Survival.{roles}
+use Rattle.dsde_sim_tree.specs.Told.{to_boss}
+use Rattle.dsde_executive.specs.given.system.Program.{system}
 use Rattle.dsde_sim_telling.specs.lemmas.GoingOn.{goes-step, goes-end, stops, lacks, tail}
 use Rattle.dsde_sim_tree.specs.Tree.{entry_of, started_as}
 use Rattle.dsde_sim_tree.specs.Start.{start_leaf_at, start, starts, started_kid, with_boss}

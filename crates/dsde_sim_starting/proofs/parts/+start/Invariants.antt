@@ -1,5 +1,5 @@
 use Rattle.std.proofs.Common.{◌*◌, ◌+◌}
-use Rattle.dsde_system.specs.Program.{system}
+use Rattle.dsde_executive.specs.given.system.Program.{system}
 use Rattle.dsde_sim_tree.specs.Start.{start}
 use Rattle.dsde_sim_starting.proofs.Going.{HaveStarted}
 use Rattle.dsde_sim_starting.proofs.parts.+start.Given as goal

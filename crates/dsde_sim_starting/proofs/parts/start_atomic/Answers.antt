@@ -1,6 +1,6 @@
 use Rattle.std.proofs.Common.{ap, ◌∙◌}
-use Rattle.dsde_declared.specs.declared.ids.ModelId.{ModelId}
-use Rattle.dsde_system.specs.Program.{system}
+use Rattle.dsde_language.specs.declared.ids.ModelId.{ModelId}
+use Rattle.dsde_executive.specs.given.system.Program.{system}
 use Rattle.dsde_sim_starting.specs.lemmas.Fits.{tree-leaf}
 use Rattle.dsde_sim_starting.proofs.parts.start_atomic.Goals as goal
 

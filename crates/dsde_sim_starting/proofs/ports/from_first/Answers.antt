@@ -1,7 +1,7 @@
 use Rattle.std.proofs.Common.{List, [], ◌∷◌, ◌++◌, ◌∙◌, ap, sym, arith}
 use Rattle.std.proofs.lemmas.List.FromFn.{map-range_with_len_more}
 use Rattle.dsde_values.specs.declared.value.Value.{Value}
-use Rattle.dsde_formalism.specs.System.{Ports}
+use Rattle.dsde_sim_tree.specs.given.formalism.System.{Ports}
 use Rattle.dsde_sim_tree.specs.Output.{values_at}
 use Rattle.dsde_sim_starting.proofs.ports.from_first.Goals as goal
 

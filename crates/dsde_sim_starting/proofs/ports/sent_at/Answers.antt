@@ -1,5 +1,5 @@
 use Rattle.std.proofs.Common.{sym, subst}
-use Rattle.dsde_system.specs.Fitting.{FitsSends}
+use Rattle.dsde_executive.specs.given.system.Fitting.{FitsSends}
 use Rattle.dsde_sim_starting.proofs.ports.sent_at.Goals as goal
 
 pub returns-then-not-is_due-clause-fits : goal.returns-then-not-is_due-clause-fits

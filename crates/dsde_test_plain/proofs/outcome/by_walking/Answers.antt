@@ -2,13 +2,13 @@ use Rattle.std.proofs.Common.{◌≡◌, Ok, subst, arith}
 use Rattle.std.proofs.lemmas.Result.{IfOk-weaker}
 use Rattle.std.specs.Prelude.{IfOk}
 use Rattle.dsde_syntax.specs.declared.decl.Model.{Model}
-use Rattle.dsde_declared.specs.Models.{top_number}
-use Rattle.dsde_system.specs.Program.{system}
-use Rattle.dsde_sim_working.specs.Working as sim
-use Rattle.dsde_sim_working.specs.Working.{Working}
-use Rattle.dsde_sim_events.specs.Told.{Tells}
-use Rattle.dsde_sim_turns.specs.Turn as turning
-use Rattle.dsde_run.specs.lemmas.Beginning.{path-starts}
+use Rattle.dsde_language.specs.DeclaredModels.{top_number}
+use Rattle.dsde_plain.specs.given.system.Program.{system}
+use Rattle.dsde_plain.specs.given.sim_working.Working as sim
+use Rattle.dsde_plain.specs.given.sim_working.Working.{Working}
+use Rattle.dsde_trace.specs.given.sim_tree.Told.{Tells}
+use Rattle.dsde_trace.specs.given.sim_tree.Turn as turning
+use Rattle.dsde_plain.specs.given.run.lemmas_Beginning.{path-starts}
 use Rattle.dsde_test_plain.proofs.outcome.by_walking.Goals as goal
 
 pub run_started-how-requires-clause-starts : goal.run_started-how-requires-clause-starts

@@ -1,7 +1,7 @@
 use Rattle.std.proofs.Common.{◌≡◌, ◌∙◌, subst}
 use Rattle.std.specs.Prelude.{Some, slice_get}
-use Rattle.dsde_declared.specs.declared.ids.ModelId.{ModelId}
-use Rattle.dsde_program_nodes.specs.Models.{infos_of}
+use Rattle.dsde_language.specs.declared.ids.ModelId.{ModelId}
+use Rattle.dsde_language.specs.NodeModels.{infos_of}
 use Rattle.dsde_trace_reading.proofs.Modelling.{outs-told}
 use Rattle.dsde_trace_reading.proofs.models.outs_of.Goals as goal
 

@@ -1,6 +1,6 @@
 use Rattle.std.specs.Prelude.{Some, None}
 use Rattle.std.proofs.Common.{codes}
-use Rattle.dsde_declared.specs.Models.{top_outs, types_of}
+use Rattle.dsde_language.specs.DeclaredModels.{top_outs, types_of}
 use Rattle.dsde_trace_words.specs.Words.{IsPassed, NoneBefore, Precedes, passed_text}
 use Rattle.dsde_trace_words.specs.lemmas.Behind.{behind-finds, not-behind-finds}
 use Rattle.dsde_trace_reading.proofs.Telling.{out-reads}

@@ -3,16 +3,16 @@ use Rattle.std.proofs.lemmas.Result.{err_from_is_err_and}
 use Rattle.std.specs.Option.{option_copied}
 use Rattle.dsde_values.specs.declared.arrival.Item.{Item}
 use Rattle.dsde_values.specs.declared.when.When.{When}
-use Rattle.dsde_sim_events.specs.declared.fault.TurnEnd.{TurnEnd}
-use Rattle.dsde_sim_events.specs.Told.{Tells}
-use Rattle.dsde_system.specs.Program.{system}
-use Rattle.dsde_sim_turns.specs.declared.step.Step.{Step}
-use Rattle.dsde_sim_turns.specs.declared.step.Step.TheVariants.{Turned}
-use Rattle.dsde_sim_turns.specs.Engine.{next_of}
-use Rattle.dsde_sim_turns.specs.Turn.{advance, turn, turn_time}
-use Rattle.dsde_sim_working.specs.lemmas.Standing.{counts}
-use Rattle.dsde_core_steps.specs.Flat.{tree_of}
-use Rattle.dsde_core.proofs.Turning as turning
+use Rattle.dsde_sim_tree.specs.declared.fault.TurnEnd.{TurnEnd}
+use Rattle.dsde_sim_tree.specs.Told.{Tells}
+use Rattle.dsde_core_outputs.specs.given.system.Program.{system}
+use Rattle.dsde_sim_tree.specs.declared.step.Step.{Step}
+use Rattle.dsde_sim_tree.specs.declared.step.Step.TheVariants.{Turned}
+use Rattle.dsde_sim_tree.specs.Engine.{next_of}
+use Rattle.dsde_sim_tree.specs.Turn.{advance, turn, turn_time}
+use Rattle.dsde_core_outputs.specs.given.sim_working.lemmas_Standing.{counts}
+use Rattle.dsde_core_moving.specs.given.core_moves.Flat.{tree_of}
+use Rattle.dsde_core.proofs.EngineTurning as turning
 use Rattle.dsde_core.proofs.engine.Core.advance.Goals as goal
 
 pub turn-requires-clause-moment : goal.turn-requires-clause-moment
@@ -63,6 +63,9 @@ returns-clause-delivered g c =
     let i = c.self.inside in
     let own = c.args.self.now in
     c.advances_are_delivered.ensures (system own.program) own.engine _ (option_copied c.args.head) c.args.events.now c.turn.new.events (Ok (Turned c.is_taken-took_input.result)) (turning.order i.program.now i.spent i.flat i.turn i.time i.taken c.args.self.now c.self.view_is c.self.invariant c.requires.fresh) (returns-clause-ok g c) tt
+
+pub returns-clause-few : goal.returns-clause-few
+returns-clause-few g c = c.in_ok-turn.ensures.rests.few
 
 pub returns-clause-root : goal.returns-clause-root
 returns-clause-root g c number is =

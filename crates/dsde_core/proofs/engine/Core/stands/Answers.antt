@@ -1,7 +1,7 @@
 use Rattle.std.proofs.Common.{subst}
-use Rattle.dsde_sim_working.specs.Working.{StandsAt, StandsIf}
+use Rattle.dsde_core_outputs.specs.given.sim_working.Working.{StandsAt, StandsIf}
 use Rattle.dsde_core.specs.Standing.{Standing}
-use Rattle.dsde_core.proofs.Resting.{its-tree-stands}
+use Rattle.dsde_core.proofs.EngineResting.{its-tree-stands}
 use Rattle.dsde_core.proofs.engine.Core.stands.Goals as goal
 
 pub returns-clause-fits : goal.returns-clause-fits

@@ -1,13 +1,13 @@
 use Rattle.std.proofs.Common.{◌∙◌, ◌≤◌, Err, ap, sym, subst, arith}
 use Rattle.std.proofs.lemmas.Result.{err_from_is_err_and}
-use Rattle.dsde_declared.specs.Models.{top_number}
-use Rattle.dsde_system.specs.Program.{system}
+use Rattle.dsde_language.specs.DeclaredModels.{top_number}
+use Rattle.dsde_core_outputs.specs.given.system.Program.{system}
 use Rattle.dsde_sim_tree.specs.declared.sim.Sim.{Sim}
 use Rattle.dsde_sim_tree.specs.Tree.{model_of, parts}
-use Rattle.dsde_sim_turns.specs.Engine.{begun}
-use Rattle.dsde_sim_working.specs.Working.{StandsAt}
-use Rattle.dsde_sim_working.specs.lemmas.Standing.{start-is, starts}
-use Rattle.dsde_core_steps.specs.Flat.{tree_of}
+use Rattle.dsde_sim_tree.specs.Engine.{begun}
+use Rattle.dsde_core_outputs.specs.given.sim_working.Working.{StandsAt}
+use Rattle.dsde_core_outputs.specs.given.sim_working.lemmas_Standing.{start-is, starts}
+use Rattle.dsde_core_moving.specs.given.core_moves.Flat.{tree_of}
 use Rattle.dsde_core.proofs.Starting.{laid, not-laid}
 use Rattle.dsde_core.proofs.engine.Core.start.Goals as goal
 
@@ -32,6 +32,9 @@ pub returns-clause-born : goal.returns-clause-born
 returns-clause-born c =
     let within : parts c.in_ok-tree.tree ≤ 131072 = c.in_ok-tree.ensures.stands.within in
     omega (arith, c.in_ok-flat.ensures.born, within)
+
+pub returns-clause-few : goal.returns-clause-few
+returns-clause-few c = (c.in_ok-flat.ensures.rests c.args.program.now c.in_ok-tree.ensures.stands.fits).few
 
 pub invariant_of-result : goal.invariant_of-result
 invariant_of-result c =

@@ -1,4 +1,4 @@
-use Rattle.dsde_core.proofs.Turning as turning
+use Rattle.dsde_core.proofs.EngineTurning as turning
 use Rattle.dsde_core.proofs.engine.Core.tree_of.Goals as goal
 
 pub tree_of-requires : goal.tree_of-requires

@@ -1,7 +1,7 @@
 -- A node and a block at a depth, and an assignment.
 use Rattle.std.proofs.Common.{Some, List, rules, sym, ◌∙◌, ap, subst, arith}
-use Rattle.dsde_eval_meaning.specs.Outcome.{Outcome, Gives}
-use Rattle.dsde_eval_meaning.specs.Tables.{state_of}
+use Rattle.dsde_language.specs.Outcome.{Outcome, Gives}
+use Rattle.dsde_language.specs.MeaningTables.{state_of}
 use Rattle.dsde_values.specs.declared.value.Value.{Value}
 use Rattle.dsde_eval_tables.specs.Spots.{Reaches}
 use Rattle.dsde_eval_tables.specs.Evaluating.{coded_of}

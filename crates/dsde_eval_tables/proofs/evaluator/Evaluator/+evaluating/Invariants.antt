@@ -1,6 +1,6 @@
 -- What the rest comes to, after what came so far, stays the same; and the depth falls.
 use Rattle.std.proofs.Common.{◌≡◌, ◌+◌, ◌*◌, [], drop}
-use Rattle.dsde_eval_meaning.specs.Tables.{means_in, values_from, each_from, arms_from, arms_flow, acts_flow, for_each, state_of, State}
+use Rattle.dsde_language.specs.MeaningTables.{means_in, values_from, each_from, arms_from, arms_flow, acts_flow, for_each, state_of, State}
 use Rattle.dsde_eval_tables.specs.Evaluating.{coded_of}
 use Rattle.dsde_eval_tables.specs.Passing.{ActsPass, ArmsPass, EachPasses, PassesIn}
 use Rattle.dsde_eval_tables.proofs.evaluator.Evaluator.+evaluating.Given as goal

@@ -1,5 +1,5 @@
 use Rattle.std.proofs.Common.{◌≡◌, Some, arith, slice_get}
-use Rattle.dsde_program_nodes.specs.declared.node.Node.TheVariants as node
+use Rattle.dsde_language.specs.declared.node.Node.TheVariants as node
 use Rattle.dsde_eval_tables.specs.Evaluating.{coded_of}
 use Rattle.dsde_eval_tables.proofs.Standing.{node-lent, slot-lent}
 use Rattle.dsde_eval_tables.proofs.evaluator.Evaluator.standing.Goals as goal

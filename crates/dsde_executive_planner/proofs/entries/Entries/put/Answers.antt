@@ -1,5 +1,5 @@
 use Rattle.std.proofs.Common.{◌≡◌, ◌∙◌, false, List, ap, map, sym, subst}
-use Rattle.dsde_structure.specs.declared.plan.Entry.{Entry}
+use Rattle.dsde_executive_plans.specs.given.structure.plan_Entry.{Entry}
 use Rattle.dsde_executive_plans.specs.Layout.{inserted, is_there}
 use Rattle.dsde_executive_planner.specs.Entries.{entry_of}
 use Rattle.dsde_executive_planner.proofs.Naming.{put_in}

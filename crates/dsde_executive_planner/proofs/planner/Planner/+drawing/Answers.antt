@@ -1,6 +1,6 @@
 use Rattle.std.proofs.Common.{List, sym, ap, ◌∙◌, subst}
-use Rattle.dsde_eval_meaning.specs.Outcome.{Outcome}
-use Rattle.dsde_program_nodes.specs.declared.make.Make.{Make}
+use Rattle.dsde_language.specs.Outcome.{Outcome}
+use Rattle.dsde_language.specs.declared.make.Make.{Make}
 use Rattle.dsde_executive_plans.specs.Drafts.{Draft, draft_of, draw, draws, for_list, Draws}
 use Rattle.dsde_executive_planner.specs.Drawing.{part_in}
 use Rattle.dsde_executive_planner.proofs.Drawing.{draw-for}

@@ -1,5 +1,5 @@
 use Rattle.std.proofs.Common.{◌≡◌, [], drop}
-use Rattle.dsde_eval_meaning.specs.Tables.{values_from}
+use Rattle.dsde_language.specs.MeaningTables.{values_from}
 use Rattle.dsde_executive_planner.specs.Drawing.{part_in}
 use Rattle.dsde_executive_planner.proofs.planner.Planner.values.Given as goal
 

@@ -2,7 +2,7 @@ use Rattle.std.proofs.Common.{◌==◌, ◌≤◌, length, take, sym, ◌∙◌,
 use Rattle.std.specs.List.{position}
 use Rattle.std.specs.Prelude.{IfSome}
 use Rattle.dsde_input.specs.Reader.{IsOffence}
-use Rattle.dsde_input_records.specs.Lines.{Lacks}
+use Rattle.dsde_input_parser.specs.given.input_records.Lines.{Lacks}
 use Rattle.dsde_input.proofs.Feeds.{feed_found, feed_missed, Lacks-all}
 use Rattle.dsde_input.proofs.reader.InputReader.look.Goals as goal
 use Rattle.dsde_input.proofs.reader.InputReader.look.Goals.{then-self, else-self}

@@ -1,7 +1,7 @@
 use Rattle.std.specs.Option.{option_copied}
 use Rattle.std.proofs.lemmas.Result.{IfOk-weaker}
-use Rattle.dsde_system.specs.Program.{system}
-use Rattle.dsde_run_engine.specs.lemmas.Steps.{steps-on}
+use Rattle.dsde_run.specs.given.system.Program.{system}
+use Rattle.dsde_run.specs.lemmas.Steps.{steps-on}
 use Rattle.dsde_plain.proofs.as_run.PlainAdvance.advance.Goals as goal
 
 pub returns-clause-steps : goal.returns-clause-steps

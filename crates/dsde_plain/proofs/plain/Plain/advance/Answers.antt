@@ -2,22 +2,22 @@ use Rattle.std.proofs.Common.{◌≡◌, ◌∙◌, ◌+◌, ◌≤◌, ℕ, Boo
 use Rattle.std.proofs.lemmas.Result.{err_from_is_err_and}
 use Rattle.std.specs.Option.{option_copied}
 use Rattle.dsde_values.specs.declared.arrival.Item.{Item}
-use Rattle.dsde_sim_events.specs.declared.fault.TurnEnd.{TurnEnd}
-use Rattle.dsde_sim_events.specs.Told.{Tells}
-use Rattle.dsde_system.specs.Program.{system}
+use Rattle.dsde_sim_tree.specs.declared.fault.TurnEnd.{TurnEnd}
+use Rattle.dsde_sim_tree.specs.Told.{Tells}
+use Rattle.dsde_run.specs.given.system.Program.{system}
 use Rattle.dsde_sim_tree.specs.declared.sim.Sim.{Sim}
 use Rattle.dsde_sim_tree.specs.Tree.{model_of, next_time}
-use Rattle.dsde_sim_turns.specs.declared.step.Step.{Step}
-use Rattle.dsde_sim_turns.specs.declared.step.Step.TheVariants.{Turned}
-use Rattle.dsde_sim_turns.specs.Engine.{Engine, turned}
-use Rattle.dsde_sim_turns.specs.Turn.{turn, turn_time, items_at, is_taken, advance}
-use Rattle.dsde_sim_delivery.specs.Places.{IsInOrder}
-use Rattle.dsde_sim_working.specs.Working.{Working, Comes, HeadComes, Stands, StandsAt, StandsIf}
-use Rattle.dsde_sim_working.specs.lemmas.Advancing.{advance-ok, advance-err, turn-moment, head-early, items-fit}
-use Rattle.dsde_sim_working.specs.lemmas.Delivering.{in-order}
+use Rattle.dsde_sim_tree.specs.declared.step.Step.{Step}
+use Rattle.dsde_sim_tree.specs.declared.step.Step.TheVariants.{Turned}
+use Rattle.dsde_sim_tree.specs.Engine.{Engine, turned}
+use Rattle.dsde_sim_tree.specs.Turn.{turn, turn_time, items_at, is_taken, advance}
+use Rattle.dsde_sim_movers.specs.Places.{IsInOrder}
+use Rattle.dsde_run.specs.given.sim_working.Working.{Working, Comes, HeadComes, Stands, StandsAt, StandsIf}
+use Rattle.dsde_run.specs.given.sim_working.lemmas_Advancing.{advance-ok, advance-err, turn-moment, head-early, items-fit}
+use Rattle.dsde_run.specs.given.sim_working.lemmas_Delivering.{in-order}
 use Rattle.dsde_values.specs.When.{IsMoment}
-use Rattle.dsde_sim_working.specs.lemmas.Standing.{counts, goes-on}
-use Rattle.dsde_sim_working.specs.lemmas.Times.{in-time}
+use Rattle.dsde_run.specs.given.sim_working.lemmas_Standing.{counts, goes-on}
+use Rattle.dsde_run.specs.given.sim_working.lemmas_Times.{in-time}
 use Rattle.dsde_plain.proofs.plain.Plain.advance.Goals as goal
 
 pub turn-requires-clause-moment : goal.turn-requires-clause-moment

@@ -1,8 +1,8 @@
 use Rattle.std.proofs.Common.{arith}
-use Rattle.dsde_declared.specs.Models.{top_number}
-use Rattle.dsde_system.specs.Program.{system}
-use Rattle.dsde_sim_turns.specs.Engine.{begun}
-use Rattle.dsde_sim_working.specs.lemmas.Standing.{start-is, starts}
+use Rattle.dsde_language.specs.DeclaredModels.{top_number}
+use Rattle.dsde_run.specs.given.system.Program.{system}
+use Rattle.dsde_sim_tree.specs.Engine.{begun}
+use Rattle.dsde_run.specs.given.sim_working.lemmas_Standing.{start-is, starts}
 use Rattle.dsde_plain.proofs.plain.Plain.start.Goals as goal
 
 pub invariant_of-result : goal.invariant_of-result

@@ -9,7 +9,7 @@ use Rattle.dsde_syntax.specs.declared.expr.Suffix.{Suffix}
 use Rattle.dsde_syntax.specs.declared.expr.Tail.{Tail}
 use Rattle.dsde_syntax.specs.declared.expr.Expr.TheOpen.{Expr-F}
 use Rattle.dsde_syntax.specs.declared.expr.Expr.TheVariants as expr
-use Rattle.dsde_declared.specs.declared.operator.Binary.TheVariants as binary
+use Rattle.dsde_language.specs.declared.operator.Binary.TheVariants as binary
 use Rattle.dsde_program_layout.specs.Lay.{Laid, lay, lay_tail, lay_sign_tail, lay_suffix, words_of}
 use Rattle.dsde_program_expressions.proofs.Forms.{types, tables, chain_types, chain_tables}
 use Rattle.dsde_program_expressions.proofs.Growth.{grown}

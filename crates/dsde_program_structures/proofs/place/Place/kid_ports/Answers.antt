@@ -2,13 +2,13 @@
 use Rattle.std.proofs.Common.{◌≡◌, ℕ, true, false, Bool, List, [], Option, Some, None, slice_get, refl, ap, ◌∙◌}
 use Rattle.std.specs.Option.{option_map, option_map_or}
 use Rattle.std.proofs.lemmas.Option.{slice_get-map}
-use Rattle.dsde_check_rules.specs.declared.known.Known.{Known}
-use Rattle.dsde_check_rules.specs.declared.signatures.Family.{Family}
-use Rattle.dsde_check_rules.specs.declared.signatures.ModelSig.{ModelSig}
-use Rattle.dsde_check_rules.specs.Tables.{family_name}
-use Rattle.dsde_names.specs.Table.{named}
-use Rattle.dsde_declared.specs.Names.{with_slots}
-use Rattle.dsde_declared.specs.Structures.{Place, directed, kid_ports, model_ports}
+use Rattle.dsde_language.specs.declared.known.Known.{Known}
+use Rattle.dsde_language.specs.declared.signatures.Family.{Family}
+use Rattle.dsde_language.specs.declared.signatures.ModelSig.{ModelSig}
+use Rattle.dsde_language.specs.RuleTables.{family_name}
+use Rattle.dsde_language.specs.given.names.Table.{named}
+use Rattle.dsde_language.specs.Names.{with_slots}
+use Rattle.dsde_language.specs.DeclaredStructures.{Place, directed, kid_ports, model_ports}
 use Rattle.dsde_program_structures.specs.declared.gate.Gate.{Gate}
 use Rattle.dsde_program_structures.specs.Sides.{gate_at, gate_of, gates_of, side_of}
 use Rattle.dsde_program_structures.proofs.place.Place.kid_ports.Goals as goal

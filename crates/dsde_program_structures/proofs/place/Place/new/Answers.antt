@@ -4,11 +4,11 @@ use Rattle.dsde_syntax.specs.declared.decl.Body.{Body}
 use Rattle.dsde_syntax.specs.declared.decl.PortDecl.{PortDecl}
 use Rattle.dsde_syntax.specs.declared.item.Item.{Item}
 use Rattle.dsde_values.specs.declared.types.Field.{Field}
-use Rattle.dsde_check_rules.specs.declared.known.Known.{Known}
-use Rattle.dsde_check_rules.specs.declared.signatures.Family.{Family}
-use Rattle.dsde_declared.specs.Names.{with_slots}
-use Rattle.dsde_declared.specs.Models.{port_fields}
-use Rattle.dsde_declared.specs.Structures.{Place, kin_all, kin_of, place_of_items}
+use Rattle.dsde_language.specs.declared.known.Known.{Known}
+use Rattle.dsde_language.specs.declared.signatures.Family.{Family}
+use Rattle.dsde_language.specs.Names.{with_slots}
+use Rattle.dsde_language.specs.DeclaredModels.{port_fields}
+use Rattle.dsde_language.specs.DeclaredStructures.{Place, kin_all, kin_of, place_of_items}
 use Rattle.dsde_program_structures.proofs.place.Place.new.Goals as goal
 
 abbrev place_by : Known → List Field → List Field → List Field → List Field → List Family → Place

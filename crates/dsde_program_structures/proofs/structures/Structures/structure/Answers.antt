@@ -1,9 +1,9 @@
 -- What is laid at the place that was made is laid at that of the definitions.
 use Rattle.std.proofs.Common.{◌≡◌, IfOk, OnOk, [], subst}
-use Rattle.dsde_declared.specs.Structures.{Place}
-use Rattle.dsde_program_nodes.specs.Statements.{body_scope}
-use Rattle.dsde_program_layout.specs.LayPieces.{over}
-use Rattle.dsde_program_layout.specs.LayItems.{lay_items}
+use Rattle.dsde_language.specs.DeclaredStructures.{Place}
+use Rattle.dsde_language.specs.Statements.{body_scope}
+use Rattle.dsde_program_expressions.specs.given.program_layout.LayPieces.{over}
+use Rattle.dsde_program_expressions.specs.given.program_layout.LayItems.{lay_items}
 use Rattle.dsde_program_structures.proofs.structures.Structures.structure.Goals as goal
 
 pub returns-clause-own : goal.returns-clause-own

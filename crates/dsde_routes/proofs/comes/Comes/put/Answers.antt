@@ -1,6 +1,6 @@
 use Rattle.std.proofs.Common.{◌∙◌}
 use Rattle.std.specs.Prelude.{if◌then◌else◌}
-use Rattle.dsde_structure.specs.Gather.{is_same_name}
+use Rattle.dsde_routes_wiring.specs.given.structure.Gather.{is_same_name}
 use Rattle.dsde_routes.specs.Passing.{comes_to, is_name}
 use Rattle.std.specs.Map.{lookup}
 use Rattle.dsde_routes.proofs.Named.{comes-written}

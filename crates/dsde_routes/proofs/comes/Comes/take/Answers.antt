@@ -1,7 +1,7 @@
 use Rattle.std.proofs.Common.{◌∙◌, List, []}
 use Rattle.std.specs.Prelude.{if◌then◌else◌}
 use Rattle.std.specs.Map.{lookup}
-use Rattle.dsde_structure.specs.Gather.{is_same_name}
+use Rattle.dsde_routes_wiring.specs.given.structure.Gather.{is_same_name}
 use Rattle.dsde_routes_wiring.specs.declared.row.Passing.{Passing}
 use Rattle.dsde_routes.specs.Passing.{comes_to, is_name}
 use Rattle.dsde_routes.proofs.Named.{comes-left}

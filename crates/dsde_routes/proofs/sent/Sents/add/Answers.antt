@@ -1,7 +1,7 @@
 use Rattle.std.specs.Prelude.{if◌then◌else◌}
 use Rattle.std.proofs.Common.{◌≡◌, ◌∙◌, not, sym, ap, subst, Some, List}
 use Rattle.dsde_values.specs.declared.name.Name.{Name}
-use Rattle.dsde_structure.specs.Gather.{is_same_name}
+use Rattle.dsde_routes_wiring.specs.given.structure.Gather.{is_same_name}
 use Rattle.dsde_routes.specs.declared.sent.Sent.{Sent}
 use Rattle.dsde_routes.specs.Passing.{found}
 use Rattle.dsde_routes.specs.Sents.{added}

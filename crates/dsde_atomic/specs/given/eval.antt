@@ -1,0 +1,1 @@
+pub use Rattle.dsde_eval.specs.Translations

@@ -1,0 +1,9 @@
+//! What crates below give, for those above: each under the name of its crate.
+
+/// Of `dsde_check_tables`.
+pub mod check_tables {
+    pub use dsde_check_tables::{
+        Callee, FamilyEntry, Known, Local, Member, PortEntry, Word, given_type, list_type,
+        option_type, row_of,
+    };
+}

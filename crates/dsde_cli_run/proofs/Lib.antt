@@ -1,4 +1,0 @@
-pub mod Coming
-pub mod Fitting
-pub mod Returning
-pub mod Storing

@@ -1,6 +1,0 @@
-pub mod Asked
-pub mod Back
-pub mod Loads
-pub mod Outcome
-pub mod Saved
-pub mod lemmas

@@ -1,3 +1,0 @@
--- Lemmas that the crate above cites.
-pub mod Fronts
-pub mod Later

@@ -1,0 +1,1 @@
+pub use Rattle.dsde_core_moving.specs.given.sim_moving.Fitting

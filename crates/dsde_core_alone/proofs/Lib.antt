@@ -1,4 +1,0 @@
-mod Calling
-mod Whole
-mod Moves
-mod Waits

@@ -1,7 +1,0 @@
-use Rattle.std.proofs.Common.{drop}
-use Rattle.std.specs.List.{AllByRecursion}
-use Rattle.dsde_core_calls.specs.Calling.{IsFew}
-use Rattle.dsde_core_calling.proofs.order.few.Given as goal
-
-abbrev pub invariant-loop-mover : goal.invariant-loop-mover
-invariant-loop-mover l = AllByRecursion IsFew (drop l.mover-index l.movers) → AllByRecursion IsFew l.movers

@@ -1,4 +1,0 @@
-pub mod Names
-pub mod Room
-pub mod Staying
-pub mod Whole

@@ -1,3 +1,0 @@
-mod Surviving
-mod Holding
-mod Stepping

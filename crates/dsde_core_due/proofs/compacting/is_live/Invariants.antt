@@ -1,4 +1,0 @@
-use Rattle.dsde_core_due.proofs.compacting.is_live.Given as goal
-
-abbrev pub ghosts-is_live_at : goal.ghosts-is_live_at
-ghosts-is_live_at a = record { name = a.blank.name; parts = a.blank.parts }

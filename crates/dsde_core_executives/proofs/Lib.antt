@@ -1,7 +1,0 @@
-mod Seating
-mod Again
-mod Follows
-mod Owning
-mod Moved
-mod Stepped
-mod Spared

@@ -1,0 +1,11 @@
+pub use Rattle.dsde_sim_movers.specs.Deliveries
+pub use Rattle.dsde_sim_movers.specs.Movers
+pub use Rattle.dsde_sim_movers.specs.Names
+pub use Rattle.dsde_sim_movers.specs.Orders
+pub use Rattle.dsde_sim_movers.specs.Parts
+pub use Rattle.dsde_sim_movers.specs.Turns
+pub use Rattle.dsde_sim_movers.specs.lemmas.Lenses as lemmas_Lenses
+pub use Rattle.dsde_sim_movers.specs.lemmas.Named as lemmas_Named
+pub use Rattle.dsde_sim_movers.specs.lemmas.Opened as lemmas_Opened
+pub use Rattle.dsde_sim_movers.specs.lemmas.Seats as lemmas_Seats
+pub use Rattle.dsde_sim_movers.specs.lemmas.Spotting as lemmas_Spotting

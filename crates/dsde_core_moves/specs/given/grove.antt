@@ -1,0 +1,1 @@
+pub use Rattle.dsde_core_flat.specs.given.grove.Grove

@@ -1,0 +1,1 @@
+pub use Rattle.dsde_repair_walks.specs.given.routes_table.Order

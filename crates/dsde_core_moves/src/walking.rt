@@ -1,0 +1,37 @@
+//! Entries and components from a name on.
+
+ghost use Rattle.std.specs.Prelude.{◌≡◌};
+ghost use Rattle.dsde_sim_changing.specs.Heads.{from_name};
+ghost use Rattle.dsde_core_moves.specs.Compared.{kids_from};
+
+use dsde_routes_wiring::WiredKid;
+use dsde_routes_wiring::given::structure::Entry;
+use dsde_values::Name;
+
+/// The entries from a name on.
+pub(crate) fn from_name<'a>(entries: &'a [Entry], name: &Name) -> &'a [Entry]
+    ensures { result.now ≡ from_name name.now entries.now }
+{
+    let mut rest = entries;
+    while let Some((first, later)) = rest.split_first() {
+        if first.name >= *name {
+            break;
+        }
+        rest = later;
+    }
+    rest
+}
+
+/// The components from a name on.
+pub(crate) fn kids_from<'a>(kids: &'a [WiredKid], name: &Name) -> &'a [WiredKid]
+    ensures { result.now ≡ kids_from name.now kids.now }
+{
+    let mut rest = kids;
+    while let Some((first, later)) = rest.split_first() {
+        if first.name >= *name {
+            break;
+        }
+        rest = later;
+    }
+    rest
+}

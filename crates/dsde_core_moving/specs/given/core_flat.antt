@@ -1,0 +1,12 @@
+pub use Rattle.dsde_core_moves.specs.given.core_flat.Named
+pub use Rattle.dsde_core_moves.specs.given.core_flat.Places
+pub use Rattle.dsde_core_moves.specs.given.core_flat.Scheduled
+pub use Rattle.dsde_core_moves.specs.given.core_flat.Shown
+pub use Rattle.dsde_core_moves.specs.given.core_flat.Stands
+pub use Rattle.dsde_core_moves.specs.given.core_flat.spot_Spot
+pub use Rattle.dsde_core_moves.specs.given.core_flat.spot_Spot_TheVariants
+pub use Rattle.dsde_core_moves.specs.given.core_flat.lemmas_Fitting
+pub use Rattle.dsde_core_moves.specs.given.core_flat.lemmas_Frame
+pub use Rattle.dsde_core_moves.specs.given.core_flat.lemmas_Live
+pub use Rattle.dsde_core_moves.specs.given.core_flat.lemmas_Meeting
+pub use Rattle.dsde_core_moves.specs.given.core_flat.lemmas_Opened

@@ -1,0 +1,5 @@
+pub use Rattle.dsde_core_moves.specs.Flat
+pub use Rattle.dsde_core_moves.specs.Movers
+pub use Rattle.dsde_core_moves.specs.Resting
+pub use Rattle.dsde_core_moves.specs.declared.flat.Flat as flat_Flat
+pub use Rattle.dsde_core_moves.specs.declared.flat.Mover as flat_Mover

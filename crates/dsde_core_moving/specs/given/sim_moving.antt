@@ -1,0 +1,1 @@
+pub use Rattle.dsde_core_moves.specs.given.sim_moving.Fitting

@@ -1,0 +1,1 @@
+pub use Rattle.dsde_sim_starting.specs.Fitting

@@ -1,0 +1,23 @@
+use Rattle.dsde_values.specs.Path.{root}
+use Rattle.dsde_sim_working.specs.given.system.Program.{system}
+use Rattle.dsde_core_outputs.proofs.Moves.{are-movers}
+use Rattle.dsde_core_outputs.proofs.Waits.{waits}
+use Rattle.dsde_core_outputs.proofs.Whole as whole
+use Rattle.dsde_core_outputs.proofs.alone_laws.lone_components_move.Goals as goal
+
+pub returns-clause-lives : goal.returns-clause-lives
+returns-clause-lives c = λ model flat stands none. whole.lives model flat stands none
+
+pub returns-clause-fits : goal.returns-clause-fits
+returns-clause-fits c = λ model flat leaf stands alone. (whole.fits flat leaf alone model stands).fits
+
+pub returns-clause-sends : goal.returns-clause-sends
+returns-clause-sends c = λ own flat leaf time alone. whole.sends flat leaf alone own time
+
+pub returns-clause-moves : goal.returns-clause-moves
+returns-clause-moves c =
+    λ model flat leaf time items got stands alone come is few.
+    are-movers model flat stands leaf alone time items come got is few c.sent_fits.ensures (c.movers_are_walked.ensures.leaf (system model) leaf root time got)
+
+pub returns-clause-waits : goal.returns-clause-waits
+returns-clause-waits c = λ model flat leaf time got dues stands alone are. waits model flat stands leaf alone time got dues are

@@ -1,0 +1,5 @@
+pub mod Alone
+pub mod Called
+pub mod Filled
+pub mod Rooting
+pub mod given

@@ -1,0 +1,1 @@
+pub use Rattle.dsde_sim_working.specs.given.sound_forward.Forward

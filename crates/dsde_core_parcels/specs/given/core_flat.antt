@@ -1,0 +1,17 @@
+pub use Rattle.dsde_core_moves.specs.given.core_flat.Due
+pub use Rattle.dsde_core_moves.specs.given.core_flat.Grafts
+pub use Rattle.dsde_core_moves.specs.given.core_flat.Named
+pub use Rattle.dsde_core_moves.specs.given.core_flat.Places
+pub use Rattle.dsde_core_moves.specs.given.core_flat.Scheduled
+pub use Rattle.dsde_core_moves.specs.given.core_flat.Shown
+pub use Rattle.dsde_core_moves.specs.given.core_flat.Stands
+pub use Rattle.dsde_core_moves.specs.given.core_flat.due_Due
+pub use Rattle.dsde_core_moves.specs.given.core_flat.spot_Spot
+pub use Rattle.dsde_core_moves.specs.given.core_flat.spot_Spot_TheVariants
+pub use Rattle.dsde_core_moves.specs.given.core_flat.lemmas_Apart
+pub use Rattle.dsde_core_moves.specs.given.core_flat.lemmas_Context
+pub use Rattle.dsde_core_moves.specs.given.core_flat.lemmas_Fitting
+pub use Rattle.dsde_core_moves.specs.given.core_flat.lemmas_Meeting
+pub use Rattle.dsde_core_moves.specs.given.core_flat.lemmas_Moves
+pub use Rattle.dsde_core_moves.specs.given.core_flat.lemmas_Names
+pub use Rattle.dsde_core_moves.specs.given.core_flat.lemmas_Opened

@@ -1,0 +1,23 @@
+//! What crates below give, for those above: each under the name of its crate.
+
+/// Of `dsde_core_flat`.
+pub mod core_flat {
+    pub use dsde_core_moves::given::core_flat::{
+        Due, Spot, leaf_at, outputs_ask_the_due, turn_due,
+    };
+}
+
+/// Of `dsde_core_moves`.
+pub mod core_moves {
+    pub use dsde_core_moves::{Flat, Mover, Phase, kind_of};
+}
+
+/// Of `dsde_routes_pushing`.
+pub mod routes_pushing {
+    pub use dsde_routes_trees::given::routes_pushing::push_equals_gather;
+}
+
+/// Of `dsde_routes_table`.
+pub mod routes_table {
+    pub use dsde_core_moves::given::routes_table::RouteTable;
+}

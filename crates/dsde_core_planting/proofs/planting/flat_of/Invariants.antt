@@ -1,4 +1,0 @@
-use Rattle.dsde_core_planting.proofs.planting.flat_of.Given as goal
-
-abbrev pub ghosts-flat_with : goal.ghosts-flat_with
-ghosts-flat_with a = record { name = a.blank.name; parts = a.blank.parts }

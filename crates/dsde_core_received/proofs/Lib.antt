@@ -1,6 +1,0 @@
-mod Members
-mod Apart
-mod Received
-mod Cut
-mod Delivering
-mod Calling

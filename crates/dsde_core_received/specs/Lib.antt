@@ -1,4 +1,0 @@
-pub mod Sent
-pub mod Brought
-pub mod Delivered
-pub mod lemmas

@@ -1,4 +1,0 @@
-pub mod Taking
-pub mod Started
-pub mod Needed
-pub mod Permuted

@@ -1,5 +1,0 @@
-use Rattle.dsde_core_refilling.proofs.Permuted.{placed-in-order}
-use Rattle.dsde_core_refilling.proofs.laws.changed_kids_stand_in_order.Goals as goal
-
-pub returns : goal.returns
-returns c entries kids news all sorted order are permutes in_order = placed-in-order entries kids news all sorted order are permutes in_order

@@ -1,5 +1,0 @@
-mod Opening
-mod Permuting
-mod Working
-mod Closing
-mod Ending

@@ -1,4 +1,0 @@
-mod Asked
-mod Roots
-mod Filling
-mod Calling

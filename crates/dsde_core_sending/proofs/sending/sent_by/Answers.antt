@@ -1,7 +1,0 @@
-use Rattle.dsde_grove.specs.Grove.{value_of}
-use Rattle.dsde_core_sending.proofs.Outgoing.{leaf-is}
-use Rattle.dsde_core_sending.proofs.sending.sent_by.Goals as goal
-
-pub sent-requires : goal.sent-requires
-sent-requires g c =
-    c.requires.fit c.args.due.now.handle c.in-Some.leaf.now (leaf-is (value_of c.args.grove.now c.args.due.now.handle) c.in-Some.leaf.now c.in-Some.ensures.leaf)

@@ -1,3 +1,0 @@
-pub mod Sitting
-pub mod Keeping
-pub mod Stepping

@@ -1,6 +1,0 @@
-use Rattle.dsde_core_traffic.proofs.Outlets.{outlets-go}
-use Rattle.dsde_core_traffic.proofs.laws.flat_outlets_go.Goals as goal
-
-pub returns : goal.returns
-returns c = λ model own top wiring net time got outlets carry sent.
-    outlets-go model own top wiring time got outlets sent (c.flat_states_carry.ensures.goes model own top wiring net time got carry)

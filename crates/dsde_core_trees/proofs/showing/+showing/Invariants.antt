@@ -1,7 +1,0 @@
-use Rattle.std.proofs.Common.{◌≡◌, map, take}
-use Rattle.dsde_grove.specs.Grove.{value_of}
-use Rattle.dsde_core_flat.specs.Shown.{kid_under}
-use Rattle.dsde_core_trees.proofs.showing.+showing.Given as goal
-
-abbrev pub invariant-kids_shown-loop-kid : goal.invariant-kids_shown-loop-kid
-invariant-kids_shown-loop-kid g l = l.shown ≡ map (kid_under (value_of l.grove)) (take l.kid-index l.kids)

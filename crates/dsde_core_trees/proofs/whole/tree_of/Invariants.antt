@@ -1,4 +1,0 @@
-use Rattle.dsde_core_trees.proofs.whole.tree_of.Given as goal
-
-abbrev pub ghosts-tree_shown : goal.ghosts-tree_shown
-ghosts-tree_shown a = record { name = a.blank.name; parts = a.blank.parts }

@@ -1,2 +1,0 @@
-mod Resting
-mod Phases

@@ -1,4 +1,0 @@
-pub mod Names
-pub mod Operators
-pub mod Models
-pub mod Structures

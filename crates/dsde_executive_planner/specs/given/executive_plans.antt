@@ -1,0 +1,1 @@
+pub use Rattle.dsde_executive_plans.specs.Drafts

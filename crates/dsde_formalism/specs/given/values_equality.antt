@@ -1,0 +1,1 @@
+pub use Rattle.dsde_structure.specs.given.values_equality.Same

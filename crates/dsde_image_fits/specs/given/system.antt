@@ -1,0 +1,3 @@
+pub use Rattle.dsde_sound_structures.specs.given.system.Fitting
+pub use Rattle.dsde_sound_structures.specs.given.system.Plans
+pub use Rattle.dsde_sound_structures.specs.given.system.Program

@@ -1,0 +1,8 @@
+//! What crates below give, for those above: each under the name of its crate.
+
+/// Of `dsde_sound_structures`.
+pub mod sound_structures {
+    pub use dsde_sound_structures::{
+        ports_are_lawful, top_is_declared, top_is_sure, types_are_lawful,
+    };
+}

@@ -1,3 +1,0 @@
-mod WholeTexts
-mod Declaring
-mod LastNames

@@ -1,4 +1,0 @@
-mod Exact
-mod Ascii
-mod Scripted
-mod Called

@@ -1,0 +1,3 @@
+pub use Rattle.dsde_image_fits.specs.Rows
+pub use Rattle.dsde_image_fits.specs.Script
+pub use Rattle.dsde_image_fits.specs.Walk

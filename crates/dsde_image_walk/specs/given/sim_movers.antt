@@ -1,0 +1,1 @@
+pub use Rattle.dsde_image_fits.specs.given.sim_movers.Stands

@@ -1,0 +1,55 @@
+//! Values, as they are written.
+
+ghost use Rattle.std.specs.Prelude.{◌≡◌, IfOk};
+ghost use Rattle.dsde_image_fits.specs.Rows.{texts};
+ghost use Rattle.dsde_image_fits.specs.Walk.{texts_eq};
+ghost use Rattle.dsde_image_fits.specs.Script.{script};
+
+use dsde_sim_starting::given::program::Program;
+use dsde_values::{Memory, Seq, Text, Value, Values, write_value};
+use std::alloc::Global;
+
+/// The text of a value.
+#[tactic(auto, unfolding(dsde_image_fits::specs::Script::script))]
+fn text_of(alloc: Global, program: &Program, value: &Value) -> Result<Text, Memory>
+    ensures { IfOk result (λ text. text ≡ (script program.now).value value.now) }
+{
+    let mut text = Text::new(alloc);
+    write_value(value, program.types(), &mut text)?;
+    Ok(text)
+}
+
+/// The texts of values.
+pub fn texts(alloc: Global, program: &Program, values: &Values) -> Result<Seq<Text>, Memory>
+    ensures { IfOk result (λ own. own ≡ texts (script program.now) values.now) }
+{
+    let mut own = Seq::new(alloc);
+    for value in values.as_slice() {
+        own.push(text_of(alloc, program, value)?)?;
+    }
+    Ok(own)
+}
+
+/// Whether texts are those of values.
+pub fn are_written(
+    alloc: Global,
+    program: &Program,
+    own: &Seq<Text>,
+    values: &Values,
+) -> Result<bool, Memory>
+    ensures { IfOk result (λ same. same ≡ texts_eq own.now (texts (script program.now) values.now)) }
+{
+    let mut texts = own.as_slice();
+    let mut values = values.as_slice();
+    while let Some((text, later)) = texts.split_first() {
+        let Some((value, others)) = values.split_first() else {
+            return Ok(false);
+        };
+        if text.as_slice() != text_of(alloc, program, value)?.as_slice() {
+            return Ok(false);
+        }
+        texts = later;
+        values = others;
+    }
+    Ok(values.is_empty())
+}

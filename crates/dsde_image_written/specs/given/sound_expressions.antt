@@ -1,0 +1,1 @@
+pub use Rattle.dsde_sound_named.specs.given.sound_expressions.Laws

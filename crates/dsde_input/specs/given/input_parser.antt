@@ -1,0 +1,1 @@
+pub use Rattle.dsde_input_parser.specs.lemmas.Cuts as lemmas_Cuts

@@ -1,0 +1,6 @@
+-- What crates below declare, for those above: each file under the name of its crate.
+pub mod faults
+pub mod names
+pub mod syntax
+pub mod values
+pub mod words

@@ -1,5 +1,0 @@
-pub mod Seated
-pub mod Advancing
-pub mod Moving
-pub mod Stepping
-pub mod Turning

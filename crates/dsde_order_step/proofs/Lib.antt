@@ -1,3 +1,0 @@
-pub mod ByParts
-pub mod Within
-pub mod Components

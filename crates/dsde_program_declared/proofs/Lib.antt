@@ -1,2 +1,0 @@
-mod Infos
-mod Tops

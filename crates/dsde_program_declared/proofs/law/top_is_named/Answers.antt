@@ -1,5 +1,0 @@
-use Rattle.dsde_program_declared.proofs.Tops.{top-is-named}
-use Rattle.dsde_program_declared.proofs.law.top_is_named.Goals as goal
-
-pub returns : goal.returns
-returns c = λ model. top-is-named model

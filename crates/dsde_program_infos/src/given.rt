@@ -1,0 +1,6 @@
+//! What crates below give, for those above: each under the name of its crate.
+
+/// Of `dsde_check_tables`.
+pub mod check_tables {
+    pub use dsde_check_tables::{Known, narrow};
+}

@@ -1,8 +1,0 @@
-use Rattle.dsde_repair_laws.proofs.Touching.{exact-before, exact-after}
-use Rattle.dsde_repair_laws.proofs.laws.a_change_touches_these.Goals as goal
-
-pub returns-clause-before : goal.returns-clause-before
-returns-clause-before c = exact-before
-
-pub returns-clause-after : goal.returns-clause-after
-returns-clause-after c = exact-after

@@ -1,8 +1,0 @@
-use Rattle.dsde_repair_laws.proofs.Repairs.{at-most-once, rows-after}
-use Rattle.dsde_repair_laws.proofs.laws.rows_follow_a_change.Goals as goal
-
-pub returns-clause-once : goal.returns-clause-once
-returns-clause-once c = at-most-once
-
-pub returns-clause-rows : goal.returns-clause-rows
-returns-clause-rows c = rows-after

@@ -1,0 +1,1 @@
+pub use Rattle.dsde_routes_table.specs.Order

@@ -1,0 +1,1 @@
+pub use Rattle.dsde_bank.specs.declared.handle.Handle as handle_Handle

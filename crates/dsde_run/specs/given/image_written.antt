@@ -1,0 +1,1 @@
+pub use Rattle.dsde_image_written.specs.Plain

@@ -1,0 +1,1 @@
+pub use Rattle.dsde_image_walk.specs.given.sim_telling.lemmas_GoingOn

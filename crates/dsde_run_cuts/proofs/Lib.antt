@@ -1,3 +1,0 @@
-pub mod Turning
-pub mod Going
-pub mod Standing

@@ -1,4 +1,0 @@
-pub mod Naming
-pub mod Keeping
-pub mod Telling
-pub mod Delivering

@@ -1,9 +1,0 @@
-use Rattle.std.specs.Option.{option_copied}
-use Rattle.std.proofs.lemmas.Result.{IfOk-weaker}
-use Rattle.dsde_system.specs.Program.{system}
-use Rattle.dsde_run_engine.specs.lemmas.Steps.{steps-on}
-use Rattle.dsde_run_engine.proofs.path_order.CoreAdvance.advance.Goals as goal
-
-pub returns-clause-steps : goal.returns-clause-steps
-returns-clause-steps c = IfOk-weaker c.advance_counted.result _ _
-    (λ step tells. steps-on (system c.args.self.now.program) c.args.self.now.engine c.advance_counted.new.core.engine (option_copied c.args.head) step tells.1) c.advance_counted.ensures.ok

@@ -1,0 +1,1 @@
+pub use Rattle.dsde_run.specs.given.image_fits.Walk

@@ -1,0 +1,1 @@
+pub use Rattle.dsde_run.specs.given.sim_working.Working

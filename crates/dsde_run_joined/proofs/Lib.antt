@@ -1,4 +1,0 @@
-mod Cutting
-mod Joining
-mod Restoring
-mod Storing

@@ -1,3 +1,0 @@
-pub mod Rooted
-pub mod Joined
-pub mod Ending

@@ -1,2 +1,0 @@
-//! What a run leaves to be stored, as definitions; no code.
-#![tactic(auto)]

@@ -1,4 +1,0 @@
-mod Steps
-mod Opens
-mod Parts
-mod Runs

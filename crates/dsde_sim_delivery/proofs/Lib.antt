@@ -1,9 +1,0 @@
-pub mod Adds
-pub mod Telling
-pub mod Reaching
-pub mod Calm
-pub mod Delivering
-pub mod Bringing
-pub mod Fronts
-pub mod Turns
-pub mod Advances

@@ -1,5 +1,0 @@
-use Rattle.dsde_sim_delivery.proofs.Advances.{advance-delivered}
-use Rattle.dsde_sim_delivery.proofs.laws.advances_are_delivered.Goals as goal
-
-pub returns : goal.returns
-returns c system engine after head old new = advance-delivered c.turns_are_delivered.ensures system engine head old new after

@@ -1,4 +1,0 @@
-pub mod Places
-pub mod Deliveries
-pub mod Delivered
-pub mod lemmas

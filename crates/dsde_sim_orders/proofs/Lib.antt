@@ -1,9 +1,0 @@
-pub mod Steady
-pub mod Chains
-pub mod Pairs
-pub mod Waiting
-pub mod Agree
-pub mod Drawn
-pub mod Orderly
-pub mod Later
-pub mod Walked

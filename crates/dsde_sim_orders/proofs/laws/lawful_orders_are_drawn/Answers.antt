@@ -1,5 +1,0 @@
-use Rattle.dsde_sim_orders.proofs.Agree.{drawn-lawful}
-use Rattle.dsde_sim_orders.proofs.laws.lawful_orders_are_drawn.Goals as goal
-
-pub returns : goal.returns
-returns c = drawn-lawful

@@ -1,5 +1,0 @@
-mod Brings
-mod Starting
-mod Changing
-mod Moving
-mod Advancing

@@ -1,0 +1,12 @@
+pub use Rattle.dsde_formalism.specs.given.structure.Gather
+pub use Rattle.dsde_formalism.specs.given.structure.Survival
+pub use Rattle.dsde_formalism.specs.given.structure.plan_Change
+pub use Rattle.dsde_formalism.specs.given.structure.plan_End
+pub use Rattle.dsde_formalism.specs.given.structure.plan_Entry
+pub use Rattle.dsde_formalism.specs.given.structure.plan_Link
+pub use Rattle.dsde_formalism.specs.given.structure.plan_Part
+pub use Rattle.dsde_formalism.specs.given.structure.plan_Part_TheVariants
+pub use Rattle.dsde_formalism.specs.given.structure.plan_Plan
+pub use Rattle.dsde_formalism.specs.given.structure.plan_Via
+pub use Rattle.dsde_formalism.specs.given.structure.sources_Given
+pub use Rattle.dsde_formalism.specs.given.structure.sources_Sources

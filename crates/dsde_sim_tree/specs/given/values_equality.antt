@@ -1,0 +1,1 @@
+pub use Rattle.dsde_formalism.specs.given.values_equality.Same

@@ -1,0 +1,7 @@
+-- What crates below declare, for those above: each file under the name of its crate.
+pub mod sim_gathering
+pub mod sim_movers
+pub mod sim_starting
+pub mod sound_forward
+pub mod sound_structures
+pub mod system

@@ -1,7 +1,0 @@
-mod Filling
-mod Inputs
-mod Parts
-mod Bodies
-mod Components
-mod Networks
-mod Tops

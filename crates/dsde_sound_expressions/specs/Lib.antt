@@ -1,0 +1,11 @@
+pub mod Bodies
+pub mod Coded
+pub mod Conditions
+pub mod IsProper
+pub mod Items
+pub mod Laws
+pub mod Places
+pub mod Standing
+pub mod Structures
+pub mod lemmas
+pub mod given

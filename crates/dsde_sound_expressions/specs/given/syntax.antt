@@ -1,0 +1,11 @@
+pub use Rattle.dsde_language.specs.given.syntax.decl_Model
+pub use Rattle.dsde_language.specs.given.syntax.decl_Phase
+pub use Rattle.dsde_language.specs.given.syntax.decl_StateDecl
+pub use Rattle.dsde_language.specs.given.syntax.expr_Expr
+pub use Rattle.dsde_language.specs.given.syntax.item_Item
+pub use Rattle.dsde_language.specs.given.syntax.item_Item_TheFolds
+pub use Rattle.dsde_language.specs.given.syntax.item_Item_TheOpen
+pub use Rattle.dsde_language.specs.given.syntax.item_Item_TheViews
+pub use Rattle.dsde_language.specs.given.syntax.item_ItemArm
+pub use Rattle.dsde_language.specs.given.syntax.item_ViaKey
+pub use Rattle.dsde_language.specs.given.syntax.item_ViaPart

@@ -1,0 +1,10 @@
+pub mod Fitting
+pub mod Outcomes
+pub mod Places
+pub mod Seeing
+pub mod Standing
+pub mod Steps
+pub mod Truths
+pub mod Types
+pub mod Values
+pub mod Written

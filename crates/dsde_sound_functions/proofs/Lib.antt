@@ -1,7 +1,0 @@
-mod Names
-mod Params
-mod FuncAgrees
-mod Frame
-mod Decls
-mod Whole
-mod FuncStanding

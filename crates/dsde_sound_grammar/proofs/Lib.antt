@@ -1,7 +1,0 @@
-mod Plain
-mod ExprParts
-mod ExprProper
-mod StmtProper
-mod DeclProper
-mod ItemParts
-mod ItemProper

@@ -1,2 +1,0 @@
-pub mod IsProper
-pub mod Items

@@ -1,8 +1,0 @@
-pub mod Words
-mod Steps
-mod Heads
-mod Types
-mod Ports
-mod Infos
-mod Tops
-mod Naming

@@ -1,8 +1,0 @@
-use Rattle.dsde_sound_inputs.proofs.Naming.{types-are-named, models-are-named}
-use Rattle.dsde_sound_inputs.proofs.law.names_are_words.Goals as goal
-
-pub returns-clause-types : goal.returns-clause-types
-returns-clause-types c = types-are-named
-
-pub returns-clause-models : goal.returns-clause-models
-returns-clause-models c = models-are-named

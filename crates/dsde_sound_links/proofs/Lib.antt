@@ -1,4 +1,0 @@
-mod Naming
-mod Sources
-mod Translating
-mod Gathering

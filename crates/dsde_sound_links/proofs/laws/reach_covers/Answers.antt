@@ -1,5 +1,0 @@
-use Rattle.dsde_sound_links.proofs.Sources.{reach-covers}
-use Rattle.dsde_sound_links.proofs.laws.reach_covers.Goals as goal
-
-pub returns : goal.returns
-returns c = λ types ports got reach. reach-covers types ports got reach

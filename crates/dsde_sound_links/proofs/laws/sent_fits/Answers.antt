@@ -1,5 +1,0 @@
-use Rattle.dsde_sound_links.proofs.Gathering.{sent-reach}
-use Rattle.dsde_sound_links.proofs.laws.sent_fits.Goals as goal
-
-pub returns : goal.returns
-returns c = λ types outs items sent. sent-reach types outs items sent

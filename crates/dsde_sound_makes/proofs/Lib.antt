@@ -1,9 +1,0 @@
-mod Numbers
-mod Ground
-mod Parts
-mod Does
-mod Simple
-mod Choices
-mod Items
-mod Whole
-mod Evaluating

@@ -1,5 +1,0 @@
-use Rattle.dsde_sound_makes.proofs.Whole.{makes-stand}
-use Rattle.dsde_sound_makes.proofs.law.makes_stand.Goals as goal
-
-pub returns : goal.returns
-returns c = makes-stand c.expressions_agree.ensures c.functions_agree.ensures c.known_is_within.ensures c.structures_stand.ensures

@@ -1,0 +1,1 @@
+pub use Rattle.dsde_sound_expressions.specs.Laws

@@ -1,0 +1,1 @@
+pub use Rattle.dsde_system.specs.given.structure.plan_Entry

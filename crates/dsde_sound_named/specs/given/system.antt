@@ -1,0 +1,3 @@
+pub use Rattle.dsde_system.specs.Fitting
+pub use Rattle.dsde_system.specs.Plans
+pub use Rattle.dsde_system.specs.Program

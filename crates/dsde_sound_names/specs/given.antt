@@ -1,0 +1,3 @@
+-- What crates below declare, for those above: each file under the name of its crate.
+pub mod executive_plans
+pub mod sound_expressions

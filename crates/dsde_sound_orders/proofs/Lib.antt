@@ -1,4 +1,0 @@
-mod Relied
-mod Coming
-mod Seated
-mod Turning

@@ -1,5 +1,0 @@
-use Rattle.dsde_sound_places.proofs.Tops.{tops-stand}
-use Rattle.dsde_sound_places.proofs.law.tops_stand.Goals as goal
-
-pub returns : goal.returns
-returns c = λ model right. tops-stand model right (c.shaped_is_proper.ensures model right.shaped)

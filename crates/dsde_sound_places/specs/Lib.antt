@@ -1,5 +1,0 @@
-pub mod Places
-pub mod Bodies
-pub mod Structures
-pub mod Conditions
-pub mod Laws

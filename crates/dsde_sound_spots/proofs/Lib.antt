@@ -1,9 +1,0 @@
-mod Spans
-mod Ending
-mod Operators
-mod Means
-mod Exprs
-mod Blocks
-mod Items
-mod Decls
-mod Systems

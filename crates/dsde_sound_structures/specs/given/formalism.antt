@@ -1,0 +1,1 @@
+pub use Rattle.dsde_sim_tree.specs.given.formalism.Leaf

@@ -1,0 +1,4 @@
+pub use Rattle.dsde_system.specs.Body
+pub use Rattle.dsde_system.specs.Fitting
+pub use Rattle.dsde_system.specs.Plans
+pub use Rattle.dsde_system.specs.Program

@@ -1,6 +1,0 @@
-use Rattle.dsde_sound_translations.proofs.Translating.{made-typed}
-use Rattle.dsde_sound_translations.proofs.laws.translations_keep_types.Goals as goal
-
-pub returns : goal.returns
-returns c = λ model via from to own made right takes typed is.
-    made-typed model via from to own takes typed right c.expressions_agree.ensures c.known_is_within.ensures c.functions_agree.ensures made is

@@ -1,0 +1,11 @@
+pub use Rattle.dsde_language.specs.given.syntax.item_Bracket
+pub use Rattle.dsde_language.specs.given.syntax.item_End
+pub use Rattle.dsde_language.specs.given.syntax.item_EndPart
+pub use Rattle.dsde_language.specs.given.syntax.item_EndPart_TheVariants
+pub use Rattle.dsde_language.specs.given.syntax.item_Item
+pub use Rattle.dsde_language.specs.given.syntax.item_Item_TheFolds
+pub use Rattle.dsde_language.specs.given.syntax.item_Item_TheOpen
+pub use Rattle.dsde_language.specs.given.syntax.item_Item_TheViews
+pub use Rattle.dsde_language.specs.given.syntax.item_ItemArm
+pub use Rattle.dsde_language.specs.given.syntax.item_ViaKey
+pub use Rattle.dsde_language.specs.given.syntax.item_ViaPart

@@ -1,0 +1,2 @@
+-- What crates below declare, for those above: each file under the name of its crate.
+pub mod words
