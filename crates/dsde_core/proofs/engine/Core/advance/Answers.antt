@@ -12,6 +12,8 @@ use Rattle.dsde_sim_tree.specs.Engine.{next_of}
 use Rattle.dsde_sim_tree.specs.Turn.{advance, turn, turn_time}
 use Rattle.dsde_core_outputs.specs.given.sim_working.lemmas_Standing.{counts}
 use Rattle.dsde_core_moving.specs.given.core_moves.Flat.{tree_of}
+use Rattle.dsde_core.specs.Standing.{HasFewPairs}
+use Rattle.dsde_core.proofs.EngineResting.{its-few}
 use Rattle.dsde_core.proofs.EngineTurning as turning
 use Rattle.dsde_core.proofs.engine.Core.advance.Goals as goal
 
@@ -66,6 +68,11 @@ returns-clause-delivered g c =
 
 pub returns-clause-few : goal.returns-clause-few
 returns-clause-few g c = c.in_ok-turn.ensures.rests.few
+
+pub returns-in_default-clause-few : goal.returns-in_default-clause-few
+returns-in_default-clause-few g c =
+    let i = c.self.inside in
+    subst HasFewPairs c.self.view_is (its-few i.spent i.program.now i.flat c.self.invariant.0)
 
 pub returns-clause-root : goal.returns-clause-root
 returns-clause-root g c number is =
