@@ -1,5 +1,5 @@
 -- The next turn of an engine.
-use Rattle.std.proofs.Common.{◌≡◌, ◌∙◌, ℕ, ◌+◌, ◌≤◌, Bool, List, length, Option, Some, IfSome, is_some, true, Result, Ok, Err, IfOk, if◌then◌else◌, sym, ap, subst}
+use Rattle.std.proofs.Common.{◌≡◌, ◌∙◌, ℕ, ◌+◌, ◌*◌, ◌≤◌, Bool, List, length, Option, Some, IfSome, is_some, true, Result, Ok, Err, IfOk, if◌then◌else◌, sym, ap, subst}
 use Rattle.std.specs.Option.{option_map}
 use Rattle.dsde_syntax.specs.declared.decl.Model.{Model}
 use Rattle.dsde_values.specs.declared.arrival.Arrival.{Arrival}
@@ -19,6 +19,7 @@ use Rattle.dsde_sim_tree.specs.declared.step.Step.TheVariants.{Turned}
 use Rattle.dsde_sim_tree.specs.Engine.{next_of, turned, Engine}
 use Rattle.dsde_sim_tree.specs.Turn.{advance, is_taken, items_at, turn as turn_of, turn_time}
 use Rattle.dsde_core_moving.specs.given.sim_movers.Places.{IsInOrder}
+use Rattle.dsde_core_moving.specs.given.sim_movers.Work.{turn_entries}
 use Rattle.dsde_core_outputs.specs.given.sound_forward.Forward.{ProgramsLeadOn}
 use Rattle.dsde_core_outputs.specs.given.sim_working.Working.{working, Comes, FitsItems, HeadComes, IsRoot, StandsAt}
 use Rattle.dsde_core_outputs.specs.given.sim_working.lemmas_Advancing.{advance-err, advance-ok, head-early, items-fit, turn-moment}
@@ -32,6 +33,8 @@ use Rattle.dsde_core_moving.specs.given.core_flat.Stands.{IsShallow, StandsFor}
 use Rattle.dsde_core_moving.specs.given.core_moves.flat_Flat.{Flat}
 use Rattle.dsde_core_moving.specs.given.core_moves.Flat.{tree_of}
 use Rattle.dsde_core_moving.specs.given.core_moves.Resting.{Rests}
+use Rattle.dsde_core_outputs.specs.Rows.{HasRows}
+use Rattle.dsde_core.specs.Paid.{TurnIsPaid}
 use Rattle.dsde_core.specs.Standing.{tree_if, RestsIf, Standing}
 use Rattle.dsde_core.proofs.EngineResting.{its-rests, its-tree, not-after, same-root}
 
@@ -86,6 +89,14 @@ module _ (model : Model) (spent : Bool) (flat : Flat) (turn time taken : ℕ) wh
       ok-in : (after : Sim) (old new : List Event) → Tells (turn_of (system model) (tree_of flat) (turn + 1) at_time (items_at head at_time)) old new (Ok after) →
           Tells (advance (system model) engine head) old new (Ok (Turned (is_taken head at_time), turned engine after at_time (is_taken head at_time)))
       ok-in after old new tells = advance-ok (system model) engine (tree_of flat) head at_time after old new tree-is at tells
+
+      -- what the turn costs
+      pub paid : (before after left told all rows : ℕ) → HasRows model flat at_time (items_at head at_time) rows →
+          after + 4 * left + 128 * told ≤ before + 4 * length flat.queue.pairs + 128 * (all + turn_entries (system model) (tree_of flat) at_time (items_at head at_time) + rows + 1) →
+          TurnIsPaid own.program own.engine head before after own.queued left told all
+      paid before after left told all rows has less =
+          subst (λ (standing : Standing). TurnIsPaid standing.program standing.engine head before after standing.queued left told all) is
+          (record { flat = flat; stands = rests.stands; shown = tree-is; time = at_time; at = subst (λ (standing : Standing). turn_time (next_of standing.engine) head ≡ Some at_time) (sym is) due; rows = rows; has = has; paid = less })
 
       module _ (took : Bool) (took_is : took ≡ is_taken head at_time) (count : ℕ) (count_is : count ≡ (if took then 1 else 0)) where
         abbrev turned_to : Sim → Engine

@@ -1,5 +1,6 @@
 -- A turn where a tree lies in a grove is that of the tree.
-use Rattle.std.proofs.Common.{◌≡◌, ◌∙◌, ℕ, ◌-◌, List, [], ◌∷◌, ◌++◌, map, Result, Ok, Err, sym, ap, subst}
+use Rattle.std.proofs.Common.{◌≡◌, ◌∙◌, ℕ, ◌+◌, ◌-◌, ◌≤◌, arith, List, [], ◌∷◌, ◌++◌, map, Result, Ok, Err, sym, ap, subst}
+use Rattle.std.proofs.lemmas.List.Sums.{sum_by-append}
 use Rattle.dsde_values.specs.declared.arrival.Item.{Item}
 use Rattle.dsde_values.specs.Path.{root}
 use Rattle.dsde_sim_tree.specs.given.formalism.System.{Ports, System}
@@ -17,6 +18,7 @@ use Rattle.dsde_core_moving.specs.given.sim_movers.Deliveries.{Delivery}
 use Rattle.dsde_core_moving.specs.given.sim_movers.Movers.{move_each}
 use Rattle.dsde_core_moving.specs.given.sim_movers.Names.{IsNamed}
 use Rattle.dsde_core_moving.specs.given.sim_movers.Turns.{free_phase, free_turn, turn_movers}
+use Rattle.dsde_core_moving.specs.given.sim_movers.Work.{entries_each, turn_entries, work, work_of}
 use Rattle.dsde_core_moving.specs.given.core_moves.flat_Flat.{Flat}
 use Rattle.dsde_core_moving.specs.given.core_moves.flat_Mover.{Mover}
 use Rattle.dsde_core_moving.specs.given.core_moves.Flat.{delivery_of, tree_of}
@@ -46,6 +48,16 @@ module _ (own : System) (tree : Sim) (number time : ℕ) (items : List Item) (na
   phase-is mid same movers all sent =
       ap (λ (order : List Delivery). free_phase own (tree_of mid) time order sent) all
       ∙ ap (λ (one : Sim). free_phase own one time (turn_movers own one time items) sent) same
+
+-- what is told behind events is no less work
+pub told-more : (old more new : List Event) → new ≡ old ++ more → work old ≤ work new
+told-more old more new is = let all = ap work is ∙ sum_by-append work_of old more in omega (arith, all)
+
+-- the entries that a turn's movers take
+pub entries-same : (own : System) (time : ℕ) (items : List Item) (tree mid : Sim) (movers : List Delivery) → mid ≡ tree → movers ≡ turn_movers own mid time items →
+    entries_each own root time movers mid (MOST_PARTS - parts mid) ≡ turn_entries own tree time items
+entries-same own time items tree mid movers same all =
+    ap (λ (list : List Delivery). entries_each own root time list mid (MOST_PARTS - parts mid)) all ∙ ap (λ (one : Sim). turn_entries own one time items) same
 
 -- the move phase
 module _ (own : System) (flat : Flat) (time : ℕ) (order : List Delivery) (sent : Ports) (old told_outs : List Event) (is : told_outs ≡ old ++ outs_from 0 sent) (room : ℕ) (room_is : room ≡ MOST_PARTS - parts (tree_of flat)) where

@@ -1,4 +1,5 @@
 pub mod Live
+pub mod Paid
 pub mod Standing
 pub mod Turned
 pub mod given

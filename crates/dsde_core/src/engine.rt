@@ -12,6 +12,8 @@ ghost use Rattle.dsde_sim_tree.specs.Turn.{start, advance, turn_time};
 ghost use Rattle.dsde_core_moving.specs.given.sim_movers.Stands.{StandsTree};
 ghost use Rattle.dsde_core_moving.specs.given.sim_movers.Delivered.{IsTurnDelivered};
 ghost use Rattle.dsde_core_outputs.specs.given.sim_working.Working.{HeadComes, IsRoot, Stands, StandsAt, StandsIf, working};
+ghost use Rattle.dsde_core_moving.specs.given.sim_movers.Work.{work};
+ghost use Rattle.dsde_core.specs.Paid.{IsPaid};
 ghost use Rattle.dsde_core.specs.Standing.{HasFewPairs};
 
 use crate::{flat_of, tree_of, turn};
@@ -162,7 +164,9 @@ impl<'p> Core<'p> {
     ///
     /// Fewer than 2^63 + 2^62 parts were born before, and at most 2^33 are born in it. Behind it the
     /// schedule has at most twice as many pairs as parts are alive, and 64. Looks at parts and changes of
-    /// rows are counted.
+    /// rows are counted. What the looks come to is paid for by what the turn does: 128 for each move, for
+    /// each part that starts or leaves, for each entry of a structure that is taken, for each row from a
+    /// port that sends, and for the turn, where a pair of the schedule has 4 put by for its looks.
     pub fn advance<L: Ledger, M: Ledger>(
         &mut self,
         head: Option<&Arrival>,
@@ -183,6 +187,7 @@ impl<'p> Core<'p> {
         ensures spent { is_none self.new.engine.tree ≡ is_err result }
         ensures births { OnOk result (self.new.born ≤ self.old.born + 2 ^ 33) }
         ensures few { OnOk result (HasFewPairs self.new) }
+        ensures paid { IfOk result (IsPaid self.old.program self.old.engine (option_copied head.entry) looks.old looks.new self.old.queued self.new.queued (work events.old) (work events.new)) }
     {
         advances_are_delivered();
         trees_stand();

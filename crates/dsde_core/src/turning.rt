@@ -1,9 +1,10 @@
 //! One turn.
 
-ghost use Rattle.std.specs.Prelude.{◌≡◌, ◌+◌, ◌*◌, ◌<◌, ◌≤◌, ◌^◌, length, map, IfSome, List, OnOk};
+ghost use Rattle.std.specs.Prelude.{◌≡◌, ◌+◌, ◌-◌, ◌*◌, ◌<◌, ◌≤◌, ◌^◌, ℕ, length, map, IfSome, List, OnOk};
 ghost use Rattle.std.specs.Option.{option_map};
 ghost use Rattle.std.specs.FinMap as finmap;
 ghost use Rattle.dsde_syntax.specs.declared.decl.Model.{Model as AModel};
+ghost use Rattle.dsde_values.specs.Path.{root};
 ghost use Rattle.dsde_values.specs.When.{IsMoment};
 ghost use Rattle.dsde_values.specs.declared.arrival.Item.{Item as AnItem};
 ghost use Rattle.dsde_core_outputs.specs.given.system.Program.{system};
@@ -12,6 +13,8 @@ ghost use Rattle.dsde_sim_tree.specs.Tree.{model_of, parts};
 ghost use Rattle.dsde_sim_tree.specs.Turn.{turn};
 ghost use Rattle.dsde_sim_tree.specs.declared.step.TheConstants.{MOST_PARTS};
 ghost use Rattle.dsde_core_moving.specs.given.sim_movers.Turns.{free_phase};
+ghost use Rattle.dsde_core_moving.specs.given.sim_movers.Work.{entries_each, turn_entries, work};
+ghost use Rattle.dsde_core_outputs.specs.Rows.{HasRows};
 ghost use Rattle.dsde_core_outputs.specs.given.sim_working.Working.{FitsItems};
 ghost use Rattle.dsde_queue.specs.Queue.{first_of, time_of};
 ghost use Rattle.dsde_core_moving.specs.given.core_flat.Scheduled.{IsScheduled, IsScheduledBut};
@@ -41,6 +44,7 @@ fn thin(flat: &mut Flat)
     ensures same { flat.new ≡ with_queue flat.old flat.new.queue }
     ensures scheduled { IsScheduled flat.new.grove flat.new.queue.pairs }
     ensures few { length flat.new.queue.pairs ≤ 2 * finmap.len flat.new.grove.parts + 64 }
+    ensures shorter { length flat.new.queue.pairs ≤ length flat.old.queue.pairs }
 {
     if flat.queue.len() as u64 <= 2 * flat.grove.live() + 64 {
         return;
@@ -49,7 +53,7 @@ fn thin(flat: &mut Flat)
 }
 
 /// Takes pairs that are no longer current out of a schedule: those before the next event, and all where there are
-/// too many.
+/// too many. Each pair that leaves pays for its looks with 4, and 2 more are counted.
 fn settle<L: Ledger>(flat: &mut Flat, looks: &mut Steps<L>)
     requires stands { (model : AModel) × Stands model flat.old }
     requires within { parts (tree_of flat.old) ≤ MOST_PARTS }
@@ -57,6 +61,7 @@ fn settle<L: Ledger>(flat: &mut Flat, looks: &mut Steps<L>)
     ensures tree { tree_of flat.new ≡ tree_of flat.old }
     ensures rests { (model : AModel) → Stands model flat.old → Rests model flat.new }
     ensures births { flat.new.grove.next_birth ≡ flat.old.grove.next_birth }
+    ensures paid { looks.new + 4 * length flat.new.queue.pairs ≤ looks.old + 2 + 4 * length flat.old.queue.pairs }
 {
     thin(flat);
     due_time(&flat.grove, &mut flat.queue, looks);
@@ -85,6 +90,9 @@ fn move_phase<L: Ledger, M: Ledger>(
     ensures within { OnOk result (parts (tree_of flat.new) ≤ MOST_PARTS) }
     ensures scheduled { OnOk result (IsScheduled flat.new.grove flat.new.queue.pairs) }
     ensures births { OnOk result (flat.new.grove.next_birth ≤ flat.old.grove.next_birth + 2 ^ 33) }
+    ensures many { OnOk result (length phase.movers + work events.old ≤ work events.new) }
+    ensures paid { OnOk result (looks.new + 4 * length flat.new.queue.pairs + 16 * work events.old ≤ looks.old + 4 * length flat.old.queue.pairs + 16 * work events.new
+        + 4 * entries_each (system program.now) root time (map delivery_of phase.movers) (tree_of flat.old) (MOST_PARTS - parts (tree_of flat.old))) }
 {
     room_is_kept();
     let Phase { sent, movers } = phase;
@@ -99,7 +107,9 @@ fn move_phase<L: Ledger, M: Ledger>(
 /// Takes one turn with these items of input, where the tree lies, and tells it: what is due sends, values go along
 /// the rows, and whoever is due or receives something moves, in path order. It is at the time of the schedule's first
 /// pair, or before it. A fault ends it, or `Memory` where there is none: then nothing stands. At most 2^33 parts are
-/// born, and 2^34 births are left before it. Looks and changes of rows are counted.
+/// born, and 2^34 births are left before it. Looks and changes of rows are counted: with 4 for each pair that the
+/// schedule gets, and less 4 for each that leaves it, at most 128 looks for all work that it tells, for each entry
+/// of a structure that is taken, for each row from the ports that send, and for the turn.
 pub fn turn<L: Ledger, M: Ledger>(
     alloc: Global,
     program: &Program,
@@ -120,6 +130,8 @@ pub fn turn<L: Ledger, M: Ledger>(
     ensures told { Tells (turn (system program.now) (tree_of flat.old) number time items.now) events.old events.new (with_turn flat.new result) }
     ensures rests { OnOk result (Rests program.now flat.new) }
     ensures births { OnOk result (flat.new.grove.next_birth ≤ flat.old.grove.next_birth + 2 ^ 33) }
+    ensures paid { OnOk result ((rows : ℕ) × HasRows program.now flat.old time items.now rows × (looks.new + 4 * length flat.new.queue.pairs + 128 * work events.old ≤ looks.old + 4 * length flat.old.queue.pairs
+        + 128 * (work events.new + turn_entries (system program.now) (tree_of flat.old) time items.now + rows + 1))) }
 {
     turns_move_one_by_one();
     let _ = flat.queue.len();

@@ -113,6 +113,10 @@ module _ (kids : List Kid) (old : Grove Spot) (looks : ℕ) (parent : Handle) (o
         ticks = omega (arith, here.ticks, ticks, parts-join here.front (kid ∷ []), parts-cons kid [], kid-parts kid);
       }
 
+-- a schedule that gets at most a pair for each part of those that are put in
+pub kid-longer : (most before after : ℕ) (all rest : List Kid) (kid : Kid) → all ≡ kid ∷ rest → before + parts_of_kids all ≤ most → after ≤ before + parts (out-Kid kid).sim → after + parts_of_kids rest ≤ most
+kid-longer most before after all rest kid is within one = let same = ap parts_of_kids is in omega (arith, same, within, one, parts-cons kid rest, kid-parts kid)
+
 pub all-grafted : (kids : List Kid) (old : Grove Spot) (looks : ℕ) (parent : Handle) (own : Grove Spot) (now : ℕ) (done : List WiredKid) (rest : List Kid) → Grafts kids old looks parent own now done rest → rest ≡ [] →
     AreGrafted old own (path_at old parent) kids done × (now ≤ looks + 4 * parts_of_kids kids)
 all-grafted kids old looks parent own now done rest goes is =

@@ -7,5 +7,5 @@ pub mod grove {
 
 /// Of `dsde_sim_movers`.
 pub mod sim_movers {
-    pub use dsde_sim_movers::movers_take_their_steps;
+    pub use dsde_sim_movers::{movers_take_their_steps, steps_tell_their_work};
 }

@@ -1,6 +1,6 @@
 //! A simulator is put into a grove below a live part.
 
-ghost use Rattle.std.specs.Prelude.{◌≡◌, ◌+◌, ◌*◌, ◌^◌, ◌<◌, ◌≤◌, [], ◌∷◌, List, map, None, codes, IfOk, OnOk, IsSome};
+ghost use Rattle.std.specs.Prelude.{◌≡◌, ◌+◌, ◌*◌, ◌^◌, ◌<◌, ◌≤◌, [], ◌∷◌, List, length, map, None, codes, IfOk, OnOk, IsSome};
 ghost use Rattle.std.specs.List.{AllByRecursion};
 ghost use Rattle.std.specs.FinMap as finmap;
 ghost use Rattle.dsde_values.specs.Path.{EXEC};
@@ -95,6 +95,7 @@ pub(crate) fn grow_leaf<L: Ledger>(
     ensures waits { (waiting : List Handle) → IsScheduledBut grove.old waiting queue.old.pairs → OnOk result (IsScheduledBut grove.new waiting queue.new.pairs) }
     ensures tree { IsTree grove.new }
     ensures fresh { IfOk result (λ kid. finmap.get grove.old.parts kid.birth ≡ None) }
+    ensures longer { OnOk result (length queue.new.pairs ≤ length queue.old.pairs + 1) }
     ensures ticks { looks.new ≤ looks.old + 4 }
 {
     queue.reserve(1)?;
@@ -126,6 +127,7 @@ pub fn graft<L: Ledger>(
     ensures named { IfOk result (λ kid. (out-WiredKid kid).name ≡ name) }
     ensures tree { OnOk result (IsTree grove.new) }
     ensures waits { (waiting : List Handle) → IsScheduledBut grove.old waiting queue.old.pairs → OnOk result (IsScheduledBut grove.new waiting queue.new.pairs) }
+    ensures longer { OnOk result (length queue.new.pairs ≤ length queue.old.pairs + parts sim) }
     ensures ticks { OnOk result (looks.new ≤ looks.old + 4 * parts sim) }
 {
     let listed = name.copy(alloc)?;
@@ -164,6 +166,7 @@ fn graft_net<L: Ledger>(
     ensures named { IfOk result (λ kid. (out-WiredKid kid).name ≡ name) }
     ensures tree { OnOk result (IsTree grove.new) }
     ensures waits { (waiting : List Handle) → IsScheduledBut grove.old waiting queue.old.pairs → OnOk result (IsScheduledBut grove.new waiting queue.new.pairs) }
+    ensures longer { OnOk result (length queue.new.pairs ≤ length queue.old.pairs + parts_of_net net) }
     ensures ticks { OnOk result (looks.new ≤ looks.old + 4 * parts_of_net net) }
 {
     let Net {
@@ -212,6 +215,7 @@ pub fn graft_kids<L: Ledger>(
     ensures grafted { IfOk result (λ wired. AreGrafted grove.old grove.new (path_at grove.old parent) kids wired) }
     ensures tree { OnOk result (IsTree grove.new) }
     ensures waits { (waiting : List Handle) → IsScheduledBut grove.old waiting queue.old.pairs → OnOk result (IsScheduledBut grove.new waiting queue.new.pairs) }
+    ensures longer { OnOk result (length queue.new.pairs ≤ length queue.old.pairs + parts_of_kids kids) }
     ensures ticks { OnOk result (looks.new ≤ looks.old + 4 * parts_of_kids kids) }
 {
     let mut done = Seq::new(alloc);

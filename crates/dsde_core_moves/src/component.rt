@@ -10,6 +10,7 @@ ghost use Rattle.dsde_sim_changing.specs.given.system.Program.{system};
 ghost use Rattle.dsde_sim_tree.specs.Told.{Tells};
 ghost use Rattle.dsde_core_flat.specs.given.grove.Grove.{value_of};
 ghost use Rattle.dsde_core_flat.specs.given.sim_movers.Movers.{move_one};
+ghost use Rattle.dsde_core_flat.specs.given.sim_movers.Work.{work};
 ghost use Rattle.dsde_core_flat.specs.Scheduled.{IsScheduledBut};
 ghost use Rattle.dsde_core_moves.specs.Flat.{delivery_of, leaf_of, tree_of, with_tree, IsComponent, IsThere, Stands};
 ghost use Rattle.dsde_core_moves.specs.declared.flat.Mover.{Mover as AMover};
@@ -51,6 +52,8 @@ pub fn component_steps<L: Ledger>(
     ensures kept { OnOk result ((handle : Handle) → handle ≢ mover.handle → value_of flat.new.grove handle ≡ value_of flat.old.grove handle) }
     ensures waits { (rest : List Handle) → IsScheduledBut flat.old.grove (mover.handle ∷ rest) flat.old.queue.pairs → OnOk result (IsScheduledBut flat.new.grove rest flat.new.queue.pairs) }
     ensures births { OnOk result (flat.new.grove.next_birth ≡ flat.old.grove.next_birth) }
+    ensures longer { OnOk result (length flat.new.queue.pairs ≤ length flat.old.queue.pairs + 1) }
+    ensures work { OnOk result (work events.new ≡ work events.old + 1) }
     ensures ticks { looks.new ≤ looks.old + 4 }
 {
     movers_take_their_steps();

@@ -1,6 +1,6 @@
 //! What lies under a handle is changed.
 
-ghost use Rattle.std.specs.Prelude.{◌≡◌, ◌+◌, ◌<◌, ◌≤◌, ◌∷◌, List, IsSome};
+ghost use Rattle.std.specs.Prelude.{◌≡◌, ◌+◌, ◌<◌, ◌≤◌, ◌∷◌, List, length, IsSome};
 ghost use Rattle.dsde_bank.specs.declared.handle.Handle.{Handle};
 ghost use Rattle.dsde_core_flat.specs.given.grove.Grove.{spot, value_of, with_value, IsTree};
 ghost use Rattle.dsde_core_flat.specs.declared.spot.Spot.TheVariants as variant;
@@ -47,6 +47,7 @@ pub fn put_moved<L: Ledger>(
     ensures put { grove.new ≡ with_value grove.old handle (variant.Leaf moved) }
     ensures waits { (rest : List Handle) → IsScheduledBut grove.old (handle ∷ rest) queue.old.pairs → IsScheduledBut grove.new rest queue.new.pairs }
     ensures tree { IsTree grove.new }
+    ensures longer { length queue.new.pairs ≤ length queue.old.pairs + 1 }
     ensures ticks { looks.new ≤ looks.old + 2 }
 {
     let next = moved.next;

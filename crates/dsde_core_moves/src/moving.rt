@@ -8,6 +8,7 @@ ghost use Rattle.dsde_sim_changing.specs.given.system.Program.{system};
 ghost use Rattle.dsde_sim_tree.specs.Told.{◌then◌, Tells};
 ghost use Rattle.dsde_sim_tree.specs.Move.{take_move};
 ghost use Rattle.dsde_core_flat.specs.given.grove.Grove.{value_of, IsTree};
+ghost use Rattle.dsde_core_flat.specs.given.sim_movers.Work.{work};
 ghost use Rattle.dsde_core_flat.specs.Scheduled.{held_leaf, IsScheduledBut};
 ghost use Rattle.dsde_core_flat.specs.Shown.{leaf_in};
 ghost use Rattle.dsde_core_moves.specs.Moved.{after, put_under, StaysOf};
@@ -16,6 +17,7 @@ use crate::move_held::put_moved;
 use dsde_bank::Handle;
 use dsde_base::Steps;
 use dsde_core_flat::given::grove::Grove;
+use dsde_core_flat::given::sim_movers::steps_tell_their_work;
 use dsde_core_flat::{Spot, leaf_at};
 use dsde_queue::Queue;
 use dsde_sim_changing::given::program::Program;
@@ -52,8 +54,11 @@ pub fn component_moves<L: Ledger>(
     ensures stays { OnOk result (StaysOf (leaf_in (value_of grove.old handle)) (leaf_in (value_of grove.new handle))) }
     ensures waits { (rest : List Handle) → IsScheduledBut grove.old (handle ∷ rest) queue.old.pairs → OnOk result (IsScheduledBut grove.new rest queue.new.pairs) }
     ensures tree { OnOk result (IsTree grove.new) }
+    ensures longer { OnOk result (length queue.new.pairs ≤ length queue.old.pairs + 1) }
+    ensures work { OnOk result (work events.new ≡ work events.old + 1) }
     ensures ticks { looks.new ≤ looks.old + 4 }
 {
+    steps_tell_their_work();
     queue.reserve(1)?;
     let Some(leaf) = leaf_at(grove, handle, looks) else {
         unreachable!();

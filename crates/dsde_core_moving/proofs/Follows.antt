@@ -60,6 +60,11 @@ looks-sum : {T E : Type 0} (result : Result T E) (before mid after old new kids 
 looks-sum (Ok value) before mid after old new kids entries left few looks = omega (arith, few, looks)
 looks-sum (Err end) before mid after old new kids entries left few looks = tt
 
+work-sum : {T E : Type 0} (result : Result T E) (before mid after pairs told others work entries : ℕ) → mid ≤ before + 2 → OnOk result (after + pairs + told ≤ mid + others + work + 4 * entries) →
+    OnOk result (after + pairs + told ≤ before + 2 + others + work + 4 * entries)
+work-sum (Ok value) before mid after pairs told others work entries few looks = omega (arith, few, looks)
+work-sum (Err end) before mid after pairs told others work entries few looks = tt
+
 module _ (S : System) (model : Model) (flat : Flat) (handle : Handle) (path : Path) (stands : Stands model flat) (own : IsExecutiveAt flat handle path) where
   abbrev tree : Sim
   tree = tree_of flat
@@ -150,3 +155,10 @@ module _ (S : System) (model : Model) (flat : Flat) (handle : Handle) (path : Pa
       let one : plan ≡ other = same-ok plan other (sym (comes-here (Ok plan) comes) ∙ is) in
       subst (λ (p : Plan). OnOk result (after + 4 * old ≤ before + 2 + 2 * length (out-Net own.net).kids + 2 * length p.entries + 6 * parts_of_kids (gone p.entries (out-Net own.net).kids) + 4 * new)) one
       (looks-sum result before mid after old new (length (out-Net own.net).kids) (length plan.entries) (parts_of_kids (gone plan.entries (out-Net own.net).kids)) few looks)
+
+  -- and of which the work is told
+  pub worked : (plan other : Plan) (before mid after pairs told others work : ℕ) (result : Result ℕ TurnEnd) → Comes (structure_of S here.model here.args here path) (Ok plan) → structure ≡ Ok other → mid ≤ before + 2 →
+      OnOk result (after + pairs + told ≤ mid + others + work + 4 * length plan.entries) → OnOk result (after + pairs + told ≤ before + 2 + others + work + 4 * length other.entries)
+  worked plan other before mid after pairs told others work result comes is few looks =
+      let one : plan ≡ other = same-ok plan other (sym (comes-here (Ok plan) comes) ∙ is) in
+      subst (λ (p : Plan). OnOk result (after + pairs + told ≤ before + 2 + others + work + 4 * length p.entries)) one (work-sum result before mid after pairs told others work (length plan.entries) few looks)

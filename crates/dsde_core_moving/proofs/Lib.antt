@@ -14,6 +14,7 @@ mod Owning
 pub mod Permuted
 mod Permuting
 mod Places
+mod Priced
 pub mod Room
 mod Seating
 mod Spared

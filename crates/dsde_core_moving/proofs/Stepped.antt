@@ -62,6 +62,12 @@ looks-all : {T E : Type 0} (result : Result T E) (before looks after old mid new
 looks-all (Ok value) before looks after old mid new kids entries left few same counted = omega (arith, few, same, counted)
 looks-all (Err end) before looks after old mid new kids entries left few same counted = tt
 
+-- the work of all, with that of the move
+pub work-all : {T E : Type 0} (result : Result T E) (before looks after fewer pairs more told mid all entries : ℕ) → looks ≤ before + 4 → pairs ≤ fewer + 1 → mid ≡ told + 1 →
+    OnOk result (after + 4 * more + 16 * mid ≤ looks + 2 + 4 * pairs + 16 * all + 4 * entries) → OnOk result (after + 6 + 4 * more + 16 * told ≤ before + 4 * fewer + 16 * all + 4 * entries)
+work-all (Ok value) before looks after fewer pairs more told mid all entries few one same worked = omega (arith, few, one, same, worked)
+work-all (Err end) before looks after fewer pairs more told mid all entries few one same worked = tt
+
 births-all : {T E : Type 0} (result : Result T E) (new mid old room count was : ℕ) → mid ≡ old → count ≡ was → OnOk result (new ≤ mid + room + count) → OnOk result (new ≤ old + room + was)
 births-all (Ok value) new mid old room count was same parts born = omega (arith, same, parts, born)
 births-all (Err end) new mid old room count was same parts born = tt
@@ -91,10 +97,10 @@ module _ (S : System) (model : Model) (flat : Flat) (mover : Mover) (stands : St
   abbrev pub next_of : ℕ → Leaf → Told (Sim × ℕ)
   next_of room moved = after_boss S (out-Net its_net).model (out-Net its_net).args (out-Net its_net).kids its_path time room moved then as_tree
 
-  kind-is : kind_of (out-Net its_net).boss time mover.got ≡ Some kind
+  pub kind-is : kind_of (out-Net its_net).boss time mover.got ≡ Some kind
   kind-is = ap (λ (l : Leaf). kind_of l time mover.got) (sym (leaf-is model flat mover stands there at)) ∙ is_kind
 
-  taken-is : take_move S (out-Net its_net).boss kind (to_boss its_path) time mover.got ≡ taken
+  pub taken-is : take_move S (out-Net its_net).boss kind (to_boss its_path) time mover.got ≡ taken
   taken-is =
       ap (λ (l : Leaf). take_move S l kind (to_boss its_path) time mover.got) (sym (leaf-is model flat mover stands there at))
       ∙ ap (λ (p : Path). take_move S (leaf_of flat mover) kind p time mover.got) (sym (path-under model flat mover stands there at))
@@ -184,6 +190,18 @@ module _ (S : System) (model : Model) (flat : Flat) (mover : Mover) (stands : St
         abbrev pub Looked : Net-F Sim Kid Net → Plan → ℕ → ℕ → ℕ → ℕ → Type 0
         Looked n plan before after old_births new_births = after + 4 * old_births ≤ before + 2 * length n.kids + 2 * length plan.entries + 6 * parts_of_kids (gone plan.entries n.kids) + 4 * new_births
 
+        -- the plan of the whole is the one that follows
+        pub planned-behind : (other : Net) (moved : Leaf) (plan : Plan) → part_at its_place tree ≡ Some (sim.Net other) → taken.end ≡ Ok moved → structure_of S (out-Net other).model (out-Net other).args moved its_path ≡ Ok plan →
+            structure_of S (out-Net moved_at.net).model (out-Net moved_at.net).args (out-Net moved_at.net).boss found ≡ Ok plan
+        planned-behind other moved plan is ends structure =
+            let one : its_net ≡ other = net-one its_net other (sym (net-there model flat mover stands there at) ∙ is) in
+            let leaf : put.leaf ≡ moved = same-ok put.leaf moved (sym put.tells.1 ∙ ends) in
+            ap (λ (p : Path). structure_of S (out-Net moved_at.net).model (out-Net moved_at.net).args (out-Net moved_at.net).boss p) found_is
+            ∙ ap (λ (n : Net-F Sim Kid Net). structure_of S n.model n.args n.boss its_path) (opened-moved model flat mover stands there at put.leaf)
+            ∙ ap (λ (l : Leaf). structure_of S (out-Net its_net).model (out-Net its_net).args l its_path) leaf
+            ∙ ap (λ (n : Net). structure_of S (out-Net n).model (out-Net n).args moved its_path) one
+            ∙ structure
+
         -- the looks of all
         pub looked-behind : (other : Net) (moved : Leaf) (plan : Plan) (before looks after births : ℕ) (result : Result ℕ TurnEnd) → part_at its_place tree ≡ Some (sim.Net other) → taken.end ≡ Ok moved →
             structure_of S (out-Net other).model (out-Net other).args moved its_path ≡ Ok plan → looks ≤ before + 4 →
@@ -191,16 +209,9 @@ module _ (S : System) (model : Model) (flat : Flat) (mover : Mover) (stands : St
             OnOk result (Looked (out-Net other) plan (before + 6) after flat.grove.next_birth births)
         looked-behind other moved plan before looks after births result is ends structure few known =
             let one : its_net ≡ other = net-one its_net other (sym (net-there model flat mover stands there at) ∙ is) in
-            let leaf : put.leaf ≡ moved = same-ok put.leaf moved (sym put.tells.1 ∙ ends) in
             let shown = opened-moved model flat mover stands there at put.leaf in
-            let planned : structure_of S (out-Net moved_at.net).model (out-Net moved_at.net).args (out-Net moved_at.net).boss found ≡ Ok plan =
-            ap (λ (p : Path). structure_of S (out-Net moved_at.net).model (out-Net moved_at.net).args (out-Net moved_at.net).boss p) found_is
-            ∙ ap (λ (n : Net-F Sim Kid Net). structure_of S n.model n.args n.boss its_path) shown
-            ∙ ap (λ (l : Leaf). structure_of S (out-Net its_net).model (out-Net its_net).args l its_path) leaf
-            ∙ ap (λ (n : Net). structure_of S (out-Net n).model (out-Net n).args moved its_path) one
-            ∙ structure in
             let kids : (out-Net moved_at.net).kids ≡ (out-Net other).kids = ap (λ (n : Net-F Sim Kid Net). n.kids) shown ∙ ap (λ (n : Net). (out-Net n).kids) one in
             let counted : OnOk result (after + 4 * own.next_birth ≤ looks + 2 + 2 * length (out-Net other).kids + 2 * length plan.entries + 6 * parts_of_kids (gone plan.entries (out-Net other).kids) + 4 * births) =
-            subst (λ (ks : List Kid). OnOk result (after + 4 * own.next_birth ≤ looks + 2 + 2 * length ks + 2 * length plan.entries + 6 * parts_of_kids (gone plan.entries ks) + 4 * births)) kids (known plan planned) in
+            subst (λ (ks : List Kid). OnOk result (after + 4 * own.next_birth ≤ looks + 2 + 2 * length ks + 2 * length plan.entries + 6 * parts_of_kids (gone plan.entries ks) + 4 * births)) kids (known plan (planned-behind other moved plan is ends structure)) in
             looks-all result before looks after flat.grove.next_birth own.next_birth births (length (out-Net other).kids) (length plan.entries) (parts_of_kids (gone plan.entries (out-Net other).kids)) few
             (next-birth model flat mover stands there at put.leaf own queue put.is) counted

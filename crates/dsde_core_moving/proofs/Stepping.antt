@@ -65,6 +65,9 @@ module _ (model : Model) (flat : Flat) (mover : Mover) (stands : Stands model fl
     some-kind kind got is got_is none =
         no-kind kind (subst IsSome (ap (λ (own : Leaf). kind_of own time mover.got) found ∙ ap (kind_of leaf time) (sym got_is) ∙ sym is) takes-one) none
 
+    pub kind-found : (kind : Option MoveKind) (one : MoveKind) (got : Ports) → kind ≡ kind_of leaf time got → got ≡ mover.got → kind ≡ Some one → kind_of (leaf_of flat mover) time mover.got ≡ Some one
+    kind-found kind one got is got_is some = ap (λ (own : Leaf). kind_of own time mover.got) found ∙ ap (kind_of leaf time) (sym got_is) ∙ sym is ∙ some
+
     pub is-component : leaf.boss ≡ false → IsComponent flat mover
     is-component is = component (ap (λ (own : Leaf). own.boss) found ∙ is)
 

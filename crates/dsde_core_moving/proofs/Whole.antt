@@ -1,5 +1,6 @@
 -- What a change tells, part by part.
-use Rattle.std.proofs.Common.{◌≡◌, ℕ, ◌+◌, List, [], ◌++◌, length, map, Result, Ok, Err, refl, sym, ap, subst, ◌∙◌}
+use Rattle.std.proofs.Common.{◌≡◌, ℕ, ◌+◌, ◌≤◌, OnOk, arith, List, [], ◌++◌, length, map, Result, Ok, Err, refl, sym, ap, subst, ◌∙◌}
+use Rattle.std.proofs.lemmas.List.Sums.{sum_by-append}
 use Rattle.std.proofs.Math.Seq.{take-append_seam}
 use Rattle.dsde_values.specs.declared.path.Path.{Path}
 use Rattle.dsde_sim_tree.specs.given.formalism.System.{System}
@@ -12,13 +13,18 @@ use Rattle.dsde_sim_tree.specs.Told.{Told, told, telling, ◌then◌, IsCut, Tel
 use Rattle.dsde_sim_starting.specs.given.sim_telling.lemmas_GoingOn.{cut-append, goes-begin, goes-end, goes-memory, goes-step, goes-stops, goes-told, take-all, GoesOn}
 use Rattle.dsde_grove.specs.Grove.{Grove}
 use Rattle.dsde_sim_tree.specs.declared.sim.Kid.{Kid}
+use Rattle.dsde_sim_tree.specs.declared.sim.Sim.{Sim}
 use Rattle.dsde_sim_tree.specs.Tree.{entry_of, parts_of_kids}
 use Rattle.dsde_sim_tree.specs.Start.{start, starts}
 use Rattle.dsde_sim_tree.specs.Move.{change, drop_of, gone, kept, left_behind}
+use Rattle.dsde_sim_movers.specs.Work.{work, work_of}
 use Rattle.dsde_routes_wiring.specs.declared.wiring.WiredKid.{WiredKid}
 use Rattle.dsde_core_moves.specs.given.core_flat.spot_Spot.{Spot}
+use Rattle.dsde_core_moves.specs.declared.flat.Flat.{Flat}
+use Rattle.dsde_core_moves.specs.Flat.{tree_of}
 use Rattle.dsde_core_moves.specs.Chosen.{shown}
 use Rattle.dsde_core_moving.specs.Placed.{placed}
+use Rattle.dsde_core_moving.specs.Restructured.{with_room}
 use Rattle.dsde_core_moving.specs.declared.changing.Changed.{Changed}
 use Rattle.dsde_core_moving.specs.Changed.{as_shown, changed_to}
 
@@ -30,6 +36,19 @@ pub lacks-behind : {A B : Type 0} (step : Told A) (old new : List Event) (value 
     Tells step old new (Ok value) → Tells step old new (view result)
 lacks-behind {A} {B} step old new value result view errs is tells =
     subst (λ (r : Result B TurnEnd). Tells step old new (view r)) (sym is) (subst (Tells step old new) (sym (errs Memory)) (all-cut old step.events new tells.0))
+
+-- the work that is told behind the old events
+pub told-work : {A : Type 0} (step : Told A) (old new : List Event) (value : A) → Tells step old new (Ok value) → work new ≡ work old + work step.events
+told-work step old new value tells = ap work tells.0 ∙ sum_by-append work_of old step.events
+
+-- what is told behind events is no less work
+pub told-more : (step : Told (Sim × ℕ)) (flat : Flat) (old new : List Event) (result : Result ℕ TurnEnd) → Tells step old new (with_room flat result) → OnOk result (work old ≤ work new)
+told-more step flat old new (Ok left) tells = let all = told-work step old new (tree_of flat, left) tells in omega (arith, all)
+told-more step flat old new (Err end) tells = tt
+
+pub one-more : (result : Result ℕ TurnEnd) (told mid all : ℕ) → mid ≡ told + 1 → OnOk result (mid ≤ all) → OnOk result (told + 1 ≤ all)
+one-more (Ok left) told mid all one more = omega (arith, one, more)
+one-more (Err end) told mid all one more = tt
 
 module _ (system : System) (entries : List Entry) (kids : List Kid) (path : Path) (time room : ℕ) (old : List Event)
     (law : change system entries kids path time room ≡ telling (map (drop_of path) (gone entries kids)) (

@@ -15,6 +15,7 @@ ghost use Rattle.dsde_sim_tree.specs.Tree.{entry_of, parts_of_kids, started_as};
 ghost use Rattle.dsde_sim_tree.specs.Move.{change, gone, kept};
 ghost use Rattle.dsde_sim_starting.specs.Fitting.{FitsKid};
 ghost use Rattle.dsde_sim_movers.specs.Names.{AreNames};
+ghost use Rattle.dsde_sim_movers.specs.Work.{work};
 ghost use Rattle.dsde_routes_wiring.specs.declared.wiring.WiredKid.TheViews.{out-Wiring};
 ghost use Rattle.dsde_routes_wiring.specs.Places.{staying};
 ghost use Rattle.dsde_core_moves.specs.given.core_flat.Places.{places_of};
@@ -32,6 +33,7 @@ use dsde_core_moves::{drop_others, fresh_entries, names_lost, survivors};
 use dsde_grove::Grove;
 use dsde_queue::Queue;
 use dsde_routes_wiring::{WiredKid, Wiring};
+use dsde_sim_movers::steps_tell_their_work;
 use dsde_sim_starting::given::program::Program;
 use dsde_sim_tree::{Event, TurnEnd};
 use dsde_structure::Entry;
@@ -52,7 +54,8 @@ pub struct Changed {
 /// do not survive leave with all beneath them, which gives their parts back to the room; then those that are
 /// fresh start and are put below it. All of it is told. The schedule serves who stays as it did, and those
 /// that are fresh. Counts at most 2 looks for each component and each entry, 6 for each part that leaves and 4
-/// for each that comes. A fault ends it, or `Memory` where there is none: then the grove may have some of it.
+/// for each that comes; and with 4 for each pair that the schedule gets, 16 for all work that it tells and 4 for each
+/// entry. A fault ends it, or `Memory` where there is none: then the grove may have some of it.
 pub fn change<L: Ledger>(
     alloc: Global,
     program: &Program,
@@ -89,9 +92,11 @@ pub fn change<L: Ledger>(
     ensures young { IfOk result (λ changed. (birth : ℕ) → HasBirth birth (places_of path.now changed.fresh) → grove.old.next_birth ≤ birth) }
     ensures waits { (waiting : List Handle) → IsScheduledBut grove.old waiting queue.old.pairs → OnOk result (IsScheduledBut grove.new waiting queue.new.pairs) }
     ensures tree { OnOk result (IsTree grove.new) }
+    ensures work { OnOk result (looks.new + 4 * length queue.new.pairs + 16 * work events.old ≤ looks.old + 4 * length queue.old.pairs + 16 * work events.new + 4 * length entries) }
     ensures ticks { IfOk result (λ changed. looks.new ≤ looks.old + 2 * length (out-Wiring wiring.now).kids + 2 * length entries + 6 * parts_of_kids (gone entries (shown grove.old (out-Wiring wiring.now).kids)) + 4 * parts_of_kids (shown grove.new changed.fresh)) }
 {
     changes_start_the_fresh();
+    steps_tell_their_work();
     let tests = survivors(alloc, grove, wiring, &entries, looks)?;
     let gone = names_lost(alloc, wiring, &tests)?;
     let needed = fresh_entries(alloc, grove, wiring, entries, looks)?;

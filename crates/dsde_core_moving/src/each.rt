@@ -1,6 +1,6 @@
 //! All who move.
 
-ghost use Rattle.std.specs.Prelude.{◌≡◌, ◌+◌, ◌<◌, ◌≤◌, ◌^◌, List, map, OnOk};
+ghost use Rattle.std.specs.Prelude.{◌≡◌, ◌+◌, ◌<◌, ◌≤◌, ◌^◌, ◌*◌, List, length, map, OnOk};
 ghost use Rattle.dsde_values.specs.Path.{root};
 ghost use Rattle.dsde_values.specs.When.{IsMoment};
 ghost use Rattle.dsde_values.specs.declared.arrival.Item.{Item};
@@ -9,6 +9,7 @@ ghost use Rattle.dsde_sim_tree.specs.Told.{Tells};
 ghost use Rattle.dsde_sim_tree.specs.Tree.{parts};
 ghost use Rattle.dsde_sim_tree.specs.declared.step.TheConstants.{MOST_PARTS};
 ghost use Rattle.dsde_sim_movers.specs.Movers.{move_each};
+ghost use Rattle.dsde_sim_movers.specs.Work.{entries_each, work};
 ghost use Rattle.dsde_core_moves.specs.given.core_flat.Scheduled.{IsScheduled, IsScheduledBut};
 ghost use Rattle.dsde_core_moves.specs.Flat.{delivery_of, tree_of, Stands};
 ghost use Rattle.dsde_core_moving.specs.Restructured.{with_room};
@@ -48,6 +49,9 @@ pub fn movers_move<L: Ledger, M: Ledger>(
     ensures stands { OnOk result (Stands program.now flat.new) }
     ensures scheduled { OnOk result (IsScheduled flat.new.grove flat.new.queue.pairs) }
     ensures births { OnOk result (flat.new.grove.next_birth ≤ flat.old.grove.next_birth + 2 ^ 33) }
+    ensures many { OnOk result (length movers + work events.old ≤ work events.new) }
+    ensures work { OnOk result (looks.new + 4 * length flat.new.queue.pairs + 16 * work events.old ≤ looks.old + 4 * length flat.old.queue.pairs + 16 * work events.new
+        + 4 * entries_each (system program.now) root time (map delivery_of movers) (tree_of flat.old) room) }
 {
     path_order_is_lawful();
     room_is_kept();

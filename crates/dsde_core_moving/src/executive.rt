@@ -20,6 +20,7 @@ ghost use Rattle.dsde_sim_tree.specs.Tree.{parts, parts_of_kids};
 ghost use Rattle.dsde_sim_movers.specs.Movers.{move_one, path_behind};
 ghost use Rattle.dsde_sim_movers.specs.Parts.{part_at};
 ghost use Rattle.dsde_sim_movers.specs.Orders.{is_above};
+ghost use Rattle.dsde_sim_movers.specs.Work.{work};
 ghost use Rattle.dsde_routes_wiring.specs.declared.wiring.Wiring.{Wiring};
 ghost use Rattle.dsde_routes_wiring.specs.declared.wiring.WiredKid.TheViews.{out-Wiring};
 ghost use Rattle.dsde_routes_wiring.specs.Places.{nets_at};
@@ -80,6 +81,10 @@ pub fn executive_steps<L: Ledger, M: Ledger>(
     ensures ticks { (net : Net) (moved : Leaf) (plan : Plan) → part_at (place_of mover) (tree_of flat.old) ≡ Some (sim.Net net) → (take_move (system program.now) (leaf_of flat.old mover) kind mover.path time mover.got).end ≡ Ok moved →
         structure_of (system program.now) (out-Net net).model (out-Net net).args moved (path_behind root (place_of mover)) ≡ Ok plan →
         OnOk result (looks.new + 4 * flat.old.grove.next_birth ≤ looks.old + 6 + 2 * length (out-Net net).kids + 2 * length plan.entries + 6 * parts_of_kids (gone plan.entries (out-Net net).kids) + 4 * flat.new.grove.next_birth) }
+    ensures some { OnOk result (work events.old + 1 ≤ work events.new) }
+    ensures work { (net : Net) (moved : Leaf) (plan : Plan) → part_at (place_of mover) (tree_of flat.old) ≡ Some (sim.Net net) → (take_move (system program.now) (leaf_of flat.old mover) kind mover.path time mover.got).end ≡ Ok moved →
+        structure_of (system program.now) (out-Net net).model (out-Net net).args moved (path_behind root (place_of mover)) ≡ Ok plan →
+        OnOk result (looks.new + 6 + 4 * length flat.new.queue.pairs + 16 * work events.old ≤ looks.old + 4 * length flat.old.queue.pairs + 16 * work events.new + 4 * length plan.entries) }
     ensures touches { (before after net : Wiring) → flat.old.wiring ≡ Some before → nets_at (place_of mover) before ≡ net ∷ [] →
         OnOk result (flat.new.wiring ≡ Some after → changes.new ≡ changes.old + count (is_touched (out-Wiring net).me (handles_of after)) (routes before) + count (is_touched (out-Wiring net).me (handles_of before)) (routes after)) }
 {

@@ -13,6 +13,7 @@ ghost use Rattle.dsde_sim_tree.specs.declared.sim.Sim.TheViews.{out-Net};
 ghost use Rattle.dsde_sim_tree.specs.Move.{gone};
 ghost use Rattle.dsde_sim_tree.specs.Start.{structure_of};
 ghost use Rattle.dsde_sim_tree.specs.Tree.{parts, parts_of_kids};
+ghost use Rattle.dsde_sim_movers.specs.Work.{work};
 ghost use Rattle.dsde_routes_wiring.specs.declared.wiring.Wiring.{Wiring};
 ghost use Rattle.dsde_routes_wiring.specs.declared.wiring.WiredKid.TheViews.{out-Wiring};
 ghost use Rattle.dsde_routes_wiring.specs.Places.{nets_at};
@@ -92,6 +93,9 @@ pub(crate) fn structure_follows<L: Ledger, M: Ledger>(
     ensures births { OnOk result (flat.new.grove.next_birth ≤ flat.old.grove.next_birth + room + parts (tree_of flat.old)) }
     ensures ticks { (own : IsExecutiveAt flat.old handle path.now) (plan : APlan) → structure_of (system program.now) (out-Net own.net).model (out-Net own.net).args (out-Net own.net).boss path.now ≡ Ok plan →
         OnOk result (looks.new + 4 * flat.old.grove.next_birth ≤ looks.old + 2 + 2 * length (out-Net own.net).kids + 2 * length plan.entries + 6 * parts_of_kids (gone plan.entries (out-Net own.net).kids) + 4 * flat.new.grove.next_birth) }
+    ensures grows { OnOk result (work events.old ≤ work events.new) }
+    ensures work { (own : IsExecutiveAt flat.old handle path.now) (plan : APlan) → structure_of (system program.now) (out-Net own.net).model (out-Net own.net).args (out-Net own.net).boss path.now ≡ Ok plan →
+        OnOk result (looks.new + 4 * length flat.new.queue.pairs + 16 * work events.old ≤ looks.old + 2 + 4 * length flat.old.queue.pairs + 16 * work events.new + 4 * length plan.entries) }
     ensures touches { (own : IsExecutiveAt flat.old handle path.now) (before after net : Wiring) → flat.old.wiring ≡ Some before → nets_at own.place before ≡ net ∷ [] →
         OnOk result (flat.new.wiring ≡ Some after → changes.new ≡ changes.old + count (is_touched (out-Wiring net).me (handles_of after)) (routes before) + count (is_touched (out-Wiring net).me (handles_of before)) (routes after)) }
 {

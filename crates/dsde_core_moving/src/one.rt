@@ -1,6 +1,6 @@
 //! One of those who move.
 
-ghost use Rattle.std.specs.Prelude.{◌≡◌, ◌+◌, ◌<◌, ◌≤◌, ◌^◌, ◌∷◌, List, OnOk};
+ghost use Rattle.std.specs.Prelude.{◌≡◌, ◌+◌, ◌<◌, ◌≤◌, ◌^◌, ◌*◌, ◌∷◌, length, List, OnOk};
 ghost use Rattle.dsde_bank.specs.declared.handle.Handle.{Handle};
 ghost use Rattle.dsde_values.specs.Path.{root};
 ghost use Rattle.dsde_values.specs.When.{IsMoment};
@@ -9,6 +9,7 @@ ghost use Rattle.dsde_sim_tree.specs.Told.{Tells};
 ghost use Rattle.dsde_sim_tree.specs.Tree.{parts};
 ghost use Rattle.dsde_sim_tree.specs.declared.step.TheConstants.{MOST_PARTS};
 ghost use Rattle.dsde_sim_movers.specs.Movers.{move_one};
+ghost use Rattle.dsde_sim_movers.specs.Work.{entries_one, work};
 ghost use Rattle.dsde_core_moves.specs.given.core_flat.Scheduled.{IsScheduledBut};
 ghost use Rattle.dsde_core_moves.specs.Flat.{delivery_of, tree_of, IsThere, Stands};
 ghost use Rattle.dsde_core_moves.specs.declared.flat.Mover.{Mover as AMover};
@@ -20,6 +21,7 @@ use crate::executive_steps;
 use dsde_base::Steps;
 use dsde_core_moves::given::core_flat::leaf_at;
 use dsde_core_moves::{Flat, Mover, component_steps, kind_of};
+use dsde_sim_movers::executives_take_structures;
 use dsde_sim_starting::given::program::Program;
 use dsde_sim_tree::{Event, TurnEnd};
 use dsde_values::Seq;
@@ -52,7 +54,10 @@ pub(crate) fn mover_steps<L: Ledger, M: Ledger>(
     ensures others { OnOk result ((other : AMover) → Spares mover other → IsThere flat.old other → IsThere flat.new other) }
     ensures waits { (rest : List Handle) → IsScheduledBut flat.old.grove (mover.handle ∷ rest) flat.old.queue.pairs → OnOk result (IsScheduledBut flat.new.grove rest flat.new.queue.pairs) }
     ensures births { OnOk result (flat.new.grove.next_birth ≤ flat.old.grove.next_birth + most_births mover) }
+    ensures some { OnOk result (work events.old + 1 ≤ work events.new) }
+    ensures work { OnOk result (looks.new + 4 * length flat.new.queue.pairs + 16 * work events.old ≤ looks.old + 4 * length flat.old.queue.pairs + 16 * work events.new + 4 * entries_one (system program.now) root time (delivery_of mover) (tree_of flat.old)) }
 {
+    executives_take_structures();
     let Some(leaf) = leaf_at(&flat.grove, mover.handle, looks) else {
         unreachable!();
     };

@@ -13,6 +13,7 @@ ghost use Rattle.dsde_sim_tree.specs.Move.{gone};
 ghost use Rattle.dsde_sim_tree.specs.Tree.{parts, parts_of_kids};
 ghost use Rattle.dsde_sim_movers.specs.Movers.{path_behind};
 ghost use Rattle.dsde_sim_movers.specs.Parts.{part_at};
+ghost use Rattle.dsde_sim_movers.specs.Work.{work};
 ghost use Rattle.dsde_routes_wiring.specs.declared.wiring.Wiring.{Wiring};
 ghost use Rattle.dsde_routes_wiring.specs.declared.wiring.WiredKid.TheViews.{out-Wiring};
 ghost use Rattle.dsde_routes_wiring.specs.Places.{nets_at};
@@ -69,6 +70,7 @@ pub fn restructure<L: Ledger, M: Ledger>(
     ensures waits { (waiting : List Handle) → IsScheduledBut flat.old.grove waiting flat.old.queue.pairs → OnOk result (IsScheduledBut flat.new.grove waiting flat.new.queue.pairs) }
     ensures born { (net : Net) → part_at place.now (tree_of flat.old) ≡ Some (sim.Net net) →
         IfOk result (λ rest. flat.new.grove.next_birth + rest ≡ flat.old.grove.next_birth + room + parts_of_kids (gone plan.entries (out-Net net).kids)) }
+    ensures work { OnOk result (looks.new + 4 * length flat.new.queue.pairs + 16 * work events.old ≤ looks.old + 4 * length flat.old.queue.pairs + 16 * work events.new + 4 * length plan.entries) }
     ensures ticks { (net : Net) → part_at place.now (tree_of flat.old) ≡ Some (sim.Net net) →
         OnOk result (looks.new + 4 * flat.old.grove.next_birth ≤ looks.old + 2 * length (out-Net net).kids + 2 * length plan.entries + 6 * parts_of_kids (gone plan.entries (out-Net net).kids) + 4 * flat.new.grove.next_birth) }
     ensures touches { (before after net : Wiring) → flat.old.wiring ≡ Some before → nets_at place.now before ≡ net ∷ [] →

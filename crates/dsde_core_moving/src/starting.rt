@@ -1,6 +1,6 @@
 //! Components start, and are put into a grove below the part of their network.
 
-ghost use Rattle.std.specs.Prelude.{◌≡◌, ◌+◌, ◌*◌, ◌^◌, ◌<◌, ◌≤◌, ℕ, List, [], map, false, IfOk, OnOk, IsSome};
+ghost use Rattle.std.specs.Prelude.{◌≡◌, ◌+◌, ◌*◌, ◌^◌, ◌<◌, ◌≤◌, ℕ, List, [], length, map, false, IfOk, OnOk, IsSome};
 ghost use Rattle.std.specs.List.{AllByRecursion};
 ghost use Rattle.dsde_bank.specs.declared.handle.Handle.{Handle};
 ghost use Rattle.dsde_values.specs.Path.{EXEC};
@@ -102,6 +102,7 @@ pub fn start_fresh<L: Ledger>(
     ensures are { IfOk result (λ made. map entry_of (shown grove.new made.0) ≡ map started_as entries) }
     ensures waits { (waiting : List Handle) → IsScheduledBut grove.old waiting queue.old.pairs → OnOk result (IsScheduledBut grove.new waiting queue.new.pairs) }
     ensures tree { OnOk result (IsTree grove.new) }
+    ensures longer { IfOk result (λ made. length queue.new.pairs ≤ length queue.old.pairs + parts_of_kids (shown grove.new made.0)) }
     ensures ticks { IfOk result (λ made. looks.new ≤ looks.old + 4 * parts_of_kids (shown grove.new made.0)) }
 {
     let left = left_behind(path);

@@ -8,6 +8,7 @@ mod Living
 mod Members
 mod Moves
 mod Moving
+mod Paying
 mod Ports
 mod RootCalling
 mod Roots

@@ -1,7 +1,7 @@
 //! What an atomic component that is the whole model does in the output phase of a turn. A law: it is a call that does
 //! nothing.
 
-ghost use Rattle.std.specs.Prelude.{◌≡◌, ◌<◌, ◌^◌, ℕ, IsNone, IsSome, length, List};
+ghost use Rattle.std.specs.Prelude.{◌≡◌, ◌<◌, ◌≤◌, ◌^◌, ℕ, IsNone, IsSome, length, List};
 ghost use Rattle.dsde_syntax.specs.declared.decl.Model.{Model};
 ghost use Rattle.dsde_values.specs.declared.arrival.Item.{Item};
 ghost use Rattle.dsde_values.specs.Path.{root};
@@ -22,9 +22,11 @@ ghost use Rattle.dsde_core_parcels.specs.given.core_moves.flat_Flat.{Flat};
 ghost use Rattle.dsde_core_parcels.specs.given.core_moves.Flat.{tree_of, Stands};
 ghost use Rattle.dsde_core_parcels.specs.given.core_moves.Movers.{AreMovers, Wait};
 ghost use Rattle.dsde_core_outputs.specs.Alone.{one_called, IsAlone};
+ghost use Rattle.dsde_core_outputs.specs.Rows.{HasRows};
 
 use dsde_sim_working::given::sim_movers::movers_are_walked;
 use dsde_sim_working::given::sound_structures::sent_fits;
+use dsde_values::orders_are_total;
 
 /// Where nothing is wired, an atomic component of the program lies under the root's handle. What it sends is what the
 /// tree sends, and it alone moves in a turn: where it is due, or the items bring something to it.
@@ -36,7 +38,11 @@ pub(crate) fn lone_components_move()
         got ≡ by_port (component_of (system model) leaf).ins items → length got < 2 ^ 32 → AreMovers model flat time items (one_called leaf flat.root root time got) }
     ensures waits { (model : Model) (flat : Flat) (leaf : Leaf) (time : ℕ) (got : Ports) (dues : List Due) → Stands model flat → IsAlone flat leaf → AreDue flat.grove time dues →
         Wait dues (one_called leaf flat.root root time got) }
+    ensures many { (model : Model) (flat : Flat) (leaf : Leaf) (time : ℕ) (got : Ports) (dues : List Due) → Stands model flat → IsAlone flat leaf → AreDue flat.grove time dues →
+        length dues ≤ length (one_called leaf flat.root root time got) }
+    ensures rows { (model : Model) (flat : Flat) (leaf : Leaf) (time : ℕ) (items : List Item) (dues : List Due) → Stands model flat → IsAlone flat leaf → AreDue flat.grove time dues → HasRows model flat time items 0 }
 {
     sent_fits();
     movers_are_walked();
+    orders_are_total();
 }

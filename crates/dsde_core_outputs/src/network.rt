@@ -1,6 +1,6 @@
 //! The output phase of a turn of a network, step by step.
 
-ghost use Rattle.std.specs.Prelude.{◌≡◌, ◌+◌, ◌<◌, ◌≤◌, ◌^◌, length, map, IfOk, IsPermutation, IsSome, IsSorted, OnOk};
+ghost use Rattle.std.specs.Prelude.{◌≡◌, ◌+◌, ◌*◌, ◌<◌, ◌≤◌, ◌^◌, ℕ, length, map, IfOk, IsPermutation, IsSome, IsSorted, OnOk};
 ghost use Rattle.std.specs.List.{AllByRecursion};
 ghost use Rattle.dsde_values.specs.Path.{root};
 ghost use Rattle.dsde_sim_working.specs.given.system.Program.{system};
@@ -19,9 +19,11 @@ ghost use Rattle.dsde_core_parcels.specs.Inboxes.{spread};
 ghost use Rattle.dsde_core_parcels.specs.Parcels.{GoFrom};
 ghost use Rattle.dsde_core_parcels.specs.Brought.{Rise};
 ghost use Rattle.dsde_core_parcels.specs.Asking.{ended};
+ghost use Rattle.dsde_core_parcels.specs.Counted.{CountsRows};
 ghost use Rattle.dsde_core_parcels.specs.Calling.{due_movers, emptied, gets_for, mover_cmp, IsFew};
 ghost use Rattle.dsde_core_parcels.specs.given.core_moves.Flat.{tree_of, Stands};
 ghost use Rattle.dsde_core_parcels.specs.given.core_moves.Movers.{sent_of, AreMovers, Wait};
+ghost use Rattle.dsde_core_outputs.specs.Rows.{HasRows};
 ghost use Rattle.dsde_core_outputs.specs.Rooting.{outs_of, taken_by, AreReady, AreSent, FillInboxes};
 
 use crate::{
@@ -33,8 +35,8 @@ use dsde_core_parcels::given::core_flat::{Due, Spot};
 use dsde_core_parcels::given::core_moves::{Flat, Mover, Phase};
 use dsde_core_parcels::given::routes_table::RouteTable;
 use dsde_core_parcels::{
-    Get, Inbox, Outlet, inboxes, inboxes_are_received, live_leaves_fit, push_all, sorted, spread,
-    turn_outlets,
+    Get, Inbox, Outlet, inboxes, inboxes_are_few, inboxes_are_received, live_leaves_fit, push_all,
+    sorted, spread, turn_outlets,
 };
 use dsde_language::ModelId;
 use dsde_sim_tree::TurnEnd;
@@ -101,6 +103,7 @@ fn come_out<L: Ledger>(
     requires items { FitsItems program.now (model_of (tree_of flat.now)).0 items.now }
     ensures comes { Comes (ask_each (system program.now) time (map (asked flat.now.grove) due.now)) (ended result) }
     ensures sent { IfOk result (λ outlets. AreSent program.now flat.now time items.now due.now outlets) }
+    ensures ticks { OnOk result (looks.new ≤ looks.old + 2 * length due.now) }
 {
     live_leaves_fit();
     let got = came(alloc, program, flat, model, items)?;
@@ -127,8 +130,10 @@ fn carried(
     requires { AllByRecursion (GoFrom program.now table.now) outlets.now }
     ensures fill { IfOk result (λ boxes. FillInboxes table.now (system program.now).translate outlets.now boxes) }
     ensures rise { IfOk result Rise }
+    ensures few { IfOk result (λ boxes. (rows : ℕ) × CountsRows table.now outlets.now rows × (length boxes ≤ rows)) }
 {
     inboxes_are_received();
+    inboxes_are_few();
     let pushed = push_all(alloc, program, table, outlets)?;
     let parcels = sorted(pushed)?;
     let boxes = inboxes(alloc, parcels)?;
@@ -155,6 +160,8 @@ fn filled<L: Ledger>(
     ensures comes { Comes (ask_each (system program.now) time (map (asked flat.now.grove) due.now)) (ended result) }
     ensures ready { IfOk result (λ boxes. AreReady program.now flat.now time items.now due.now boxes) }
     ensures rise { IfOk result Rise }
+    ensures few { IfOk result (λ boxes. (rows : ℕ) × HasRows program.now flat.now time items.now rows × (length boxes ≤ rows)) }
+    ensures ticks { OnOk result (looks.new ≤ looks.old + 2 * length due.now) }
 {
     outlets_fill_inboxes();
     let outlets = come_out(alloc, program, flat, model, due, time, items, looks)?;
@@ -214,6 +221,8 @@ fn all_called<L: Ledger>(
     ensures same { IfOk result (IsPermutation (taken_by (system program.now) flat.now.grove time due.items boxes)) }
     ensures order { IfOk result (IsSorted mover_cmp) }
     ensures few { IfOk result (λ movers. AllByRecursion IsFew movers) }
+    ensures many { IfOk result (λ movers. length due.items ≤ length movers) }
+    ensures ticks { OnOk result (looks.new ≤ looks.old + 2 * length due.items + 67 * length boxes) }
 {
     live_leaves_fit();
     let mut left = boxes;
@@ -247,6 +256,8 @@ pub fn net_movers<L: Ledger>(
     ensures few { IfOk result (λ phase. length phase.sent < 2 ^ 32) }
     ensures movers { IfOk result (λ phase. AreMovers program.now flat.now time items.now phase.movers) }
     ensures wait { IfOk result (λ phase. Wait due.items phase.movers) }
+    ensures many { IfOk result (λ phase. length due.items ≤ length phase.movers) }
+    ensures ticks { OnOk result ((rows : ℕ) × HasRows program.now flat.now time items.now rows × (looks.new ≤ looks.old + 2 + 4 * length due.items + 67 * rows)) }
 {
     program.right();
     outputs_come_of_asking();

@@ -1,6 +1,6 @@
 //! Who moves in a turn where the whole model is an atomic component.
 
-ghost use Rattle.std.specs.Prelude.{◌≡◌, ◌+◌, ◌<◌, ◌≤◌, ◌^◌, length, IfOk, IsNone, IsSome, List, Some};
+ghost use Rattle.std.specs.Prelude.{◌≡◌, ◌+◌, ◌<◌, ◌≤◌, ◌^◌, length, IfOk, IsNone, IsSome, List, OnOk, Some};
 ghost use Rattle.dsde_values.specs.Path.{root};
 ghost use Rattle.dsde_sim_working.specs.given.system.Fitting.{FitsLeaf};
 ghost use Rattle.dsde_sim_working.specs.given.system.Program.{system};
@@ -16,6 +16,7 @@ ghost use Rattle.dsde_core_parcels.specs.given.core_flat.Due.{AreDue};
 ghost use Rattle.dsde_core_parcels.specs.given.core_moves.Flat.{tree_of, Stands};
 ghost use Rattle.dsde_core_parcels.specs.given.core_moves.Movers.{sent_of, AreMovers, Wait};
 ghost use Rattle.dsde_core_outputs.specs.Alone.{one_called};
+ghost use Rattle.dsde_core_outputs.specs.Rows.{HasRows};
 
 use crate::alone_laws::lone_components_move;
 use dsde_bank::Handle;
@@ -106,6 +107,8 @@ pub fn root_movers<L: Ledger>(
     ensures few { IfOk result (λ phase. length phase.sent < 2 ^ 32) }
     ensures movers { IfOk result (λ phase. AreMovers program.now flat.now time items.now phase.movers) }
     ensures wait { (dues : List ADue) → AreDue flat.now.grove time dues → IfOk result (λ phase. Wait dues phase.movers) }
+    ensures many { (dues : List ADue) → AreDue flat.now.grove time dues → IfOk result (λ phase. length dues ≤ length phase.movers) }
+    ensures rows { (dues : List ADue) → AreDue flat.now.grove time dues → OnOk result (HasRows program.now flat.now time items.now 0) }
     ensures ticks { looks.new ≤ looks.old + 2 }
 {
     lone_components_move();

@@ -1,6 +1,6 @@
 //! What a turn begins with.
 
-ghost use Rattle.std.specs.Prelude.{◌≡◌, ◌<◌, ◌≤◌, ◌^◌, length, map, IfOk, IfSome, OnOk};
+ghost use Rattle.std.specs.Prelude.{◌≡◌, ◌+◌, ◌*◌, ◌<◌, ◌≤◌, ◌^◌, ℕ, length, map, IfOk, IfSome, OnOk};
 ghost use Rattle.std.specs.Option.{option_map};
 ghost use Rattle.dsde_values.specs.Path.{root};
 ghost use Rattle.dsde_values.specs.When.{IsMoment};
@@ -13,6 +13,7 @@ ghost use Rattle.dsde_queue.specs.Queue.{first_of, time_of, IsOrdered};
 ghost use Rattle.dsde_core_parcels.specs.given.core_flat.Scheduled.{IsScheduled, IsScheduledBut};
 ghost use Rattle.dsde_core_parcels.specs.given.core_flat.Stands.{IsShallow};
 ghost use Rattle.dsde_core_parcels.specs.given.core_moves.Flat.{tree_of, Stands};
+ghost use Rattle.dsde_core_outputs.specs.Rows.{HasRows};
 ghost use Rattle.dsde_core_parcels.specs.given.core_moves.Movers.{handle_of, sent_of, with_queue, AreMovers};
 
 use crate::{net_movers, root_movers};
@@ -28,7 +29,9 @@ use std::sync::ledger::Ledger;
 /// Takes those who are due at a turn's time out of the schedule, in which none is earlier, and asks them for what they
 /// send, one after another in path order: a fault is the first one that comes, that of the output message of the tree.
 /// Gives what the root sends, port by port, and those who move: whoever is due or gets something, in path order, each
-/// with what it receives. They wait for their moves. After a fault, and after `Memory`, some pairs have left.
+/// with what it receives. They wait for their moves. Each pair that leaves pays for its looks with 4; beside them
+/// at most 69 are counted for each mover, 67 for each row from the ports that send, and 2. After a fault, and
+/// after `Memory`, some pairs have left.
 pub fn turn_movers<L: Ledger>(
     alloc: Global,
     program: &Program,
@@ -49,6 +52,8 @@ pub fn turn_movers<L: Ledger>(
     ensures movers { IfOk result (λ phase. AreMovers program.now flat.new time items.now phase.movers) }
     ensures same { OnOk result (flat.new ≡ with_queue flat.old flat.new.queue) }
     ensures waits { IfOk result (λ phase. IsScheduledBut flat.new.grove (map handle_of phase.movers) flat.new.queue.pairs) }
+    ensures paid { IfOk result (λ phase. (rows : ℕ) × HasRows program.now flat.old time items.now rows
+        × (looks.new + 4 * length flat.new.queue.pairs ≤ looks.old + 2 + 4 * length flat.old.queue.pairs + 69 * length phase.movers + 67 * rows)) }
 {
     let due = turn_due(alloc, &flat.grove, &mut flat.queue, time, looks)?;
     if flat.wiring.is_some() {

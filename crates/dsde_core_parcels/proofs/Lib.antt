@@ -2,6 +2,7 @@ mod Adding
 mod Apart
 mod Calling
 mod Carrying
+mod Counting
 mod Cut
 mod Delivering
 mod Flowing

@@ -2,6 +2,7 @@ pub mod Along
 pub mod Asking
 pub mod Brought
 pub mod Calling
+pub mod Counted
 pub mod Delivered
 pub mod Inboxes
 pub mod Outlets

@@ -22,7 +22,7 @@ pub use inbox::{Get, Inbox, inboxes};
 pub use outlet_laws::flat_outlets_are_sent;
 pub use outlets::turn_outlets;
 pub use parcel::{Outlet, Parcel, push_all, sorted};
-pub use parcels::{inboxes_are_apart, inboxes_are_received, parcels_are_received};
+pub use parcels::{inboxes_are_apart, inboxes_are_few, inboxes_are_received, parcels_are_received};
 pub use ports::spread;
 pub use seat_laws::live_leaves_fit;
 pub use sending::sent;

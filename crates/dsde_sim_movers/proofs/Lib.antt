@@ -34,3 +34,4 @@ pub mod Taking
 pub mod Waiting
 pub mod Walked
 pub mod Walking
+pub mod Works

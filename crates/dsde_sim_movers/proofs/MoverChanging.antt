@@ -52,7 +52,7 @@ module _ (total : IsTotalOrder name_cmp) where
   apart : (name other : Name) → name_cmp name other ≡ Less → is_same_name name other ≡ false
   apart name other less = ap is_eq less
 
-  apart-back : (name other : Name) → name_cmp name other ≡ Less → is_same_name other name ≡ false
+  pub apart-back : (name other : Name) → name_cmp name other ≡ Less → is_same_name other name ≡ false
   apart-back name other less = ap is_eq (total.antisymm other name ∙ ap ordering_reverse less)
 
   -- among the names of those that pass a test is that of each that does

@@ -60,7 +60,7 @@ kids-snoc done kid =
     let none : parts_of_kids [] ≡ 0 = refl in
     omega (arith, joined, last, none)
 
-parts-whole : (model : ModelId) (args : List Value) (boss : Leaf) (kids : List Kid) (links : List Link) → parts (whole model args boss kids links) ≡ 2 + parts_of_kids kids
+pub parts-whole : (model : ModelId) (args : List Value) (boss : Leaf) (kids : List Kid) (links : List Link) → parts (whole model args boss kids links) ≡ 2 + parts_of_kids kids
 parts-whole model args boss kids links =
     parts-Net (net_of model args boss kids links) ∙ ap (λ (net : Net-F Sim Kid Net). 2 + sum (map parts_of_kid net.kids)) (opened model args boss kids links)
 

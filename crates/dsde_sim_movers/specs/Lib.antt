@@ -11,5 +11,6 @@ pub mod Places
 pub mod Stands
 pub mod Turns
 pub mod Walk
+pub mod Work
 pub mod lemmas
 pub mod given

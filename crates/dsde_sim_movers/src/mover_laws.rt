@@ -6,6 +6,8 @@ ghost use Rattle.dsde_values.specs.declared.arrival.Item.{Item};
 ghost use Rattle.dsde_values.specs.declared.name.Name.{Name};
 ghost use Rattle.dsde_values.specs.declared.path.Path.{Path};
 ghost use Rattle.dsde_sim_tree.specs.given.formalism.leaf_Leaf.{Leaf};
+ghost use Rattle.dsde_sim_tree.specs.given.formalism.leaf_MoveKind.{MoveKind};
+ghost use Rattle.dsde_sim_tree.specs.given.formalism.Leaf.{kind_of};
 ghost use Rattle.dsde_sim_movers.specs.Places.{leaves_from, paths_from};
 ghost use Rattle.dsde_sim_movers.specs.Asking.{IsNext, ending, ask_each, due_ones, seated};
 ghost use Rattle.dsde_sim_movers.specs.Changes.{changed_as};
@@ -18,19 +20,22 @@ ghost use Rattle.dsde_sim_tree.specs.given.structure.plan_Link.{Link};
 ghost use Rattle.dsde_sim_tree.specs.given.structure.Survival.{IsInOrder, compared};
 ghost use Rattle.dsde_sim_tree.specs.Told.{told, ◌then◌};
 ghost use Rattle.dsde_sim_tree.specs.declared.sim.Kid.{Kid};
+ghost use Rattle.dsde_sim_tree.specs.declared.sim.Net.{Net};
+ghost use Rattle.dsde_sim_tree.specs.declared.sim.Sim.TheViews.{out-Net};
 ghost use Rattle.dsde_sim_tree.specs.Start.{net_of, start};
 ghost use Rattle.dsde_sim_movers.specs.Parts.{are_apart, part_at, with_part};
 ghost use Rattle.dsde_sim_tree.specs.given.formalism.System.{Ports, System};
 ghost use Rattle.dsde_sim_tree.specs.declared.sim.Sim.{Sim};
 ghost use Rattle.dsde_sim_tree.specs.Output.{by_port, output};
-ghost use Rattle.dsde_sim_tree.specs.Tree.{entry_of, next_time, parts};
-ghost use Rattle.dsde_sim_tree.specs.Move.{boss_moves, change, ins_of, move, move_leaf_at};
+ghost use Rattle.dsde_sim_tree.specs.Tree.{entry_of, next_time, parts, parts_of_kids};
+ghost use Rattle.dsde_sim_tree.specs.Move.{boss_moves, change, gone, ins_of, move, move_leaf_at, take_move};
 ghost use Rattle.dsde_sim_tree.specs.declared.step.TheConstants.{MOST_PARTS};
 ghost use Rattle.dsde_sim_tree.specs.Turn.{turn};
 ghost use Rattle.dsde_sim_movers.specs.Deliveries.{Delivery, deliveries};
 ghost use Rattle.dsde_sim_movers.specs.Names.{IsNamed, NamesParts};
-ghost use Rattle.dsde_sim_movers.specs.Movers.{leaf_at, move_at, move_each, movers, path_behind, seat_behind, seat_of, AreInPathOrder};
+ghost use Rattle.dsde_sim_movers.specs.Movers.{leaf_at, move_at, move_each, move_one, movers, path_behind, seat_behind, seat_of, AreInPathOrder};
 ghost use Rattle.dsde_sim_movers.specs.Turns.{turn_movers, free_turn};
+ghost use Rattle.dsde_sim_movers.specs.Work.{entries_one, work, TakesStructure};
 ghost use Rattle.dsde_sim_tree.specs.declared.sim.Sim.TheVariants as sim;
 
 use crate::leaves_have_deliveries;
@@ -152,6 +157,27 @@ pub fn room_is_kept()
         (free_turn system tree number time items order).end ≡ Ok after → parts after ≤ MOST_PARTS }
     ensures start { (system : System) (left : ℕ) (model : ModelId) (args : List Value) (path : Path) (time room rest : ℕ) (tree : Sim) →
         (start system left model args path time room).end ≡ Ok (tree, rest) → parts tree + rest ≤ room }
+{}
+
+/// What steps tell is their work: a move is one, a change of structure is one for each part that starts and for each
+/// that it drops; and of a network's components there are no more than entries of its new structure and parts that it drops.
+pub fn steps_tell_their_work()
+    ensures moves { (system : System) (leaf moved : Leaf) (kind : MoveKind) (path : Path) (time : ℕ) (got : Ports) → (take_move system leaf kind path time got).end ≡ Ok moved →
+        work (take_move system leaf kind path time got).events ≡ 1 }
+    ensures changes { (system : System) (entries : List Entry) (kids after : List Kid) (path : Path) (time room left : ℕ) → (change system entries kids path time room).end ≡ Ok (after, left) →
+        work (change system entries kids path time room).events + left ≡ room + 2 * parts_of_kids (gone entries kids) }
+    ensures few { (entries : List Entry) (kids : List Kid) → IsInOrder (map entry_of kids) → length kids ≤ length entries + parts_of_kids (gone entries kids) }
+{
+    orders_are_total();
+    one_name();
+}
+
+/// An executive that moves has a structure for its new state.
+pub fn executives_take_structures()
+    ensures { (system : System) (tree after : Sim) (net : Net) (kind : MoveKind) (path : Path) (time : ℕ) (own : Delivery) (room left : ℕ) →
+        (seat_behind path own.path).is_boss ≡ true → part_at (seat_behind path own.path).names tree ≡ Some (sim.Net net) → kind_of (out-Net net).boss time own.ports ≡ Some kind →
+        (move_one system path time own tree room).end ≡ Ok (after, left) →
+        TakesStructure system net kind (path_behind path (seat_behind path own.path).names) time own.ports (entries_one system path time own tree) }
 {}
 
 /// A change of a network's structure drops, keeps and starts those components of which the comparison of

@@ -4,6 +4,7 @@ pub use Rattle.dsde_sim_movers.specs.Names
 pub use Rattle.dsde_sim_movers.specs.Orders
 pub use Rattle.dsde_sim_movers.specs.Parts
 pub use Rattle.dsde_sim_movers.specs.Turns
+pub use Rattle.dsde_sim_movers.specs.Work
 pub use Rattle.dsde_sim_movers.specs.lemmas.Lenses as lemmas_Lenses
 pub use Rattle.dsde_sim_movers.specs.lemmas.Named as lemmas_Named
 pub use Rattle.dsde_sim_movers.specs.lemmas.Opened as lemmas_Opened

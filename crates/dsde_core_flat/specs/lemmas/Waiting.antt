@@ -1,5 +1,5 @@
 -- A schedule serves: where leaves move, where parts are dropped, and where parts grow.
-use Rattle.std.proofs.Common.{◌≡◌, ◌≢◌, ◌⊎◌, inl, inr, ℕ, Bool, true, false, if◌then◌else◌, List, [], ◌∷◌, ◌++◌, Option, Some, None, IsSome, refl, sym, ap, subst, ◌∙◌}
+use Rattle.std.proofs.Common.{◌≡◌, ◌≢◌, ◌⊎◌, inl, inr, ℕ, ◌+◌, ◌≤◌, length, arith, Bool, true, false, if◌then◌else◌, List, [], ◌∷◌, ◌++◌, Option, Some, None, IsSome, refl, sym, ap, subst, ◌∙◌}
 use Rattle.std.specs.Option.{option_map}
 use Rattle.std.specs.List.{Contains}
 use Rattle.std.specs.FinMap as finmap
@@ -52,6 +52,19 @@ put-keeps p x (q ∷ rest) there = put-keeps-by p q x rest (comes_before q p) (p
 pub scheduled-keeps : (handle : Handle) (next : When) (pairs : List (ℕ × Handle)) (x : ℕ × Handle) → Among x pairs → Among x (scheduled handle next pairs)
 scheduled-keeps handle (At time) pairs x there = put-keeps (time, handle) x pairs there
 scheduled-keeps handle Never pairs x there = there
+
+put-longer-by : (p q : ℕ × Handle) (rest : List (ℕ × Handle)) (b : Bool) → length (put p rest) ≡ length rest + 1 → length (if b then q ∷ put p rest else p ∷ q ∷ rest) ≡ length (q ∷ rest) + 1
+put-longer-by p q rest true later = omega (arith, later)
+put-longer-by p q rest false later = omega arith
+
+put-longer : (p : ℕ × Handle) (pairs : List (ℕ × Handle)) → length (put p pairs) ≡ length pairs + 1
+put-longer p [] = omega arith
+put-longer p (q ∷ rest) = put-longer-by p q rest (comes_before q p) (put-longer p rest)
+
+-- a pair more at most
+pub scheduled-longer : (handle : Handle) (next : When) (pairs : List (ℕ × Handle)) → length (scheduled handle next pairs) ≤ length pairs + 1
+scheduled-longer handle (At time) pairs = let one = put-longer (time, handle) pairs in omega (arith, one)
+scheduled-longer handle Never pairs = omega arith
 
 pub scheduled-here : (handle : Handle) (next : When) (pairs : List (ℕ × Handle)) (time : ℕ) → next ≡ At time → Among (time, handle) (scheduled handle next pairs)
 scheduled-here handle next pairs time is = subst (λ (w : When). Among (time, handle) (scheduled handle w pairs)) (sym is) (put-here (time, handle) pairs)

@@ -5,3 +5,4 @@ pub use Rattle.dsde_sim_movers.specs.Names
 pub use Rattle.dsde_sim_movers.specs.Places
 pub use Rattle.dsde_sim_movers.specs.Stands
 pub use Rattle.dsde_sim_movers.specs.Turns
+pub use Rattle.dsde_sim_movers.specs.Work

@@ -9,9 +9,10 @@ use Rattle.dsde_sim_tree.specs.declared.sim.Sim.{Sim}
 use Rattle.dsde_sim_tree.specs.Output.{outs_from}
 use Rattle.dsde_sim_tree.specs.Tree.{parts}
 use Rattle.dsde_core_moving.specs.given.sim_movers.Turns.{free_phase}
+use Rattle.dsde_core_moving.specs.given.sim_movers.Work.{entries_each}
 use Rattle.dsde_core_moving.specs.given.core_moves.Flat.{delivery_of, tree_of}
 use Rattle.dsde_core.specs.Turned.{with_turn}
-use Rattle.dsde_core.proofs.Phases.{phase-err, phase-ok}
+use Rattle.dsde_core.proofs.Phases.{phase-err, phase-ok, told-more}
 use Rattle.dsde_core.proofs.Resting.{live-is}
 use Rattle.dsde_core.proofs.turning.move_phase.Goals as goal
 
@@ -53,3 +54,16 @@ returns-clause-within g c =
     let within : parts (tree_of a.flat.now) ≤ 131072 = c.requires.within in
     let all : parts (tree_of c.movers_move.new.flat) ≤ 131072 = omega (arith, kept, c.live-room.ensures.count, live, within) in
     all
+
+pub returns-clause-many : goal.returns-clause-many
+returns-clause-many g c =
+    let more = told-more c.args.events.now (outs_from 0 c.args.phase.sent) c.tell_outs.new.events (c.in_ok-tell_outs.ensures.ok ∙ ap (λ (sent : Ports). c.args.events.now ++ outs_from 0 sent) c.as_slice.ensures) in
+    omega (arith, more, c.in_ok-_room.ensures.many)
+
+pub returns-clause-paid : goal.returns-clause-paid
+returns-clause-paid g c =
+    let a = c.args in
+    let more = told-more a.events.now (outs_from 0 a.phase.sent) c.tell_outs.new.events (c.in_ok-tell_outs.ensures.ok ∙ ap (λ (sent : Ports). a.events.now ++ outs_from 0 sent) c.as_slice.ensures) in
+    let room = ap (λ (n : ℕ). 131072 - n) (c.live-room.ensures.count ∙ live-is a.program.now a.flat.now c.requires.stands) in
+    let entries = ap (entries_each (system a.program.now) root a.time (map delivery_of a.phase.movers) (tree_of a.flat.now)) room in
+    omega (arith, more, entries, c.in_ok-_room.ensures.work)

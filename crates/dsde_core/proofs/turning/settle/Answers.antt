@@ -21,3 +21,6 @@ returns-clause-rests g c model stands =
 
 pub returns-clause-births : goal.returns-clause-births
 returns-clause-births g c = ap (λ (flat : Flat). flat.grove.next_birth) c.thin.ensures.same
+
+pub returns-clause-paid : goal.returns-clause-paid
+returns-clause-paid g c = omega (arith, c.thin.ensures.shorter, c.due_time.ensures.ticks)

@@ -1,5 +1,6 @@
-use Rattle.std.proofs.Common.{◌∙◌, Result, Ok, Err, map, ap, sym, subst}
+use Rattle.std.proofs.Common.{◌∙◌, [], ◌∷◌, arith, Result, Ok, Err, map, ap, sym, subst}
 use Rattle.std.proofs.lemmas.Result.{err_from_is_err_and}
+use Rattle.dsde_sim_tree.specs.declared.event.Event.TheVariants.{Turn}
 use Rattle.dsde_sim_tree.specs.declared.fault.TurnEnd.{TurnEnd}
 use Rattle.dsde_sim_tree.specs.Told.{Tells, Told}
 use Rattle.dsde_core_outputs.specs.given.system.Program.{system}
@@ -10,7 +11,7 @@ use Rattle.dsde_core_moving.specs.given.core_flat.lemmas_Fitting.{tree-named}
 use Rattle.dsde_core_moving.specs.given.core_moves.flat_Flat.{Flat}
 use Rattle.dsde_core_moving.specs.given.core_moves.Flat.{delivery_of, tree_of}
 use Rattle.dsde_core.specs.Turned.{with_turn}
-use Rattle.dsde_core.proofs.Phases.{moved, phase-is, sent-err}
+use Rattle.dsde_core.proofs.Phases.{entries-same, moved, phase-is, sent-err, told-more}
 use Rattle.dsde_core.proofs.turning.turn.Goals as goal
 
 pub returns-in_err-phase-clause-told : goal.returns-in_err-phase-clause-told
@@ -45,3 +46,14 @@ returns-clause-told g c =
 
 pub returns-clause-rests : goal.returns-clause-rests
 returns-clause-rests g c = c.settle.ensures.rests c.args.program.now c.in_ok-move_phase.ensures.stands
+
+pub returns-clause-paid : goal.returns-clause-paid
+returns-clause-paid g c =
+    let a = c.args in
+    let S = system a.program.now in
+    let same = ap (λ (flat : Flat). tree_of flat) c.in_ok-phase.ensures.same in
+    let all = c.in_ok-phase.ensures.paid in
+    let sent = all.2 in
+    let more = told-more a.events.now (Turn a.number a.time ∷ []) c.push.new.self c.in_ok-push.ensures.ok in
+    let entries = entries-same S a.time a.items.now (tree_of a.flat.now) (tree_of c.turn_movers.new.flat) (map delivery_of c.in_ok-phase.phase.movers) same c.in_ok-phase.ensures.movers.all in
+    (all.0, all.1, omega (arith, sent, more, entries, c.in_ok-move_phase.ensures.many, c.in_ok-move_phase.ensures.paid, c.settle.ensures.paid))

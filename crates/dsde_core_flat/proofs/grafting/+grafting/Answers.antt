@@ -1,4 +1,4 @@
-use Rattle.std.proofs.Common.{◌≡◌, ◌+◌, ◌^◌, ◌<◌, List, [], ◌∷◌, Some, None, refl, sym, ap, subst, ◌∙◌, arith}
+use Rattle.std.proofs.Common.{◌≡◌, ◌+◌, ◌^◌, ◌<◌, List, length, [], ◌∷◌, Some, None, refl, sym, ap, subst, ◌∙◌, arith}
 use Rattle.dsde_values.specs.declared.name.Name.{Name}
 use Rattle.dsde_values.specs.declared.path.Path.{Path}
 use Rattle.dsde_sim_tree.specs.Told.{below}
@@ -16,7 +16,7 @@ use Rattle.dsde_routes_wiring.specs.given.structure.plan_Link.{Link}
 use Rattle.dsde_core_flat.specs.Change.{wired_kid, wiring_of}
 use Rattle.dsde_core_flat.specs.lemmas.Growing.{free-first, net-named}
 use Rattle.dsde_core_flat.specs.Named.{HasOwnNames}
-use Rattle.dsde_core_flat.proofs.Walking.{Grafts, kid-room, kid-names, kid-births, kid-less, goes-on, path-there, grown-live, grown-path, net-parts, net-live, net-room, net-births, net-grafted}
+use Rattle.dsde_core_flat.proofs.Walking.{Grafts, kid-room, kid-names, kid-births, kid-less, kid-longer, goes-on, path-there, grown-live, grown-path, net-parts, net-live, net-room, net-births, net-grafted}
 use Rattle.dsde_core_flat.specs.lemmas.Waiting.{net-waits}
 use Rattle.dsde_core_flat.proofs.grafting.+grafting.Goals as goal
 
@@ -57,8 +57,14 @@ graft_kids-graft-requires g t c κs within =
 pub graft_kids-loop-kid-preserved : goal.graft_kids-loop-kid-preserved
 graft_kids-loop-kid-preserved g t c =
     let goes = goes-on c.args.kids c.args.grove.now c.args.looks.now c.args.parent c.loop-kid.grove c.loop-kid.looks c.loop-kid.done c.loop-kid.kid-iterator.rest.items c.next.new.self.rest.items c.in-Some.kid
-    c.loop-kid.invariant.0 c.in-Some.ensures.steps.0 c.graft.new.grove c.graft.new.looks c.in_ok-one.one c.in_ok-one.ensures.grafted c.in_ok-one.ensures.named c.in_ok-one.ensures.tree c.in_ok-one.ensures.ticks in
-    (subst (λ (d : List WiredKid). Grafts c.args.kids c.args.grove.now c.args.looks.now c.args.parent c.graft.new.grove c.graft.new.looks d c.next.new.self.rest.items) (sym c.in_ok-push.ensures.ok) goes, (λ waiting but. c.in_ok-one.ensures.waits waiting (c.loop-kid.invariant.1 waiting but)), tt, tt)
+    c.loop-kid.invariant.0 c.in-Some.ensures.steps.0 c.graft.new.grove c.graft.new.looks c.in_ok-one.one c.in_ok-one.ensures.grafted c.in_ok-one.ensures.named c.in_ok-one.ensures.tree c.in_ok-one.ensures.ticks in (
+      subst (λ (d : List WiredKid). Grafts c.args.kids c.args.grove.now c.args.looks.now c.args.parent c.graft.new.grove c.graft.new.looks d c.next.new.self.rest.items) (sym c.in_ok-push.ensures.ok) goes,
+      (λ waiting but. c.in_ok-one.ensures.waits waiting (c.loop-kid.invariant.1 waiting but)),
+      kid-longer (length c.args.queue.now.pairs + parts_of_kids c.args.kids) (length c.loop-kid.queue.pairs) (length c.graft.new.queue.pairs) c.loop-kid.kid-iterator.rest.items c.next.new.self.rest.items c.in-Some.kid
+          c.in-Some.ensures.steps.0 c.loop-kid.invariant.2 c.in_ok-one.ensures.longer,
+      tt,
+      tt,
+    )
 
 pub graft_net-grow_leaf-requires-clause-live : goal.graft_net-grow_leaf-requires-clause-live
 graft_net-grow_leaf-requires-clause-live g t c =

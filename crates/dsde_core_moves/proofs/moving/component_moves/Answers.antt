@@ -1,8 +1,12 @@
-use Rattle.std.proofs.Common.{◌≡◌, ℕ, List, ◌∷◌, Option, sym, ap, subst, ◌∙◌}
+use Rattle.std.proofs.Common.{◌≡◌, ℕ, ◌+◌, List, ◌∷◌, Option, sym, ap, subst, ◌∙◌}
+use Rattle.std.proofs.lemmas.List.Sums.{sum_by-append}
 use Rattle.dsde_bank.specs.declared.handle.Handle.{Handle}
 use Rattle.dsde_sim_tree.specs.given.formalism.leaf_Leaf.{Leaf}
 use Rattle.dsde_sim_changing.specs.given.system.Fitting.{FitsInputs, FitsLeaf}
+use Rattle.dsde_sim_changing.specs.given.system.Program.{system}
+use Rattle.dsde_sim_tree.specs.Move.{take_move}
 use Rattle.dsde_core_flat.specs.given.grove.Grove.{Grove, value_of}
+use Rattle.dsde_core_flat.specs.given.sim_movers.Work.{work, work_of}
 use Rattle.dsde_core_flat.specs.declared.spot.Spot.{Spot}
 use Rattle.dsde_core_flat.specs.Scheduled.{IsScheduledBut}
 use Rattle.dsde_core_flat.specs.Shown.{leaf_in}
@@ -36,3 +40,11 @@ pub take_move-requires-clause-got : goal.take_move-requires-clause-got
 take_move-requires-clause-got g c =
     let was = leaf-held (value_of c.args.grove.now c.args.handle) c.in-Some.leaf.now c.in-Some.ensures.leaf in
     subst (λ (leaf : Leaf). FitsInputs c.args.program.now leaf.model.0 c.args.got) was c.requires.got
+
+pub returns-clause-work : goal.returns-clause-work
+returns-clause-work g c =
+    let a = c.args in
+    let S = system a.program.now in
+    let told = c.in_ok-moved.ensures.told in
+    ap work told.0 ∙ sum_by-append work_of a.events.now (take_move S c.in-Some.leaf.now a.kind a.path.now a.time a.got).events
+    ∙ ap (λ n. work a.events.now + n) (c.steps_tell_their_work.ensures.moves S c.in-Some.leaf.now c.in_ok-moved.moved a.kind a.path.now a.time a.got told.1)

@@ -1,5 +1,6 @@
 use Rattle.std.proofs.Common.{rules, ◌≡◌, ℕ, ◌+◌, ◌*◌, ◌^◌, ◌<◌, ◌≤◌, ◌++◌, Bool, List, [], length, map, not, true, false, Result, Ok, Err, OnErr, refl, sym, ap, subst, ◌∙◌, arith}
 use Rattle.std.specs.List.{AllByRecursion, list_any}
+use Rattle.std.proofs.lemmas.List.{length-map}
 use Rattle.std.proofs.lemmas.Result.{err_from_is_err_and}
 use Rattle.dsde_values.specs.declared.name.Name.{Name}
 use Rattle.dsde_values.specs.Path.{EXEC}
@@ -14,11 +15,12 @@ use Rattle.dsde_grove.specs.Grove.{value_of}
 use Rattle.dsde_sim_tree.specs.declared.sim.Kid.{Kid}
 use Rattle.dsde_sim_tree.specs.Tree.{entry_of, parts_of_kids, started_as}
 use Rattle.dsde_sim_tree.specs.Start.{start, starts}
-use Rattle.dsde_sim_tree.specs.Move.{drop_of, gone, kept, left_behind, survives}
+use Rattle.dsde_sim_tree.specs.Move.{change, drop_of, gone, kept, left_behind, survives}
 use Rattle.dsde_routes_wiring.specs.declared.wiring.WiredKid.{WiredKid}
 use Rattle.dsde_routes_wiring.specs.declared.wiring.WiredKid.TheViews.{out-Wiring}
 use Rattle.dsde_routes_wiring.specs.Places.{staying}
 use Rattle.dsde_repair_walks.specs.Found.{name_of}
+use Rattle.dsde_core_moves.specs.given.core_flat.Shown.{kid_under}
 use Rattle.dsde_core_moves.specs.given.core_flat.Stands.{NetStands}
 use Rattle.dsde_core_moves.specs.given.core_flat.lemmas_Grafting.{kids-kept}
 use Rattle.dsde_core_moves.specs.given.core_flat.lemmas_Groves.{changes-twice}
@@ -32,7 +34,7 @@ use Rattle.dsde_core_moving.proofs.Needed.{fresh-without, is_without}
 use Rattle.dsde_core_moves.specs.given.core_flat.lemmas_Fitting.{kids-own-names}
 use Rattle.dsde_core_moving.proofs.Room.{all-held, graft-changes, net-live, net-path, room-there, value-kept}
 use Rattle.dsde_core_moving.proofs.Staying.{chosen-kept, chosen-stay, fewer-parts, gone-order, lost-gone, order-filter, tests-length, wired-order}
-use Rattle.dsde_core_moving.proofs.Whole.{lacks-here, lacks-there, stops-there, told-all}
+use Rattle.dsde_core_moving.proofs.Whole.{lacks-here, lacks-there, stops-there, told-all, told-work}
 use Rattle.dsde_core_moving.proofs.changing.change.Goals as goal
 
 pub survivors-requires-clause-held : goal.survivors-requires-clause-held
@@ -253,3 +255,14 @@ pub returns-clause-young : goal.returns-clause-young
 returns-clause-young g c birth has =
     let late = c.in_ok-fresh.ensures.grafted.young birth has in
     omega (arith, late, c.in_ok-more.ensures.born)
+
+pub returns-clause-work : goal.returns-clause-work
+returns-clause-work g c =
+    let S = system c.args.program.now in
+    let kids = shown c.args.grove.now (out-Wiring c.args.wiring.now).kids in
+    let told = returns-clause-told g c in
+    let all = told-work (change S c.args.entries kids c.args.path.now c.args.time c.args.room) c.args.events.now c.start_fresh.new.events _ told in
+    let own = c.steps_tell_their_work.ensures.changes S c.args.entries kids _ c.args.path.now c.args.time c.args.room c.in_ok-fresh.rest told.1 in
+    let few = c.steps_tell_their_work.ensures.few c.args.entries kids c.requires.named.order in
+    let many : length kids ≡ length (out-Wiring c.args.wiring.now).kids = length-map (out-Wiring c.args.wiring.now).kids (kid_under (value_of c.args.grove.now)) in
+    omega (arith, all, own, few, many, returns-clause-ticks g c, returns-clause-room g c, c.in_ok-fresh.ensures.longer)

@@ -1,15 +1,17 @@
-use Rattle.std.proofs.Common.{◌∙◌, Err, ap, subst, sym}
+use Rattle.std.proofs.Common.{◌∙◌, Err, length, ap, subst, sym}
 use Rattle.std.proofs.lemmas.Result.{err_from_is_err_and}
 use Rattle.dsde_values.specs.Path.{root}
 use Rattle.dsde_sim_starting.specs.given.system.Program.{system}
 use Rattle.dsde_sim_tree.specs.Told.{Tells}
 use Rattle.dsde_sim_movers.specs.Movers.{move_one}
+use Rattle.dsde_sim_movers.specs.Work.{work}
 use Rattle.dsde_core_moves.specs.Flat.{delivery_of, tree_of}
 use Rattle.dsde_core_moving.proofs.Follows.{ends-as}
 use Rattle.dsde_core_moving.proofs.Moved.{changes-moved}
 use Rattle.dsde_core_moving.proofs.Owning.{leaf-fits, leaf-live, path-under}
 use Rattle.dsde_core_moving.proofs.Spared.{kept-by, others-by}
-use Rattle.dsde_core_moving.proofs.Stepped.{beneath-behind, births-behind, births-mid, looked-behind, moved_at, put, stands-mid, stops-here, told-behind}
+use Rattle.dsde_core_moving.proofs.Stepped.{beneath-behind, births-behind, births-mid, looked-behind, moved_at, planned-behind, put, stands-mid, stops-here, told-behind, work-all}
+use Rattle.dsde_core_moving.proofs.Whole.{one-more}
 use Rattle.dsde_core_moving.proofs.executive.executive_steps.Goals as goal
 
 pub component_moves-requires-clause-live : goal.component_moves-requires-clause-live
@@ -117,6 +119,26 @@ returns-clause-ticks g c other moved plan is ends structure =
     looked-behind (system a.program.now) a.program.now a.flat.now a.mover r.stands r.there r.executive a.time a.kind r.kind law a.room c.component_moves.new.grove c.component_moves.new.queue a.events.now c.component_moves.new.events e.told found same
     other moved plan a.looks.now c.component_moves.new.looks c.structure_follows.new.looks c.structure_follows.new.flat.grove.next_birth c.structure_follows.result is ends structure c.component_moves.ensures.ticks
     (c.structure_follows.ensures.ticks (moved_at (system a.program.now) a.program.now a.flat.now a.mover r.stands r.there r.executive a.time a.kind r.kind law a.room c.component_moves.new.grove c.component_moves.new.queue a.events.now c.component_moves.new.events e.told found same))
+
+pub returns-clause-some : goal.returns-clause-some
+returns-clause-some g c =
+    one-more c.structure_follows.result (work c.args.events.now) (work c.component_moves.new.events) (work c.structure_follows.new.events) c.in_ok-component_moves.ensures.work c.structure_follows.ensures.grows
+
+pub returns-clause-work : goal.returns-clause-work
+returns-clause-work g c other moved plan is ends structure =
+    let a = c.args in
+    let r = c.requires in
+    let S = system a.program.now in
+    let law = c.movers_take_their_steps.ensures.executive S in
+    let e = c.in_ok-component_moves.ensures in
+    let found = c.network_of-path.result in
+    let same = c.network_of-path.ensures _ (path-under a.program.now a.flat.now a.mover r.stands r.there r.executive) in
+    work-all c.structure_follows.result a.looks.now c.component_moves.new.looks c.structure_follows.new.looks (length a.flat.now.queue.pairs) (length c.component_moves.new.queue.pairs) (length c.structure_follows.new.flat.queue.pairs)
+    (work a.events.now) (work c.component_moves.new.events) (work c.structure_follows.new.events) (length plan.entries) c.component_moves.ensures.ticks e.longer e.work
+    (c.structure_follows.ensures.work
+    (moved_at S a.program.now a.flat.now a.mover r.stands r.there r.executive a.time a.kind r.kind law a.room c.component_moves.new.grove c.component_moves.new.queue a.events.now c.component_moves.new.events e.told found same) plan
+    (planned-behind S a.program.now a.flat.now a.mover r.stands r.there r.executive a.time a.kind r.kind law a.room c.component_moves.new.grove c.component_moves.new.queue a.events.now c.component_moves.new.events e.told found same
+    other moved plan is ends structure))
 
 pub returns-clause-touches : goal.returns-clause-touches
 returns-clause-touches g c before after net was nets =

@@ -1,13 +1,15 @@
-use Rattle.std.proofs.Common.{◌∙◌, Err, ap, subst, sym}
+use Rattle.std.proofs.Common.{◌∙◌, ◌*◌, Err, length, ap, subst, sym}
 use Rattle.std.proofs.lemmas.Result.{err_from_is_err_and}
 use Rattle.dsde_values.specs.Path.{root}
 use Rattle.dsde_sim_starting.specs.given.system.Program.{system}
 use Rattle.dsde_sim_tree.specs.Told.{Tells}
 use Rattle.dsde_sim_movers.specs.Movers.{path_behind}
+use Rattle.dsde_sim_movers.specs.Work.{work}
 use Rattle.dsde_routes_wiring.specs.Places.{nets_at}
 use Rattle.dsde_core_moves.specs.Flat.{tree_of}
 use Rattle.dsde_core_moving.specs.Executive.{followed}
-use Rattle.dsde_core_moving.proofs.Follows.{born-few, ends-as, follows-err, follows-ok, here-fits, here-live, here-network, looked, plan-fits, there-at}
+use Rattle.dsde_core_moving.proofs.Follows.{born-few, ends-as, follows-err, follows-ok, here-fits, here-live, here-network, looked, plan-fits, there-at, worked}
+use Rattle.dsde_core_moving.proofs.Whole.{told-more}
 use Rattle.dsde_core_moving.proofs.following.structure_follows.Goals as goal
 
 pub structure_here-requires-clause-live : goal.structure_here-requires-clause-live
@@ -48,6 +50,12 @@ returns-clause-told g c own =
     follows-ok (system a.program.now) a.program.now a.flat.now a.handle a.path.now c.requires.stands own a.time a.room a.events.now c.restructure.new.events c.in_ok-plan.plan c.place_in.result.now _ c.in_ok-plan.ensures.comes same
     (c.restructure.ensures.told own.net (there-at (system a.program.now) a.program.now a.flat.now a.handle a.path.now c.requires.stands own c.place_in.result.now same))
 
+pub returns-clause-grows : goal.returns-clause-grows
+returns-clause-grows g c =
+    let a = c.args in
+    let own = c.requires.executive in
+    told-more (followed (system a.program.now) (tree_of a.flat.now) own.place a.path.now own.net a.time a.room) c.restructure.new.flat a.events.now c.restructure.new.events c.restructure.result (returns-clause-told g c own)
+
 pub returns-clause-births : goal.returns-clause-births
 returns-clause-births g c =
     let a = c.args in
@@ -60,6 +68,12 @@ returns-clause-ticks g c own plan is =
     let a = c.args in
     looked (system a.program.now) a.program.now a.flat.now a.handle a.path.now c.requires.stands own c.in_ok-plan.plan plan a.looks.now c.structure_here.new.looks c.restructure.new.looks _ _ c.restructure.result c.in_ok-plan.ensures.comes is c.structure_here.ensures.ticks
     (c.restructure.ensures.ticks own.net (there-at (system a.program.now) a.program.now a.flat.now a.handle a.path.now c.requires.stands own c.place_in.result.now (c.place_in.ensures own.place own.at)))
+
+pub returns-clause-work : goal.returns-clause-work
+returns-clause-work g c own plan is =
+    let a = c.args in
+    worked (system a.program.now) a.program.now a.flat.now a.handle a.path.now c.requires.stands own c.in_ok-plan.plan plan a.looks.now c.structure_here.new.looks c.restructure.new.looks
+    (4 * length c.restructure.new.flat.queue.pairs) (16 * work a.events.now) (4 * length a.flat.now.queue.pairs) (16 * work c.restructure.new.events) c.restructure.result c.in_ok-plan.ensures.comes is c.structure_here.ensures.ticks c.restructure.ensures.work
 
 pub returns-clause-touches : goal.returns-clause-touches
 returns-clause-touches g c own before after net was nets =

@@ -1,4 +1,4 @@
-use Rattle.std.proofs.Common.{◌≡◌, ℕ, ◌+◌, ◌*◌, ◌≤◌, List, [], map, Result, Ok, Err, refl, sym, ap, subst, ◌∙◌, arith}
+use Rattle.std.proofs.Common.{◌≡◌, ℕ, ◌+◌, ◌*◌, ◌≤◌, List, [], length, map, Result, Ok, Err, refl, sym, ap, subst, ◌∙◌, arith}
 use Rattle.std.specs.List.{AllByRecursion}
 use Rattle.std.proofs.lemmas.Result.{err_from_is_err_and}
 use Rattle.dsde_values.specs.declared.path.Path.{Path}
@@ -67,3 +67,7 @@ returns-clause-are g c = ap (map entry_of) c.in_ok-fresh.ensures.grafted.shows �
 pub returns-clause-ticks : goal.returns-clause-ticks
 returns-clause-ticks g c =
     subst (λ (kids : List Kid). c.graft_kids.new.looks ≤ c.args.looks.now + 4 * parts_of_kids kids) (sym c.in_ok-fresh.ensures.grafted.shows) c.in_ok-fresh.ensures.ticks
+
+pub returns-clause-longer : goal.returns-clause-longer
+returns-clause-longer g c =
+    subst (λ (kids : List Kid). length c.graft_kids.new.queue.pairs ≤ length c.args.queue.now.pairs + parts_of_kids kids) (sym c.in_ok-fresh.ensures.grafted.shows) c.in_ok-fresh.ensures.longer

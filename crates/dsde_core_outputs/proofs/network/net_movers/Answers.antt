@@ -1,4 +1,5 @@
-use Rattle.std.proofs.Common.{◌≡◌, List, map, Ok, Err, Result, IsPermutation, IsSorted, sym, ap, subst, ◌∙◌}
+use Rattle.std.proofs.Common.{◌≡◌, List, length, arith, map, Ok, Err, Result, IsPermutation, IsSorted, sym, ap, subst, ◌∙◌}
+use Rattle.std.proofs.lemmas.List.{length-map}
 use Rattle.std.proofs.lemmas.Result.{err_from_is_err_and}
 use Rattle.dsde_values.specs.Path.{root}
 use Rattle.dsde_sim_tree.specs.given.formalism.System.{Ports}
@@ -10,7 +11,7 @@ use Rattle.dsde_sim_working.specs.given.sim_movers.Asking.{ask_each}
 use Rattle.dsde_core_parcels.specs.given.core_flat.due_Due.{Due}
 use Rattle.dsde_core_parcels.specs.given.core_flat.Due.{asked}
 use Rattle.dsde_core_parcels.specs.declared.inbox.Inbox.{Inbox}
-use Rattle.dsde_core_parcels.specs.Calling.{due_movers, mover_cmp}
+use Rattle.dsde_core_parcels.specs.Calling.{due_movers, emptied, mover_cmp}
 use Rattle.dsde_core_parcels.specs.given.core_moves.Flat.{tree_of}
 use Rattle.dsde_core_parcels.specs.given.core_moves.phase_Phase.{Phase}
 use Rattle.dsde_core_parcels.specs.given.core_moves.Movers.{sent_of}
@@ -79,3 +80,12 @@ returns-in_err-boxes-clause-comes g c =
     subst (λ (r : Result Phase TurnEnd). Comes (output (system m) (tree_of f) root time) (sent_of r)) (sym (e.1 ∙ ap Err e.2))
     (c.outputs_come_of_asking.ensures.fault m f time dues end c.requires.stands c.requires.due
     (subst (λ (own : List Due). Comes (ask_each (system m) time (map (asked f.grove) own)) (let r : Result (Unit {0}) TurnEnd = Err end in r)) c.as_slice-due_now.ensures.value c.in_err-boxes.ensures.comes))
+
+pub returns-clause-ticks : goal.returns-clause-ticks
+returns-clause-ticks g c =
+    let few = c.in_ok-boxes.ensures.few in
+    let less = few.2 in
+    let due = ap length c.as_slice-due_now.ensures.value in
+    let left = ap length c.in_ok-sent.ensures.left in
+    let many = length-map c.in_ok-boxes.boxes (emptied c.args.flat.now.root) in
+    (few.0, few.1, omega (arith, c.root_model-model.ensures.ticks, c.in_ok-boxes.ensures.ticks, c.in_ok-movers.ensures.ticks, less, due, left, many))

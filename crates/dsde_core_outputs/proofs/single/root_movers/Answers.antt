@@ -1,4 +1,4 @@
-use Rattle.std.proofs.Common.{◌∙◌, ℕ, Result, Err, sym, ap, subst}
+use Rattle.std.proofs.Common.{◌∙◌, ℕ, ◌≤◌, List, length, Result, Err, sym, ap, subst}
 use Rattle.std.proofs.lemmas.Result.{err_from_is_err_and}
 use Rattle.dsde_values.specs.declared.path.Path.{Path}
 use Rattle.dsde_values.specs.Path.{root}
@@ -8,6 +8,7 @@ use Rattle.dsde_sim_tree.specs.declared.fault.TurnEnd.{TurnEnd}
 use Rattle.dsde_sim_tree.specs.Told.{at, Comes}
 use Rattle.dsde_sim_tree.specs.Output.{by_port, output, sent}
 use Rattle.dsde_core_parcels.specs.given.core_moves.Flat.{tree_of}
+use Rattle.dsde_core_parcels.specs.given.core_moves.flat_Mover.{Mover}
 use Rattle.dsde_core_parcels.specs.given.core_moves.phase_Phase.{Phase}
 use Rattle.dsde_core_parcels.specs.given.core_moves.Movers.{sent_of, AreMovers, Wait}
 use Rattle.dsde_core_outputs.specs.Alone.{one_called, IsAlone}
@@ -62,3 +63,18 @@ returns-in_err-sent-clause-comes g c =
     subst (λ (r : Result Phase TurnEnd). Comes (output (system a.program.now) (tree_of a.flat.now) root a.time) (sent_of r)) (sym (e.1 ∙ ap Err e.2))
     (subst (λ (own : Result Ports TurnEnd). Comes own (let r : Result Ports TurnEnd = Err c.in_err-sent.field-0.0 in r)) (sym (c.lone_components_move.ensures.sends (system a.program.now) a.flat.now leaf a.time alone))
     (subst (λ (path : Path). Comes (at path (sent (system a.program.now) leaf a.time)) (let r : Result Ports TurnEnd = Err c.in_err-sent.field-0.0 in r)) c.in_ok-path.ensures c.in_err-sent.ensures.comes))
+
+pub returns-clause-many : goal.returns-clause-many
+returns-clause-many g c dues are =
+    let a = c.args in
+    let leaf = c.root_leaf-leaf.result.now in
+    let alone : IsAlone a.flat.now leaf = record { none = c.requires.component; held = c.root_leaf-leaf.ensures.held } in
+    subst (λ (movers : List Mover). length dues ≤ length movers) (sym (c.in_ok-movers.ensures ∙ ap (λ (path : Path). one_called leaf a.flat.now.root path a.time c.in_ok-got.got) c.in_ok-path.ensures))
+    (c.lone_components_move.ensures.many a.program.now a.flat.now leaf a.time c.in_ok-got.got dues c.requires.stands alone are)
+
+pub returns-clause-rows : goal.returns-clause-rows
+returns-clause-rows g c dues are =
+    let a = c.args in
+    let leaf = c.root_leaf-leaf.result.now in
+    let alone : IsAlone a.flat.now leaf = record { none = c.requires.component; held = c.root_leaf-leaf.ensures.held } in
+    c.lone_components_move.ensures.rows a.program.now a.flat.now leaf a.time a.items.now dues c.requires.stands alone are

@@ -1,4 +1,4 @@
-use Rattle.std.proofs.Common.{◌≡◌, ◌∙◌, ◌+◌, List, Some, Result, Ok, Err, IfErr, IfOk, if◌then◌else◌, ap, sym, subst, rules}
+use Rattle.std.proofs.Common.{◌≡◌, ◌∙◌, ◌+◌, ◌*◌, ◌≤◌, length, List, Some, Result, Ok, Err, IfErr, IfOk, if◌then◌else◌, ap, sym, subst, rules}
 use Rattle.std.proofs.lemmas.Result.{err_from_is_err_and}
 use Rattle.std.specs.Option.{option_copied}
 use Rattle.dsde_values.specs.declared.arrival.Item.{Item}
@@ -11,7 +11,9 @@ use Rattle.dsde_sim_tree.specs.declared.step.Step.TheVariants.{Turned}
 use Rattle.dsde_sim_tree.specs.Engine.{next_of}
 use Rattle.dsde_sim_tree.specs.Turn.{advance, turn, turn_time}
 use Rattle.dsde_core_outputs.specs.given.sim_working.lemmas_Standing.{counts}
+use Rattle.dsde_core_moving.specs.given.sim_movers.Work.{turn_entries, work}
 use Rattle.dsde_core_moving.specs.given.core_moves.Flat.{tree_of}
+use Rattle.dsde_core_outputs.specs.Rows.{HasRows}
 use Rattle.dsde_core.specs.Standing.{HasFewPairs}
 use Rattle.dsde_core.proofs.EngineResting.{its-few}
 use Rattle.dsde_core.proofs.EngineTurning as turning
@@ -92,3 +94,14 @@ invariant_of-self-2 g c =
       counts c.is_taken-took_input.result i.taken i.turn c.from.result c.self.invariant.1 counted,
       turning.stands-on i.program.now i.spent i.flat i.turn i.time i.taken c.args.self.now c.self.view_is c.self.invariant c.requires.fresh (option_copied c.args.head) c.requires.head c.in-Some.time due c.is_taken-took_input.result c.is_taken-took_input.ensures c.from.result counted c.trees_stand.ensures.advance c.programs_lead_on.ensures c.requires.late (tree_of c.turn.new.flat) c.args.events.now c.turn.new.events step,
     )
+
+pub returns-clause-paid : goal.returns-clause-paid
+returns-clause-paid g c =
+    let i = c.self.inside in
+    let S = system i.program.now in
+    let due : turn_time (next_of c.args.self.now.engine) (option_copied c.args.head) ≡ Some c.in-Some.time = ap (λ (next : When). turn_time next (option_copied c.args.head)) (sym c.next.ensures) ∙ sym c.turn_time.ensures ∙ c.in-Some.is in
+    let all = c.in_ok-turn.ensures.paid in
+    let paid = subst (λ (items : List Item). HasRows i.program.now i.flat c.in-Some.time items all.0 × (c.turn.new.looks + 4 * length c.turn.new.flat.queue.pairs + 128 * work c.args.events.now
+    ≤ c.args.looks.now + 4 * length i.flat.queue.pairs + 128 * (work c.turn.new.events + turn_entries S (tree_of i.flat) c.in-Some.time items + all.0 + 1))) c.items_at.ensures (all.1, all.2) in
+    turning.paid i.program.now i.spent i.flat i.turn i.time i.taken c.args.self.now c.self.view_is c.self.invariant c.requires.fresh (option_copied c.args.head) c.requires.head c.in-Some.time due
+    c.args.looks.now c.turn.new.looks (length c.turn.new.flat.queue.pairs) (work c.args.events.now) (work c.turn.new.events) all.0 paid.0 paid.1
