@@ -237,7 +237,8 @@ fn all_called<L: Ledger>(
 /// items come to the root. Gives what the root sends, port by port, and those who move: whoever is due or gets
 /// something, in path order, each with what it receives. A fault is the first one that comes of asking those
 /// who are due, that of the output message of the tree; `Memory` comes where there is none, and where a part
-/// has more ports than 32 bits count.
+/// has more ports than 32 bits count. Counts at most 2 looks, 4 more for each who is due, and 67 for each row
+/// from the ports that send.
 pub fn net_movers<L: Ledger>(
     alloc: Global,
     program: &Program,
