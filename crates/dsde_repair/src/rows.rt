@@ -1,17 +1,19 @@
 //! The rows of a network and of all beneath it.
 
-ghost use Rattle.std.specs.Prelude.{◌≡◌, ◌++◌, map, IfOk, OnOk};
+ghost use Rattle.std.specs.Prelude.{◌≡◌, [], ◌∷◌, ◌++◌, map, IfOk, IfSome, OnOk};
 ghost use Rattle.std.specs.List.{AllByRecursion};
 ghost use Rattle.dsde_routes_wiring.specs.Wired.{AreWired};
 ghost use Rattle.dsde_routes_wiring.specs.declared.wiring.WiredKid.TheViews.{out-Wiring};
 ghost use Rattle.dsde_routes_wiring.specs.Routes.{crossing, inner_of_kid, links_of, row_of, routes_in};
 ghost use Rattle.dsde_routes_wiring.specs.Places.{inside};
 ghost use Rattle.dsde_repair_walks.specs.Places.{IsBelowWired};
-ghost use Rattle.dsde_repair_walks.specs.Walks.{beyond};
+ghost use Rattle.dsde_routes_wiring.specs.declared.side.Side.{Side};
+ghost use Rattle.dsde_repair_walks.specs.Walks.{beyond, own_way};
 ghost use Rattle.dsde_repair.specs.Walks.{at_ways, crossed_link, open_around};
 
+use dsde_bank::Handle;
 use dsde_lists::Memory;
-use dsde_repair_walks::{Way, cross, one_way, ways_of_end};
+use dsde_repair_walks::{Way, cross, direct_row, leaf_at, one_way, ways_of_end};
 use dsde_routes_wiring::given::structure::{End, Link, Part};
 use dsde_routes_wiring::{Row, Side, WiredKid, Wiring};
 use dsde_values::Seq;
@@ -40,8 +42,41 @@ pub(crate) fn open_ways(
     }
 }
 
-/// Adds the rows that cross over one link.
+/// The part that is its own source and target at an end: an executive, an atomic component, or the network
+/// where its own ports are sources and targets; none where ways go on there.
+fn own_at(net: &Wiring, whole: bool, end: &End) -> Option<Handle>
+    requires { AreWired net.now }
+    ensures { IfSome result (λ handle. (side : Side) → at_ways side (open_around whole net.now) end.now ≡ own_way handle end.now.port ∷ []) }
+{
+    match end.part {
+        Part::Net if whole => Some(net.me),
+        Part::Net => None,
+        Part::Boss | Part::Kid(_) => leaf_at(net, end),
+    }
+}
+
+/// Adds the rows that cross over one link: one where it leads from a part to a part, without a look at ways.
 fn cross_link(
+    alloc: Global,
+    net: &Wiring,
+    whole: bool,
+    number: usize,
+    link: &Link,
+    rows: &mut Seq<Row>,
+) -> Result<(), Memory>
+    requires { AreWired net.now }
+    ensures { OnOk result (rows.new ≡ rows.old ++ crossed_link (open_around whole net.now) (out-Wiring net.now).me (number, link.now)) }
+{
+    match (own_at(net, whole, &link.from), own_at(net, whole, &link.to)) {
+        (Some(source), Some(target)) => {
+            rows.push(direct_row(alloc, number, link, source, target)?)
+        }
+        _ => cross_ways(alloc, net, whole, number, link, rows),
+    }
+}
+
+/// The same of any link.
+fn cross_ways(
     alloc: Global,
     net: &Wiring,
     whole: bool,

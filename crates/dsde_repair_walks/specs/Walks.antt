@@ -37,6 +37,10 @@ abbrev pub beyond : Bool → Handle → Ways
 beyond true me = own me
 beyond false me = no_ways
 
+-- the way of a part that is its own source and target
+abbrev pub own_way : Handle → ℕ → Way
+own_way handle port = record { handle = handle; port = port; rank = []; chain = [] }
+
 -- what comes of the link of a number
 abbrev pub link_at : {X : Type 0} → (ℕ × Link → List X) → List Link → ℕ → List X
 link_at each links number = elim (slice_get links number) [ None ↦ [] | Some link ↦ each (number, link) ]

@@ -1,12 +1,13 @@
 //! Ways that go on over links, and rows where two ways meet.
 
-ghost use Rattle.std.specs.Prelude.{◌≡◌, ◌++◌, map, IfOk, OnOk};
-ghost use Rattle.dsde_repair_walks.specs.Walks.{extended_way, met_row, met_rows, crossed_rows};
+ghost use Rattle.std.specs.Prelude.{◌≡◌, [], ◌∷◌, ◌++◌, map, IfOk, OnOk};
+ghost use Rattle.dsde_repair_walks.specs.Walks.{extended_way, met_row, met_rows, crossed_rows, own_way};
 
 use crate::way::Way;
+use dsde_bank::Handle;
 use dsde_lists::Memory;
 use dsde_routes_wiring::given::structure::Link;
-use dsde_routes_wiring::{Chain, Row, Side};
+use dsde_routes_wiring::{Chain, Rank, Row, Side};
 use dsde_values::Seq;
 use std::alloc::Global;
 
@@ -108,6 +109,30 @@ pub fn cross(
         meet(alloc, &before, afters, rows)?;
     }
     Ok(())
+}
+
+/// The one row of a link whose source and target are these parts themselves.
+pub fn direct_row(
+    alloc: Global,
+    number: usize,
+    link: &Link,
+    source: Handle,
+    target: Handle,
+) -> Result<Row, Memory>
+    ensures { IfOk result (λ row. row ∷ [] ≡ crossed_rows number link.now (own_way source link.now.from.port ∷ []) (own_way target link.now.to.port ∷ [])) }
+{
+    let mut rank = Rank::new(alloc);
+    rank.push(number)?;
+    let mut chain = Chain::new(alloc);
+    chain.append_link(alloc, link)?;
+    Ok(Row {
+        source,
+        source_port: link.from.port,
+        target,
+        target_port: link.to.port,
+        rank,
+        chain,
+    })
 }
 
 /// Adds ways that go on over a link.

@@ -1,11 +1,12 @@
 //! The ways of parts, by a walk over the links that lead there.
 
-ghost use Rattle.std.specs.Prelude.{◌≡◌, ◌++◌, map, IfOk, OnOk};
+ghost use Rattle.std.specs.Prelude.{ℕ, ◌≡◌, [], ◌∷◌, ◌++◌, map, IfOk, IfSome, OnOk};
 ghost use Rattle.dsde_routes_wiring.specs.Routes.{inner_of};
 ghost use Rattle.dsde_routes_wiring.specs.Wired.{AreWired};
 ghost use Rattle.dsde_repair_walks.specs.Places.{IsBelowWired};
 ghost use Rattle.dsde_routes_wiring.specs.declared.wiring.WiredKid.TheViews.{out-Wiring};
-ghost use Rattle.dsde_repair_walks.specs.Walks.{link_at, ranked, ways_over, ways_at, kid_ways};
+ghost use Rattle.dsde_routes_wiring.specs.declared.side.Side.{Side};
+ghost use Rattle.dsde_repair_walks.specs.Walks.{link_at, own_way, ranked, ways_over, ways_at, kid_ways};
 
 use crate::crossing::extend_all;
 use crate::ends::is_border_end;
@@ -100,5 +101,33 @@ pub fn ways_of_kid(alloc: Global, side: Side, kid: &WiredKid, port: u32) -> Resu
     match &kid.below {
         None => one_way(alloc, kid.handle, port),
         Some(below) => net_ways(alloc, side, below.get(), port),
+    }
+}
+
+/// The component itself, where it is atomic: then its one way is its own.
+fn leaf_of(kid: &WiredKid) -> Option<Handle>
+    ensures { IfSome result (λ handle. (side : Side) (port : ℕ) → kid_ways side kid.now port ≡ own_way handle port ∷ []) }
+{
+    match &kid.below {
+        None => Some(kid.handle),
+        Some(_) => None,
+    }
+}
+
+/// The part at an end, where it is an executive or an atomic component: then its one way is its own.
+pub fn leaf_at(net: &Wiring, end: &End) -> Option<Handle>
+    requires { AreWired net.now }
+    ensures { IfSome result (λ handle. (side : Side) → ways_at side net.now end.now ≡ own_way handle end.now.port ∷ []) }
+{
+    match &end.part {
+        Part::Net => None,
+        Part::Boss => Some(net.boss),
+        Part::Kid(name) => match index_of(net.kids.as_slice(), name) {
+            None => None,
+            Some(index) => match net.kids.get(index) {
+                None => None,
+                Some(kid) => leaf_of(kid),
+            },
+        },
     }
 }
