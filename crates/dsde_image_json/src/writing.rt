@@ -1,12 +1,13 @@
 //! Images, written as text.
 
-ghost use Rattle.std.specs.Prelude.{◌≡◌, codes, IfOk, IsUtf8};
+ghost use Rattle.std.specs.Prelude.{◌≡◌, IfOk, OnOk, IsUtf8};
 ghost use Rattle.std.specs.List.{AllByRecursion};
 ghost use Rattle.serde_json.specs.Data.{string};
-ghost use Rattle.serde_json.specs.View.{view};
+ghost use Rattle.serde_json.specs.View.{view, members_view};
 ghost use Rattle.serde_json.specs.Written.{compact_text};
 ghost use Rattle.dsde_image.specs.Written.{AreUtf8, IsWrittenBody, IsWrittenRow, IsWritten};
 ghost use Rattle.dsde_image_json.specs.Json.{when_data, texts_data, row_data, rows_data, body_data, atomic_data, net_data, executive_data, image_data};
+ghost use Rattle.dsde_image_json.specs.Members.{with_numbers, with_args, with_place, with_standing};
 ghost use Rattle.dsde_image_json.specs.Text.{IsReading};
 
 use dsde_image::{Body, Image, Location, Row, Standing};
@@ -29,16 +30,24 @@ fn image_value(alloc: Global, image: &Image) -> Result<Value, Memory>
     requires { IsWritten image.now }
     ensures { IfOk result (λ value. view value ≡ image_data image.now) }
 {
-    let kind = Value::try_from_str(alloc, "dsde-save")?;
-    let parts = rows_value(alloc, image.parts.as_slice())?;
     let mut members = Map::new(alloc);
+    let kind = Value::try_from_str(alloc, "dsde-save")?;
     put(&mut members, alloc, "kind", kind)?;
+    let parts = rows_value(alloc, image.parts.as_slice())?;
     put(&mut members, alloc, "parts", parts)?;
-    put(&mut members, alloc, "records", Value::from(image.records))?;
-    put(&mut members, alloc, "time", Value::from(image.time))?;
-    put(&mut members, alloc, "turn", Value::from(image.turn))?;
-    put(&mut members, alloc, "version", Value::from(2u64))?;
+    put_numbers(alloc, image, &mut members)?;
     Ok(Value::Object(members))
+}
+
+/// Puts how far a run is, and the version, which is 2.
+fn put_numbers(alloc: Global, image: &Image, members: &mut Map<String, Value>) -> Result<(), Memory>
+    ensures { OnOk result (members_view members.new.entries ≡ with_numbers image.now.records image.now.time image.now.turn (members_view members.old.entries)) }
+{
+    put(members, alloc, "records", Value::from(image.records))?;
+    put(members, alloc, "time", Value::from(image.time))?;
+    put(members, alloc, "turn", Value::from(image.turn))?;
+    put(members, alloc, "version", Value::from(2u64))?;
+    Ok(())
 }
 
 fn rows_value(alloc: Global, rows: &[Row]) -> Result<Value, Memory>
@@ -95,18 +104,10 @@ fn atomic_value(
     requires state { AreUtf8 standing.now.state }
     ensures { IfOk result (λ value. view value ≡ atomic_data name.now depth model.now args.now standing.now) }
 {
-    let args = texts_value(alloc, args.as_slice())?;
-    let model = text_value(alloc, model.as_slice())?;
-    let name = text_value(alloc, name.as_slice())?;
-    let state = texts_value(alloc, standing.state.as_slice())?;
     let mut members = Map::new(alloc);
-    put(&mut members, alloc, "args", args)?;
-    put(&mut members, alloc, "depth", Value::from(depth))?;
-    put(&mut members, alloc, "last", Value::from(standing.last))?;
-    put(&mut members, alloc, "model", model)?;
-    put(&mut members, alloc, "name", name)?;
-    put(&mut members, alloc, "next", when_value(standing.next))?;
-    put(&mut members, alloc, "state", state)?;
+    put_args(alloc, args, &mut members)?;
+    put_place(alloc, name, depth, model, &mut members)?;
+    put_standing(alloc, standing, &mut members)?;
     Ok(Value::Object(members))
 }
 
@@ -122,14 +123,9 @@ fn net_value(
     requires args { AreUtf8 args.now }
     ensures { IfOk result (λ value. view value ≡ net_data name.now depth model.now args.now) }
 {
-    let args = texts_value(alloc, args.as_slice())?;
-    let model = text_value(alloc, model.as_slice())?;
-    let name = text_value(alloc, name.as_slice())?;
     let mut members = Map::new(alloc);
-    put(&mut members, alloc, "args", args)?;
-    put(&mut members, alloc, "depth", Value::from(depth))?;
-    put(&mut members, alloc, "model", model)?;
-    put(&mut members, alloc, "name", name)?;
+    put_args(alloc, args, &mut members)?;
+    put_place(alloc, name, depth, model, &mut members)?;
     Ok(Value::Object(members))
 }
 
@@ -145,17 +141,56 @@ fn executive_value(
     requires state { AreUtf8 standing.now.state }
     ensures { IfOk result (λ value. view value ≡ executive_data name.now depth model.now standing.now) }
 {
-    let model = text_value(alloc, model.as_slice())?;
-    let name = text_value(alloc, name.as_slice())?;
-    let state = texts_value(alloc, standing.state.as_slice())?;
     let mut members = Map::new(alloc);
-    put(&mut members, alloc, "depth", Value::from(depth))?;
-    put(&mut members, alloc, "last", Value::from(standing.last))?;
-    put(&mut members, alloc, "model", model)?;
-    put(&mut members, alloc, "name", name)?;
-    put(&mut members, alloc, "next", when_value(standing.next))?;
-    put(&mut members, alloc, "state", state)?;
+    put_place(alloc, name, depth, model, &mut members)?;
+    put_standing(alloc, standing, &mut members)?;
     Ok(Value::Object(members))
+}
+
+/// Puts the arguments with which a part started.
+fn put_args(alloc: Global, args: &Seq<Text>, members: &mut Map<String, Value>) -> Result<(), Memory>
+    requires { AreUtf8 args.now }
+    ensures { OnOk result (members_view members.new.entries ≡ with_args args.now (members_view members.old.entries)) }
+{
+    let args = texts_value(alloc, args.as_slice())?;
+    put(members, alloc, "args", args)?;
+    Ok(())
+}
+
+/// Puts where a part stands, and its model.
+fn put_place(
+    alloc: Global,
+    name: &Text,
+    depth: u32,
+    model: &Text,
+    members: &mut Map<String, Value>,
+) -> Result<(), Memory>
+    requires name { IsUtf8 name.now }
+    requires model { IsUtf8 model.now }
+    ensures { OnOk result (members_view members.new.entries ≡ with_place name.now depth model.now (members_view members.old.entries)) }
+{
+    put(members, alloc, "depth", Value::from(depth))?;
+    let model = text_value(alloc, model.as_slice())?;
+    put(members, alloc, "model", model)?;
+    let name = text_value(alloc, name.as_slice())?;
+    put(members, alloc, "name", name)?;
+    Ok(())
+}
+
+/// Puts when a component moved last and moves next, and its state.
+fn put_standing(
+    alloc: Global,
+    standing: &Standing,
+    members: &mut Map<String, Value>,
+) -> Result<(), Memory>
+    requires { AreUtf8 standing.now.state }
+    ensures { OnOk result (members_view members.new.entries ≡ with_standing standing.now (members_view members.old.entries)) }
+{
+    put(members, alloc, "last", Value::from(standing.last))?;
+    put(members, alloc, "next", when_value(standing.next))?;
+    let state = texts_value(alloc, standing.state.as_slice())?;
+    put(members, alloc, "state", state)?;
+    Ok(())
 }
 
 fn when_value(next: When) -> Value
