@@ -15,8 +15,8 @@ use Rattle.dsde_image.specs.declared.image.Location.TheVariants as location
 use Rattle.dsde_image.specs.declared.image.Row.{Row}
 use Rattle.dsde_image.specs.declared.image.Version.{Version}
 use Rattle.dsde_image.specs.declared.image.Version.TheVariants.{One, Two}
-use Rattle.dsde_image_json.specs.Json.{items_data, number_data, when_data, texts_data, row_data, version_number, image_data}
-use Rattle.dsde_image_reading.specs.Form.{number_of, moment_of, depth_of, version_of, when_of, each_of, texts_of, under, read_under, old_atomic_of, old_net_of, old_executive_of, old_row_in, atomic_of, net_of, executive_of, row_in, row_of, rows_of, image_of_members, image_of}
+use Rattle.dsde_image_json.specs.Json.{items_data, number_data, when_data, row_data, version_number, image_data}
+use Rattle.dsde_image_reading.specs.Form.{number_of, moment_of, depth_of, version_of, when_of, each_of, under, count_in, location_of, standing_of, body_of, row_of, version_in, progress_of, image_of}
 
 each-again : {A : Type 0} (read : Data → Option A) (seen : A → Data) (things : List A) → AllByRecursion (λ thing. read (seen thing) ≡ Some thing) things → each_of read (items_data seen things) ≡ Some things
 unfolding each_of
@@ -27,8 +27,7 @@ strings : (texts : List (List ℕ)) → AllByRecursion (λ text. as_str (string 
 strings [] = tt
 strings (text ∷ texts) = (refl, strings texts)
 
-texts-again : (texts : List (List ℕ)) → texts_of (texts_data texts) ≡ Some texts
-unfolding texts_of
+texts-again : (texts : List (List ℕ)) → each_of as_str (items_data string texts) ≡ Some texts
 texts-again texts = each-again as_str string texts (strings texts)
 
 moment-again : (time : ℕ) → IsMoment time → moment_of (number_data time) ≡ Some time
@@ -51,7 +50,7 @@ when-again Never early = refl
 
 body-again : (version : Version) (place : Location) (model : List ℕ) (body : Body) → IsLocation version place → IsBody body →
     (let row : Row = record { location = place; model = model; body = body } in row_of version (row_data row) ≡ Some row)
-unfolding row_of old_row_in old_atomic_of old_net_of old_executive_of row_in atomic_of net_of executive_of read_under under
+unfolding row_of location_of standing_of body_of count_in under
 body-again One (location.Path path) model (Atomic args standing) at is = rw (texts-again args, moment-again standing.last is.last, when-again standing.next is.next, texts-again standing.state) refl
 body-again One (location.Path path) model (Net args) at is = rw (texts-again args) refl
 body-again One (location.Path path) model (Executive standing) at is = rw (moment-again standing.last is.last, when-again standing.next is.next, texts-again standing.state) refl
@@ -68,7 +67,7 @@ rows version [] all = tt
 rows version (row ∷ parts) all = (body-again version row.location row.model row.body all.0.location all.0.body, rows version parts all.1)
 
 pub image-again : (image : Image) → IsImage image → image_of (image_data image) ≡ Some image
-unfolding image_of image_of_members read_under under rows_of number_of
+unfolding image_of version_in progress_of count_in under number_of
 image-again image is =
     rw (
       moment-again image.time is.time,

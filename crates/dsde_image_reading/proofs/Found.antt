@@ -1,5 +1,5 @@
 -- What is read of a JSON value is what is written as it.
-use Rattle.std.proofs.Common.{◌≡◌, ℕ, ◌<◌, ◌≤◌, ◌^◌, ◌&&◌, ◌==◌, cond, Bool, true, false, nat_lt, nat_le, List, [], ◌∷◌, Option, Some, None, refl, sym, ap, subst, ◌∙◌}
+use Rattle.std.proofs.Common.{◌≡◌, ℕ, ◌-◌, ◌<◌, ◌≤◌, ◌^◌, ◌&&◌, ◌==◌, cond, Bool, true, false, nat_lt, nat_le, List, [], ◌∷◌, Option, Some, None, refl, ap, subst, ◌∙◌, arith}
 use Rattle.std.specs.List.{AllByRecursion}
 use Rattle.std.proofs.lemmas.Bool.{ltb-true, leb-true, eqb-true}
 use Rattle.std.specs.Str.{bytes_eq}
@@ -8,17 +8,21 @@ use Rattle.std.proofs.lemmas.Slice.Eq.{bytes_eq-Decides}
 use Rattle.dsde_values.specs.When.{IsMoment}
 use Rattle.dsde_values.specs.declared.when.When.{When}
 use Rattle.dsde_values.specs.declared.when.When.TheVariants.{At, Never}
-use Rattle.serde_json.specs.Data.{Data, null, boolean, number, string, array, object, unsigned, negative, float, Items, no_items, item, Members, no_members, member}
-use Rattle.serde_json.specs.Find.{as_str, as_array, as_object}
-use Rattle.dsde_image.specs.Image.{IsInTime, IsBody}
+use Rattle.serde_json.specs.Data.{Data, null, boolean, number, string, array, object, unsigned, negative, float, Items, no_items, item}
+use Rattle.serde_json.specs.Find.{get, as_str, as_array}
+use Rattle.dsde_image.specs.Image.{IsInTime, IsStanding, IsBody}
+use Rattle.dsde_image.specs.declared.image.Body.{Body}
+use Rattle.dsde_image.specs.declared.image.Body.TheVariants.{Atomic, Net, Executive}
 use Rattle.dsde_image.specs.declared.image.Image.{Image}
 use Rattle.dsde_image.specs.declared.image.Location.{Location}
 use Rattle.dsde_image.specs.declared.image.Location.TheVariants as location
 use Rattle.dsde_image.specs.declared.image.Row.{Row}
+use Rattle.dsde_image.specs.declared.image.Standing.{Standing}
 use Rattle.dsde_image.specs.declared.image.Version.{Version}
 use Rattle.dsde_image.specs.declared.image.Version.TheVariants.{One, Two}
 use Rattle.dsde_image_json.specs.Json.{items_data, number_data, when_data, texts_data, row_data, version_number, image_data}
-use Rattle.dsde_image_reading.specs.Form.{◌>>=◌, only_if, only_at_end, count, number_of, moment_of, depth_of, version_of, when_of, each_of, texts_of, under, read_under, old_atomic_of, old_net_of, old_executive_of, old_row_in, atomic_of, net_of, executive_of, row_in, row_of, rows_of, image_of_members, image_of}
+use Rattle.dsde_image_reading.specs.Form.{◌>>=◌, only_if, number_of, moment_of, depth_of, version_of, when_of, each_of, under, texts_under, count_in, place_members, location_of, standing_of, body_of, row_of, version_in, progress_of, image_of}
+use Rattle.dsde_image_reading.proofs.Keys.{just-these}
 
 some-is : {A : Type 0} (x y : A) → (let one : Option A = Some x in one ≡ Some y) → x ≡ y
 some-is x y is = cc
@@ -46,14 +50,6 @@ array-found (boolean b) items is = absurd (cc is)
 array-found (number n) items is = absurd (cc is)
 array-found (string s) items is = absurd (cc is)
 array-found (object ms) items is = absurd (cc is)
-
-object-found : (seen : Data) (members : Members) → as_object seen ≡ Some members → seen ≡ object members
-object-found (object ms) members is = ap object (some-is ms members is)
-object-found null members is = absurd (cc is)
-object-found (boolean b) members is = absurd (cc is)
-object-found (number n) members is = absurd (cc is)
-object-found (string s) members is = absurd (cc is)
-object-found (array ds) members is = absurd (cc is)
 
 number-found : (seen : Data) (whole : ℕ) → number_of seen ≡ Some whole → seen ≡ number_data whole
 unfolding number_of
@@ -118,85 +114,51 @@ each-found {A = A} read seen Is found (item own items) things is =
     subst (λ (things : List A). (item own items ≡ items_data seen things) × AllByRecursion Is things) (some-is (first.0 ∷ later.0) things later.2)
     (ap (λ d. item d items) one.0 ∙ ap (item (seen first.0)) rest.0, (one.1, rest.1))
 
-abbrev IsText : List ℕ → Type 0
-IsText text = Unit {0}
+-- ---- what stands under keys
 
-texts-found : (seen : Data) (texts : List (List ℕ)) → texts_of seen ≡ Some texts → seen ≡ texts_data texts
-unfolding texts_of
-texts-found seen texts is =
-    let found = bind-some (as_array seen) (each_of as_str) texts is in
-    array-found seen found.0 found.1 ∙ ap array (each-found as_str string IsText (λ own text is. (string-found own text is, tt)) found.0 texts found.2).0
+-- Under this key stands what shows this thing.
+abbrev Shows : {A : Type 0} → (A → Data) → List ℕ → Data → A → Type 0
+Shows shown key seen thing = get key seen ≡ Some (shown thing)
 
-under-found : (key : List ℕ) (members : Members) (found : Data × Members) → under key members ≡ Some found → members ≡ member key found.0 found.1
+under-found : {A : Type 0} (read : Data → Option A) (shown : A → Data) (Is : A → Type 0) → ((own : Data) (thing : A) → read own ≡ Some thing → (own ≡ shown thing) × Is thing) →
+    (key : List ℕ) (seen : Data) (thing : A) → under read key seen ≡ Some thing → Shows shown key seen thing × Is thing
 unfolding under
-under-found key no_members found is = absurd (cc is)
-under-found key (member own seen members) found is =
-    let one = only_if-some (bytes_eq own key) (seen, members) found is in
-    ap (λ own. member own seen members) ((bytes_eq-Decides own key).0 one.0) ∙ ap (λ (found : Data × Members). member key found.0 found.1) one.1
+under-found read shown Is found key seen thing is =
+    let first = bind-some (get key seen) read thing is in
+    let own = found first.0 thing first.2 in
+    (first.1 ∙ ap (λ (own : Data). let some : Option Data = Some own in some) own.0, own.1)
 
--- The members begin with one of this key, of which this was read, and these are behind it.
-record Under {A : Type 0} (Reads : Data → A → Type 0) (key : List ℕ) (members : Members) (found : A × Members) : Type 0 where
-  seen : Data
-  is : members ≡ member key seen found.1
-  reads : Reads seen found.0
+abbrev IsAny : {A : Type 0} → A → Type 0
+IsAny thing = Unit {0}
 
-read_under-found : {A : Type 0} (read : Data → Option A) (Reads : Data → A → Type 0) → ((seen : Data) (thing : A) → read seen ≡ Some thing → Reads seen thing) →
-    (key : List ℕ) (members : Members) (found : A × Members) → read_under read key members ≡ Some found → Under Reads key members found
-unfolding read_under
-read_under-found {A = A} read Reads each key members found is =
-    let first = bind-some (under key members) _ found is in
-    let own = bind-some (read first.0.0) _ found first.2 in
-    subst (λ (found : A × Members). Under Reads key members found) (some-is (own.0, first.0.1) found own.2)
-    (record { seen = first.0.0; is = under-found key members first.0 first.1; reads = each first.0.0 own.0 own.1 })
+text-under : (key : List ℕ) (seen : Data) (text : List ℕ) → under as_str key seen ≡ Some text → Shows string key seen text
+text-under key seen text is = (under-found as_str string IsAny (λ own text is. (string-found own text is, tt)) key seen text is).0
 
-at-end-found : {A : Type 0} (members : Members) (x y : A) → only_at_end members x ≡ Some y → (members ≡ no_members) × (x ≡ y)
-at-end-found no_members x y is = (refl, some-is x y is)
-at-end-found (member key seen members) x y is = absurd (cc is)
+items-under : (key : List ℕ) (seen : Data) (items : Items) → under as_array key seen ≡ Some items → Shows array key seen items
+items-under key seen items is = (under-found as_array array IsAny (λ own items is. (array-found own items is, tt)) key seen items is).0
 
-abbrev IsString : Data → List ℕ → Type 0
-IsString seen text = seen ≡ string text
+number-under : (key : List ℕ) (seen : Data) (whole : ℕ) → under number_of key seen ≡ Some whole → Shows number_data key seen whole
+number-under key seen whole is = (under-found number_of number_data IsAny (λ own whole is. (number-found own whole is, tt)) key seen whole is).0
 
-abbrev AreTexts : Data → List (List ℕ) → Type 0
-AreTexts seen texts = seen ≡ texts_data texts
+version-under : (key : List ℕ) (seen : Data) (version : Version) → under version_of key seen ≡ Some version → Shows (λ version. number_data (version_number version)) key seen version
+version-under key seen version is = (under-found version_of (λ version. number_data (version_number version)) IsAny (λ own version is. (version-found own version is, tt)) key seen version is).0
 
-abbrev IsNumber : Data → ℕ → Type 0
-IsNumber seen whole = seen ≡ number_data whole
+moment-under : (key : List ℕ) (seen : Data) (time : ℕ) → under moment_of key seen ≡ Some time → Shows number_data key seen time × IsMoment time
+moment-under = under-found moment_of number_data IsMoment moment-found
 
-abbrev IsTime : Data → ℕ → Type 0
-IsTime seen time = (seen ≡ number_data time) × IsMoment time
+depth-under : (key : List ℕ) (seen : Data) (depth : ℕ) → under depth_of key seen ≡ Some depth → Shows number_data key seen depth × (depth < 2 ^ 32)
+depth-under = under-found depth_of number_data (λ depth. depth < 2 ^ 32) depth-found
 
-abbrev IsDepth : Data → ℕ → Type 0
-IsDepth seen depth = (seen ≡ number_data depth) × (depth < 2 ^ 32)
+when-under : (key : List ℕ) (seen : Data) (next : When) → under when_of key seen ≡ Some next → Shows when_data key seen next × IsInTime next
+when-under = under-found when_of when_data IsInTime when-found
 
-abbrev IsVersion : Data → Version → Type 0
-IsVersion seen version = seen ≡ number_data (version_number version)
+texts-found : (key : List ℕ) (seen : Data) (texts : List (List ℕ)) → texts_under key seen ≡ Some texts → Shows texts_data key seen texts
+texts-found key seen texts is =
+    let items = bind-some (under as_array key seen) (each_of as_str) texts is in
+    let own = each-found as_str string IsAny (λ own text is. (string-found own text is, tt)) items.0 texts items.2 in
+    items-under key seen items.0 items.1 ∙ ap (λ items. Some (array items)) own.0
 
-abbrev IsWhen : Data → When → Type 0
-IsWhen seen next = (seen ≡ when_data next) × IsInTime next
-
-text-under : (key : List ℕ) (own : Members) (found : List ℕ × Members) → read_under as_str key own ≡ Some found → Under IsString key own found
-text-under = read_under-found as_str IsString string-found
-
-texts-under : (key : List ℕ) (own : Members) (found : List (List ℕ) × Members) → read_under texts_of key own ≡ Some found → Under AreTexts key own found
-texts-under = read_under-found texts_of AreTexts texts-found
-
-number-under : (key : List ℕ) (own : Members) (found : ℕ × Members) → read_under number_of key own ≡ Some found → Under IsNumber key own found
-number-under = read_under-found number_of IsNumber number-found
-
-moment-under : (key : List ℕ) (own : Members) (found : ℕ × Members) → read_under moment_of key own ≡ Some found → Under IsTime key own found
-moment-under = read_under-found moment_of IsTime moment-found
-
-depth-under : (key : List ℕ) (own : Members) (found : ℕ × Members) → read_under depth_of key own ≡ Some found → Under IsDepth key own found
-depth-under = read_under-found depth_of IsDepth depth-found
-
-version-under : (key : List ℕ) (own : Members) (found : Version × Members) → read_under version_of key own ≡ Some found → Under IsVersion key own found
-version-under = read_under-found version_of IsVersion version-found
-
-when-under : (key : List ℕ) (own : Members) (found : When × Members) → read_under when_of key own ≡ Some found → Under IsWhen key own found
-when-under = read_under-found when_of IsWhen when-found
-
-step : (key : List ℕ) (own : Members) (seen value : Data) (rest later : Members) → own ≡ member key seen rest → seen ≡ value → rest ≡ later → own ≡ member key value later
-step key own seen value rest later is reads behind = is ∙ ap (λ value. member key value rest) reads ∙ ap (member key value) behind
+-- ---- a part
 
 -- its location is of this version
 abbrev pub IsOf : Version → Location → Type 0
@@ -209,157 +171,169 @@ pub record IsOwn (version : Version) (row : Row) : Type 0 where
   pub location : IsOf version row.location
   pub body : IsBody row.body
 
-abbrev RowIs : Version → Members → Row → Type 0
-RowIs version members row = (object members ≡ row_data row) × IsOwn version row
+abbrev ShowsPlace : Data → Location → Type 0
+ShowsPlace seen (location.Path path) = Shows string (codes "path") seen path
+ShowsPlace seen (location.Last name depth) = Shows number_data (codes "depth") seen depth × Shows string (codes "name") seen name
 
-old-atomic-found : (members : Members) (row : Row) → old_atomic_of members ≡ Some row → RowIs One members row
-unfolding old_atomic_of
-old-atomic-found members row is =
-    let args = bind-some (read_under texts_of (codes "args") members) _ row is in
-    let last = bind-some (read_under moment_of (codes "last") args.0.1) _ row args.2 in
-    let model = bind-some (read_under as_str (codes "model") last.0.1) _ row last.2 in
-    let next = bind-some (read_under when_of (codes "next") model.0.1) _ row model.2 in
-    let path = bind-some (read_under as_str (codes "path") next.0.1) _ row next.2 in
-    let state = bind-some (read_under texts_of (codes "state") path.0.1) _ row path.2 in
-    let end = at-end-found state.0.1 _ row state.2 in
-    let a = texts-under (codes "args") members args.0 args.1 in
-    let l = moment-under (codes "last") args.0.1 last.0 last.1 in
-    let m = text-under (codes "model") last.0.1 model.0 model.1 in
-    let n = when-under (codes "next") model.0.1 next.0 next.1 in
-    let p = text-under (codes "path") next.0.1 path.0 path.1 in
-    let s = texts-under (codes "state") path.0.1 state.0 state.1 in
-    subst (λ (row : Row). RowIs One members row) end.1 (
-      ap object (step _ _ _ _ _ _ a.is a.reads (step _ _ _ _ _ _ l.is l.reads.0 (step _ _ _ _ _ _ m.is m.reads (step _ _ _ _ _ _ n.is n.reads.0 (step _ _ _ _ _ _ p.is p.reads (step _ _ _ _ _ _ s.is s.reads end.0)))))),
-      record { location = tt; body = record { last = l.reads.1; next = n.reads.1 } },
-    )
+record ShowsStanding (seen : Data) (standing : Standing) : Type 0 where
+  last : Shows number_data (codes "last") seen standing.last
+  next : Shows when_data (codes "next") seen standing.next
+  state : Shows texts_data (codes "state") seen standing.state
 
-old-net-found : (members : Members) (row : Row) → old_net_of members ≡ Some row → RowIs One members row
-unfolding old_net_of
-old-net-found members row is =
-    let args = bind-some (read_under texts_of (codes "args") members) _ row is in
-    let model = bind-some (read_under as_str (codes "model") args.0.1) _ row args.2 in
-    let path = bind-some (read_under as_str (codes "path") model.0.1) _ row model.2 in
-    let end = at-end-found path.0.1 _ row path.2 in
-    let a = texts-under (codes "args") members args.0 args.1 in
-    let m = text-under (codes "model") args.0.1 model.0 model.1 in
-    let p = text-under (codes "path") model.0.1 path.0 path.1 in
-    subst (λ (row : Row). RowIs One members row) end.1
-    (ap object (step _ _ _ _ _ _ a.is a.reads (step _ _ _ _ _ _ m.is m.reads (step _ _ _ _ _ _ p.is p.reads end.0))), record { location = tt; body = tt })
+-- so many members show what it is
+abbrev ShowsBody : ℕ → Data → Body → Type 0
+ShowsBody many seen (Atomic args standing) = (many ≡ 4) × Shows texts_data (codes "args") seen args × ShowsStanding seen standing
+ShowsBody many seen (Net args) = (many ≡ 1) × Shows texts_data (codes "args") seen args
+ShowsBody many seen (Executive standing) = (many ≡ 3) × ShowsStanding seen standing
 
-old-executive-found : (members : Members) (row : Row) → old_executive_of members ≡ Some row → RowIs One members row
-unfolding old_executive_of
-old-executive-found members row is =
-    let last = bind-some (read_under moment_of (codes "last") members) _ row is in
-    let model = bind-some (read_under as_str (codes "model") last.0.1) _ row last.2 in
-    let next = bind-some (read_under when_of (codes "next") model.0.1) _ row model.2 in
-    let path = bind-some (read_under as_str (codes "path") next.0.1) _ row next.2 in
-    let state = bind-some (read_under texts_of (codes "state") path.0.1) _ row path.2 in
-    let end = at-end-found state.0.1 _ row state.2 in
-    let l = moment-under (codes "last") members last.0 last.1 in
-    let m = text-under (codes "model") last.0.1 model.0 model.1 in
-    let n = when-under (codes "next") model.0.1 next.0 next.1 in
-    let p = text-under (codes "path") next.0.1 path.0 path.1 in
-    let s = texts-under (codes "state") path.0.1 state.0 state.1 in
-    subst (λ (row : Row). RowIs One members row) end.1 (
-      ap object (step _ _ _ _ _ _ l.is l.reads.0 (step _ _ _ _ _ _ m.is m.reads (step _ _ _ _ _ _ n.is n.reads.0 (step _ _ _ _ _ _ p.is p.reads (step _ _ _ _ _ _ s.is s.reads end.0))))),
-      record { location = tt; body = record { last = l.reads.1; next = n.reads.1 } },
-    )
+abbrev PlaceFound : Version → Data → Location → Type 0
+PlaceFound version seen place = ShowsPlace seen place × IsOf version place
 
-atomic-found : (members : Members) (row : Row) → atomic_of members ≡ Some row → RowIs Two members row
-unfolding atomic_of
-atomic-found members row is =
-    let args = bind-some (read_under texts_of (codes "args") members) _ row is in
-    let depth = bind-some (read_under depth_of (codes "depth") args.0.1) _ row args.2 in
-    let last = bind-some (read_under moment_of (codes "last") depth.0.1) _ row depth.2 in
-    let model = bind-some (read_under as_str (codes "model") last.0.1) _ row last.2 in
-    let name = bind-some (read_under as_str (codes "name") model.0.1) _ row model.2 in
-    let next = bind-some (read_under when_of (codes "next") name.0.1) _ row name.2 in
-    let state = bind-some (read_under texts_of (codes "state") next.0.1) _ row next.2 in
-    let end = at-end-found state.0.1 _ row state.2 in
-    let a = texts-under (codes "args") members args.0 args.1 in
-    let d = depth-under (codes "depth") args.0.1 depth.0 depth.1 in
-    let l = moment-under (codes "last") depth.0.1 last.0 last.1 in
-    let m = text-under (codes "model") last.0.1 model.0 model.1 in
-    let o = text-under (codes "name") model.0.1 name.0 name.1 in
-    let n = when-under (codes "next") name.0.1 next.0 next.1 in
-    let s = texts-under (codes "state") next.0.1 state.0 state.1 in
-    subst (λ (row : Row). RowIs Two members row) end.1 (
-      ap object (step _ _ _ _ _ _ a.is a.reads (step _ _ _ _ _ _ d.is d.reads.0 (step _ _ _ _ _ _ l.is l.reads.0 (step _ _ _ _ _ _ m.is m.reads
-          (step _ _ _ _ _ _ o.is o.reads (step _ _ _ _ _ _ n.is n.reads.0 (step _ _ _ _ _ _ s.is s.reads end.0))))))),
-      record { location = d.reads.1; body = record { last = l.reads.1; next = n.reads.1 } },
-    )
+place-found : (version : Version) (seen : Data) (place : Location) → location_of version seen ≡ Some place → PlaceFound version seen place
+unfolding location_of
+place-found One seen place is =
+    let path = bind-some (under as_str (codes "path") seen) _ place is in
+    subst (λ (place : Location). PlaceFound One seen place) (some-is (location.Path path.0) place path.2) (text-under (codes "path") seen path.0 path.1, tt)
+place-found Two seen place is =
+    let depth = bind-some (under depth_of (codes "depth") seen) _ place is in
+    let name = bind-some (under as_str (codes "name") seen) _ place depth.2 in
+    let own = depth-under (codes "depth") seen depth.0 depth.1 in
+    subst (λ (place : Location). PlaceFound Two seen place) (some-is (location.Last name.0 depth.0) place name.2) ((own.0, text-under (codes "name") seen name.0 name.1), own.1)
 
-net-found : (members : Members) (row : Row) → net_of members ≡ Some row → RowIs Two members row
-unfolding net_of
-net-found members row is =
-    let args = bind-some (read_under texts_of (codes "args") members) _ row is in
-    let depth = bind-some (read_under depth_of (codes "depth") args.0.1) _ row args.2 in
-    let model = bind-some (read_under as_str (codes "model") depth.0.1) _ row depth.2 in
-    let name = bind-some (read_under as_str (codes "name") model.0.1) _ row model.2 in
-    let end = at-end-found name.0.1 _ row name.2 in
-    let a = texts-under (codes "args") members args.0 args.1 in
-    let d = depth-under (codes "depth") args.0.1 depth.0 depth.1 in
-    let m = text-under (codes "model") depth.0.1 model.0 model.1 in
-    let o = text-under (codes "name") model.0.1 name.0 name.1 in
-    subst (λ (row : Row). RowIs Two members row) end.1 (
-      ap object (step _ _ _ _ _ _ a.is a.reads (step _ _ _ _ _ _ d.is d.reads.0 (step _ _ _ _ _ _ m.is m.reads (step _ _ _ _ _ _ o.is o.reads end.0)))),
-      record { location = d.reads.1; body = tt },
-    )
+abbrev StandingFound : Data → Standing → Type 0
+StandingFound seen standing = ShowsStanding seen standing × IsStanding standing
 
-executive-found : (members : Members) (row : Row) → executive_of members ≡ Some row → RowIs Two members row
-unfolding executive_of
-executive-found members row is =
-    let depth = bind-some (read_under depth_of (codes "depth") members) _ row is in
-    let last = bind-some (read_under moment_of (codes "last") depth.0.1) _ row depth.2 in
-    let model = bind-some (read_under as_str (codes "model") last.0.1) _ row last.2 in
-    let name = bind-some (read_under as_str (codes "name") model.0.1) _ row model.2 in
-    let next = bind-some (read_under when_of (codes "next") name.0.1) _ row name.2 in
-    let state = bind-some (read_under texts_of (codes "state") next.0.1) _ row next.2 in
-    let end = at-end-found state.0.1 _ row state.2 in
-    let d = depth-under (codes "depth") members depth.0 depth.1 in
-    let l = moment-under (codes "last") depth.0.1 last.0 last.1 in
-    let m = text-under (codes "model") last.0.1 model.0 model.1 in
-    let o = text-under (codes "name") model.0.1 name.0 name.1 in
-    let n = when-under (codes "next") name.0.1 next.0 next.1 in
-    let s = texts-under (codes "state") next.0.1 state.0 state.1 in
-    subst (λ (row : Row). RowIs Two members row) end.1 (
-      ap object (step _ _ _ _ _ _ d.is d.reads.0 (step _ _ _ _ _ _ l.is l.reads.0 (step _ _ _ _ _ _ m.is m.reads
-          (step _ _ _ _ _ _ o.is o.reads (step _ _ _ _ _ _ n.is n.reads.0 (step _ _ _ _ _ _ s.is s.reads end.0)))))),
-      record { location = d.reads.1; body = record { last = l.reads.1; next = n.reads.1 } },
-    )
+standing-found : (seen : Data) (standing : Standing) → standing_of seen ≡ Some standing → StandingFound seen standing
+unfolding standing_of
+standing-found seen standing is =
+    let last = bind-some (under moment_of (codes "last") seen) _ standing is in
+    let next = bind-some (under when_of (codes "next") seen) _ standing last.2 in
+    let state = bind-some (texts_under (codes "state") seen) _ standing next.2 in
+    let l = moment-under (codes "last") seen last.0 last.1 in
+    let n = when-under (codes "next") seen next.0 next.1 in
+    subst (λ (standing : Standing). StandingFound seen standing) (some-is _ standing state.2)
+    (record { last = l.0; next = n.0; state = texts-found (codes "state") seen state.0 state.1 }, record { last = l.1; next = n.1 })
 
-old-kind-found : (six three : Bool) (members : Members) (row : Row) → (cond six (old_atomic_of members) (cond three (old_net_of members) (old_executive_of members))) ≡ Some row → RowIs One members row
-old-kind-found true three members row is = old-atomic-found members row is
-old-kind-found false true members row is = old-net-found members row is
-old-kind-found false false members row is = old-executive-found members row is
+abbrev BodyFound : ℕ → Data → Body → Type 0
+BodyFound many seen body = ShowsBody many seen body × IsBody body
 
-kind-found : (seven four : Bool) (members : Members) (row : Row) → (cond seven (atomic_of members) (cond four (net_of members) (executive_of members))) ≡ Some row → RowIs Two members row
-kind-found true four members row is = atomic-found members row is
-kind-found false true members row is = net-found members row is
-kind-found false false members row is = executive-found members row is
+net-found : (many : ℕ) (seen : Data) (body : Body) → many ≡ 1 → (texts_under (codes "args") seen >>= λ args. Some (Net args)) ≡ Some body → BodyFound many seen body
+net-found many seen body one is =
+    let args = bind-some (texts_under (codes "args") seen) _ body is in
+    subst (λ (body : Body). BodyFound many seen body) (some-is (Net args.0) body args.2) ((one, texts-found (codes "args") seen args.0 args.1), tt)
+
+executive-found : (many : ℕ) (seen : Data) (body : Body) → many ≡ 3 → (standing_of seen >>= λ standing. Some (Executive standing)) ≡ Some body → BodyFound many seen body
+executive-found many seen body three is =
+    let standing = bind-some (standing_of seen) _ body is in
+    let own = standing-found seen standing.0 standing.1 in
+    subst (λ (body : Body). BodyFound many seen body) (some-is (Executive standing.0) body standing.2) ((three, own.0), own.1)
+
+atomic-found : (many : ℕ) (seen : Data) (body : Body) → many ≡ 4 → (texts_under (codes "args") seen >>= λ args. standing_of seen >>= λ standing. Some (Atomic args standing)) ≡ Some body → BodyFound many seen body
+atomic-found many seen body four is =
+    let args = bind-some (texts_under (codes "args") seen) _ body is in
+    let standing = bind-some (standing_of seen) _ body args.2 in
+    let own = standing-found seen standing.0 standing.1 in
+    subst (λ (body : Body). BodyFound many seen body) (some-is (Atomic args.0 standing.0) body standing.2) ((four, texts-found (codes "args") seen args.0 args.1, own.0), own.1)
+
+kind-found : (one three four : Bool) (many : ℕ) (seen : Data) (body : Body) → (one ≡ true → many ≡ 1) → (three ≡ true → many ≡ 3) → (four ≡ true → many ≡ 4) →
+    cond one (texts_under (codes "args") seen >>= λ args. Some (Net args)) (cond three (standing_of seen >>= λ standing. Some (Executive standing))
+    (cond four (texts_under (codes "args") seen >>= λ args. standing_of seen >>= λ standing. Some (Atomic args standing)) None)) ≡ Some body → BodyFound many seen body
+kind-found true three four many seen body is_one is_three is_four is = net-found many seen body (is_one refl) is
+kind-found false true four many seen body is_one is_three is_four is = executive-found many seen body (is_three refl) is
+kind-found false false true many seen body is_one is_three is_four is = atomic-found many seen body (is_four refl) is
+kind-found false false false many seen body is_one is_three is_four is = absurd (cc is)
+
+body-found : (many : ℕ) (seen : Data) (body : Body) → body_of many seen ≡ Some body → BodyFound many seen body
+unfolding body_of
+body-found many seen body is = kind-found (many == 1) (many == 3) (many == 4) many seen body (eqb-true many 1) (eqb-true many 3) (eqb-true many 4) is
+
+-- all that its members show is all that it says
+row-is : (version : Version) (seen : Data) (place : Location) (model : List ℕ) (body : Body) → PlaceFound version seen place → Shows string (codes "model") seen model → ShowsBody (count_in seen - place_members version) seen body →
+    (let row : Row = record { location = place; model = model; body = body } in seen ≡ row_data row)
+row-is One seen (location.Path path) model (Atomic args standing) p m b =
+    just-these seen
+    ((codes "args", texts_data args) ∷ (codes "last", number_data standing.last) ∷ (codes "model", string model) ∷ (codes "next", when_data standing.next) ∷ (codes "path", string path) ∷ (codes "state", texts_data standing.state) ∷ [])
+    refl (b.1, (b.2.last, (m, (b.2.next, (p.0, (b.2.state, tt)))))) (omega arith) (omega (arith, b.0))
+row-is One seen (location.Path path) model (Net args) p m b =
+    just-these seen ((codes "args", texts_data args) ∷ (codes "model", string model) ∷ (codes "path", string path) ∷ []) refl (b.1, (m, (p.0, tt))) (omega arith) (omega (arith, b.0))
+row-is One seen (location.Path path) model (Executive standing) p m b =
+    just-these seen
+    ((codes "last", number_data standing.last) ∷ (codes "model", string model) ∷ (codes "next", when_data standing.next) ∷ (codes "path", string path) ∷ (codes "state", texts_data standing.state) ∷ [])
+    refl (b.1.last, (m, (b.1.next, (p.0, (b.1.state, tt))))) (omega arith) (omega (arith, b.0))
+row-is Two seen (location.Last name depth) model (Atomic args standing) p m b =
+    just-these seen
+    ((codes "args", texts_data args) ∷ (codes "depth", number_data depth) ∷ (codes "last", number_data standing.last) ∷ (codes "model", string model) ∷ (codes "name", string name) ∷ (codes "next", when_data standing.next) ∷ (codes "state", texts_data standing.state) ∷ [])
+    refl (b.1, (p.0.0, (b.2.last, (m, (p.0.1, (b.2.next, (b.2.state, tt))))))) (omega arith) (omega (arith, b.0))
+row-is Two seen (location.Last name depth) model (Net args) p m b =
+    just-these seen ((codes "args", texts_data args) ∷ (codes "depth", number_data depth) ∷ (codes "model", string model) ∷ (codes "name", string name) ∷ []) refl (b.1, (p.0.0, (m, (p.0.1, tt)))) (omega arith) (omega (arith, b.0))
+row-is Two seen (location.Last name depth) model (Executive standing) p m b =
+    just-these seen
+    ((codes "depth", number_data depth) ∷ (codes "last", number_data standing.last) ∷ (codes "model", string model) ∷ (codes "name", string name) ∷ (codes "next", when_data standing.next) ∷ (codes "state", texts_data standing.state) ∷ [])
+    refl (p.0.0, (b.1.last, (m, (p.0.1, (b.1.next, (b.1.state, tt)))))) (omega arith) (omega (arith, b.0))
+row-is One seen (location.Last name depth) model body p m b = absurd p.1
+row-is Two seen (location.Path path) model body p m b = absurd p.1
 
 row-found : (version : Version) (seen : Data) (row : Row) → row_of version seen ≡ Some row → (seen ≡ row_data row) × IsOwn version row
-unfolding row_of old_row_in row_in
-row-found One seen row is =
-    let found = bind-some (as_object seen) old_row_in row is in
-    let own = old-kind-found (count found.0 == 6) (count found.0 == 3) found.0 row found.2 in
-    (object-found seen found.0 found.1 ∙ own.0, own.1)
-row-found Two seen row is =
-    let found = bind-some (as_object seen) row_in row is in
-    let own = kind-found (count found.0 == 7) (count found.0 == 4) found.0 row found.2 in
-    (object-found seen found.0 found.1 ∙ own.0, own.1)
+unfolding row_of
+row-found version seen row is =
+    let place = bind-some (location_of version seen) _ row is in
+    let model = bind-some (under as_str (codes "model") seen) _ row place.2 in
+    let body = bind-some (body_of (count_in seen - place_members version) seen) _ row model.2 in
+    let p = place-found version seen place.0 place.1 in
+    let m = text-under (codes "model") seen model.0 model.1 in
+    let b = body-found (count_in seen - place_members version) seen body.0 body.1 in
+    subst (λ (row : Row). (seen ≡ row_data row) × IsOwn version row) (some-is _ row body.2) (row-is version seen place.0 model.0 body.0 p m b.0, record { location = p.1; body = b.1 })
 
-rows-found : (version : Version) (seen : Data) (rows : List Row) → rows_of version seen ≡ Some rows → (seen ≡ array (items_data row_data rows)) × AllByRecursion (IsOwn version) rows
-unfolding rows_of
-rows-found version seen rows is =
-    let found = bind-some (as_array seen) (each_of (row_of version)) rows is in
-    let own = each-found (row_of version) row_data (IsOwn version) (row-found version) found.0 rows found.2 in
-    (array-found seen found.0 found.1 ∙ ap array own.0, own.1)
+-- ---- an image
 
 both : (a b : Bool) → (a && b) ≡ true → (a ≡ true) × (b ≡ true)
 both true true is = (refl, refl)
 both true false is = absurd (cc is)
 both false b is = absurd (cc is)
+
+record VersionFound (seen : Data) (version : Version) : Type 0 where
+  kind : Shows string (codes "kind") seen (codes "dsde-save")
+  version_is : Shows (λ version. number_data (version_number version)) (codes "version") seen version
+  many : count_in seen ≡ 6
+
+whole-found : (seen : Data) (version : Version) → version_in seen ≡ Some version → VersionFound seen version
+unfolding version_in
+whole-found seen version is =
+    let kind = bind-some (under as_str (codes "kind") seen) _ version is in
+    let own = bind-some (under version_of (codes "version") seen) _ version kind.2 in
+    let tested = only_if-some (bytes_eq kind.0 (codes "dsde-save") && count_in seen == 6) own.0 version own.2 in
+    let split = both (bytes_eq kind.0 (codes "dsde-save")) (count_in seen == 6) tested.0 in
+    record {
+      kind = text-under (codes "kind") seen kind.0 kind.1 ∙ ap (λ text. Some (string text)) ((bytes_eq-Decides kind.0 (codes "dsde-save")).0 split.0);
+      version_is = version-under (codes "version") seen own.0 own.1 ∙ ap (λ version. Some (number_data (version_number version))) tested.1;
+      many = eqb-true (count_in seen) 6 split.1;
+    }
+
+record ProgressFound (seen : Data) (own : ℕ × ℕ × ℕ) : Type 0 where
+  records : Shows number_data (codes "records") seen own.0
+  time : Shows number_data (codes "time") seen own.1
+  turn : Shows number_data (codes "turn") seen own.2
+  early : IsMoment own.1
+  few : own.0 ≤ own.2
+  bounded : own.2 ≤ 2 ^ 62
+
+progress-found : (seen : Data) (own : ℕ × ℕ × ℕ) → progress_of seen ≡ Some own → ProgressFound seen own
+unfolding progress_of
+progress-found seen own is =
+    let records = bind-some (under number_of (codes "records") seen) _ own is in
+    let time = bind-some (under moment_of (codes "time") seen) _ own records.2 in
+    let turn = bind-some (under number_of (codes "turn") seen) _ own time.2 in
+    let tested = only_if-some (nat_le records.0 turn.0 && nat_le turn.0 (2 ^ 62)) _ own turn.2 in
+    let split = both (nat_le records.0 turn.0) (nat_le turn.0 (2 ^ 62)) tested.0 in
+    let t = moment-under (codes "time") seen time.0 time.1 in
+    subst (ProgressFound seen) tested.1 (record {
+      records = number-under (codes "records") seen records.0 records.1;
+      time = t.0;
+      turn = number-under (codes "turn") seen turn.0 turn.1;
+      early = t.1;
+      few = leb-true _ _ split.0;
+      bounded = leb-true _ _ split.1;
+    })
 
 -- What is read as an image: its value, and what is known of its numbers and of its rows.
 pub record ImageFound (seen : Data) (image : Image) : Type 0 where
@@ -369,40 +343,23 @@ pub record ImageFound (seen : Data) (image : Image) : Type 0 where
   pub records : image.records ≤ image.turn
   pub parts : AllByRecursion (IsOwn image.version) image.parts
 
-members-found : (members : Members) (image : Image) → image_of_members members ≡ Some image → ImageFound (object members) image
-unfolding image_of_members
-members-found members image is =
-    let kind = bind-some (read_under as_str (codes "kind") members) _ image is in
-    let parts = bind-some (under (codes "parts") kind.0.1) _ image kind.2 in
-    let records = bind-some (read_under number_of (codes "records") parts.0.1) _ image parts.2 in
-    let time = bind-some (read_under moment_of (codes "time") records.0.1) _ image records.2 in
-    let turn = bind-some (read_under number_of (codes "turn") time.0.1) _ image time.2 in
-    let version = bind-some (read_under version_of (codes "version") turn.0.1) _ image turn.2 in
-    let own = bind-some (only_at_end version.0.1 version.0.0) _ image version.2 in
-    let rows = bind-some (rows_of own.0 parts.0.0) _ image own.2 in
-    let end = at-end-found version.0.1 version.0.0 own.0 own.1 in
-    let tested = only_if-some (bytes_eq kind.0.0 (codes "dsde-save") && nat_le records.0.0 turn.0.0 && nat_le turn.0.0 (2 ^ 62)) _ image rows.2 in
-    let last = both _ (nat_le turn.0.0 (2 ^ 62)) tested.0 in
-    let first = both (bytes_eq kind.0.0 (codes "dsde-save")) (nat_le records.0.0 turn.0.0) last.0 in
-    let k = text-under (codes "kind") members kind.0 kind.1 in
-    let p = under-found (codes "parts") kind.0.1 parts.0 parts.1 in
-    let r = number-under (codes "records") parts.0.1 records.0 records.1 in
-    let t = moment-under (codes "time") records.0.1 time.0 time.1 in
-    let u = number-under (codes "turn") time.0.1 turn.0 turn.1 in
-    let v = version-under (codes "version") turn.0.1 version.0 version.1 in
-    let is_save = (bytes_eq-Decides kind.0.0 (codes "dsde-save")).0 first.0 in
-    let all = rows-found own.0 parts.0.0 rows.0 rows.1 in
-    subst (ImageFound (object members)) tested.1 (record {
-      is = ap object (step _ _ _ _ _ _ k.is (k.reads ∙ ap string is_save) (step _ _ _ _ _ _ p all.0 (step _ _ _ _ _ _ r.is r.reads (step _ _ _ _ _ _ t.is t.reads.0
-          (step _ _ _ _ _ _ u.is u.reads (step _ _ _ _ _ _ v.is (v.reads ∙ ap (λ version. number_data (version_number version)) end.1) end.0))))));
-      time = t.reads.1;
-      turn = leb-true _ _ last.1;
-      records = leb-true _ _ first.1;
-      parts = all.1;
-    })
-
 pub image-found : (seen : Data) (image : Image) → image_of seen ≡ Some image → ImageFound seen image
 unfolding image_of
 image-found seen image is =
-    let found = bind-some (as_object seen) image_of_members image is in
-    subst (λ (seen : Data). ImageFound seen image) (sym (object-found seen found.0 found.1)) (members-found found.0 image found.2)
+    let version = bind-some (version_in seen) _ image is in
+    let own = bind-some (progress_of seen) _ image version.2 in
+    let parts = bind-some (under as_array (codes "parts") seen) _ image own.2 in
+    let rows = bind-some (each_of (row_of version.0) parts.0) _ image parts.2 in
+    let v = whole-found seen version.0 version.1 in
+    let o = progress-found seen own.0 own.1 in
+    let all = each-found (row_of version.0) row_data (IsOwn version.0) (row-found version.0) parts.0 rows.0 rows.1 in
+    let p : get (codes "parts") seen ≡ Some (array (items_data row_data rows.0)) = items-under (codes "parts") seen parts.0 parts.1 ∙ ap (λ items. Some (array items)) all.0 in
+    subst (ImageFound seen) (some-is _ image rows.2) (record {
+      is = just-these seen
+          ((codes "kind", string (codes "dsde-save")) ∷ (codes "parts", array (items_data row_data rows.0)) ∷ (codes "records", number_data own.0.0) ∷ (codes "time", number_data own.0.1) ∷ (codes "turn", number_data own.0.2) ∷ (codes "version", number_data (version_number version.0)) ∷ [])
+          refl (v.kind, (p, (o.records, (o.time, (o.turn, (v.version_is, tt)))))) (omega arith) v.many;
+      time = o.early;
+      turn = o.bounded;
+      records = o.few;
+      parts = all.1;
+    })

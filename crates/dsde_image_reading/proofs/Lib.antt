@@ -1,4 +1,4 @@
-pub mod Counting
+pub mod Keys
 pub mod Each
 pub mod Again
 pub mod Found

@@ -1,21 +1,22 @@
--- Reading a JSON value as an image, member by member in the order of their keys.
-use Rattle.std.specs.Prelude.{◌≡◌, ℕ, suc, Bool, ◌^◌, ◌&&◌, ◌==◌, nat_lt, nat_le, if◌then◌else◌, List, [], ◌∷◌, ◌++◌, String, codes, Option, Some, None, option_and_then, Result, Ok, Err}
+-- Reading a JSON value as an image: its members by their keys, and how many they are.
+use Rattle.std.specs.Prelude.{◌≡◌, ℕ, suc, Bool, true, ◌-◌, ◌^◌, ◌&&◌, ◌==◌, nat_lt, nat_le, if◌then◌else◌, List, [], ◌∷◌, ◌++◌, codes, Option, Some, None, option_and_then, Result, Ok, Err}
+use Rattle.std.specs.Cmp.Lexicographic.{slice_cmp}
+use Rattle.std.specs.Ordering.{nat_cmp, is_lt}
 use Rattle.std.specs.Str.{bytes_eq}
-use Rattle.std.specs.declared.alloc.Global.{Global}
 use Rattle.dsde_values.specs.declared.when.When.{When}
 use Rattle.dsde_values.specs.declared.when.When.TheVariants.{At, Never}
 use Rattle.dsde_image.specs.Image.{SpellsPath, SpellsLast}
+use Rattle.dsde_image.specs.declared.image.Body.{Body}
 use Rattle.dsde_image.specs.declared.image.Body.TheVariants.{Atomic, Net, Executive}
 use Rattle.dsde_image.specs.declared.image.Image.{Image}
 use Rattle.dsde_image.specs.declared.image.Location.{Location}
 use Rattle.dsde_image.specs.declared.image.Location.TheVariants as location
 use Rattle.dsde_image.specs.declared.image.Row.{Row}
+use Rattle.dsde_image.specs.declared.image.Standing.{Standing}
 use Rattle.dsde_image.specs.declared.image.Version.{Version}
 use Rattle.dsde_image.specs.declared.image.Version.TheVariants.{One, Two}
 use Rattle.serde_json.specs.Data.{Data, Items, no_items, item, Members, no_members, member}
-use Rattle.serde_json.specs.Find.{as_null, as_number, as_str, as_array, as_object, as_u64}
-use Rattle.serde_json.specs.View.{members_view}
-use Rattle.serde_json.specs.declared.value.Value.{Value}
+use Rattle.serde_json.specs.Find.{get, as_null, as_number, as_str, as_array, as_object, as_u64}
 use Rattle.dsde_image_reading.specs.declared.misread.Misread.{Misread}
 use Rattle.dsde_image_reading.specs.declared.misread.Misread.TheVariants as misread
 
@@ -25,17 +26,10 @@ None >>= next = None
 (Some x) >>= next = next x
 
 -- The answer is what is read, unless memory ran out.
-abbrev pub Gives : {X Y : Type 0} → (X → Y) → Result X Misread → Option Y → Type 0
-Gives view (Ok x) read = read ≡ Some (view x)
-Gives view (Err misread.Other) read = read ≡ None
-Gives view (Err misread.Memory) read = Unit {0}
-
 abbrev pub GivesIt : {X : Type 0} → Result X Misread → Option X → Type 0
-GivesIt = Gives (λ x. x)
-
--- The answer is what is read from the front of members, and those that are left.
-abbrev pub GivesBefore : {X : Type 0} → Result (X × List (String Global × Value)) Misread → Option (X × Members) → Type 0
-GivesBefore = Gives (λ found. (found.0, members_view found.1))
+GivesIt (Ok x) read = read ≡ Some x
+GivesIt (Err misread.Other) read = read ≡ None
+GivesIt (Err misread.Memory) read = Unit {0}
 
 -- a list, and what is read behind it
 abbrev pub behind : {A : Type 0} → List A → Option (List A) → Option (List A)
@@ -66,123 +60,99 @@ unfoldable pub each_of : {A : Type 0} → (Data → Option A) → Items → Opti
 each_of read no_items = Some []
 each_of read (item seen items) = read seen >>= λ thing. each_of read items >>= λ things. Some (thing ∷ things)
 
-unfoldable pub texts_of : Data → Option (List (List ℕ))
-texts_of seen = as_array seen >>= each_of as_str
-
 -- ---- members
 
--- the value of the first member, which has this key, and the other members
-unfoldable pub under : List ℕ → Members → Option (Data × Members)
-under key no_members = None
-under key (member own seen members) = only_if (bytes_eq own key) (seen, members)
+-- the value under a key, as it is read
+unfoldable pub under : {A : Type 0} → (Data → Option A) → List ℕ → Data → Option A
+under read key seen = get key seen >>= read
 
--- the same, as it is read
-unfoldable pub read_under : {A : Type 0} → (Data → Option A) → List ℕ → Members → Option (A × Members)
-read_under read key members = under key members >>= λ found. read found.0 >>= λ thing. Some (thing, found.1)
-
-abbrev pub only_at_end : {A : Type 0} → Members → A → Option A
-only_at_end no_members x = Some x
-only_at_end (member key seen others) x = None
+-- the texts under a key
+abbrev pub texts_under : List ℕ → Data → Option (List (List ℕ))
+texts_under key seen = under as_array key seen >>= each_of as_str
 
 abbrev pub count : Members → ℕ
 count no_members = 0
 count (member key seen members) = suc (count members)
 
--- ---- a part in version 1
+-- all keys are above this one
+abbrev pub are_above : List ℕ → Members → Bool
+are_above key no_members = true
+are_above key (member own seen members) = is_lt (slice_cmp nat_cmp key own) && are_above key members
 
-unfoldable pub old_atomic_of : Members → Option Row
-old_atomic_of members =
-    read_under texts_of (codes "args") members >>= λ args.
-    read_under moment_of (codes "last") args.1 >>= λ last.
-    read_under as_str (codes "model") last.1 >>= λ model.
-    read_under when_of (codes "next") model.1 >>= λ next.
-    read_under as_str (codes "path") next.1 >>= λ path.
-    read_under texts_of (codes "state") path.1 >>= λ state.
-    only_at_end state.1 (record { location = location.Path path.0; model = model.0; body = Atomic args.0 (record { state = state.0; last = last.0; next = next.0 }) })
+-- each key is below those behind it
+abbrev pub are_ordered : Members → Bool
+are_ordered no_members = true
+are_ordered (member key seen members) = are_above key members && are_ordered members
 
-unfoldable pub old_net_of : Members → Option Row
-old_net_of members =
-    read_under texts_of (codes "args") members >>= λ args.
-    read_under as_str (codes "model") args.1 >>= λ model.
-    read_under as_str (codes "path") model.1 >>= λ path.
-    only_at_end path.1 (record { location = location.Path path.0; model = model.0; body = Net args.0 })
+-- how many members an object has, where they are in the order of their keys
+abbrev pub count_ordered : Option Members → ℕ
+count_ordered None = 0
+count_ordered (Some members) = if are_ordered members then count members else 0
 
-unfoldable pub old_executive_of : Members → Option Row
-old_executive_of members =
-    read_under moment_of (codes "last") members >>= λ last.
-    read_under as_str (codes "model") last.1 >>= λ model.
-    read_under when_of (codes "next") model.1 >>= λ next.
-    read_under as_str (codes "path") next.1 >>= λ path.
-    read_under texts_of (codes "state") path.1 >>= λ state.
-    only_at_end state.1 (record { location = location.Path path.0; model = model.0; body = Executive (record { state = state.0; last = last.0; next = next.0 }) })
+unfoldable pub count_in : Data → ℕ
+count_in seen = count_ordered (as_object seen)
 
--- ---- a part in version 2
+-- ---- a part
 
-unfoldable pub atomic_of : Members → Option Row
-atomic_of members =
-    read_under texts_of (codes "args") members >>= λ args.
-    read_under depth_of (codes "depth") args.1 >>= λ depth.
-    read_under moment_of (codes "last") depth.1 >>= λ last.
-    read_under as_str (codes "model") last.1 >>= λ model.
-    read_under as_str (codes "name") model.1 >>= λ name.
-    read_under when_of (codes "next") name.1 >>= λ next.
-    read_under texts_of (codes "state") next.1 >>= λ state.
-    only_at_end state.1 (record { location = location.Last name.0 depth.0; model = model.0; body = Atomic args.0 (record { state = state.0; last = last.0; next = next.0 }) })
+-- where it stands
+unfoldable pub location_of : Version → Data → Option Location
+location_of One seen = under as_str (codes "path") seen >>= λ path. Some (location.Path path)
+location_of Two seen =
+    under depth_of (codes "depth") seen >>= λ depth.
+    under as_str (codes "name") seen >>= λ name.
+    Some (location.Last name depth)
 
-unfoldable pub net_of : Members → Option Row
-net_of members =
-    read_under texts_of (codes "args") members >>= λ args.
-    read_under depth_of (codes "depth") args.1 >>= λ depth.
-    read_under as_str (codes "model") depth.1 >>= λ model.
-    read_under as_str (codes "name") model.1 >>= λ name.
-    only_at_end name.1 (record { location = location.Last name.0 depth.0; model = model.0; body = Net args.0 })
+-- how it stands
+unfoldable pub standing_of : Data → Option Standing
+standing_of seen =
+    under moment_of (codes "last") seen >>= λ last.
+    under when_of (codes "next") seen >>= λ next.
+    texts_under (codes "state") seen >>= λ state.
+    Some (record { state = state; last = last; next = next })
 
-unfoldable pub executive_of : Members → Option Row
-executive_of members =
-    read_under depth_of (codes "depth") members >>= λ depth.
-    read_under moment_of (codes "last") depth.1 >>= λ last.
-    read_under as_str (codes "model") last.1 >>= λ model.
-    read_under as_str (codes "name") model.1 >>= λ name.
-    read_under when_of (codes "next") name.1 >>= λ next.
-    read_under texts_of (codes "state") next.1 >>= λ state.
-    only_at_end state.1 (record { location = location.Last name.0 depth.0; model = model.0; body = Executive (record { state = state.0; last = last.0; next = next.0 }) })
+-- how many members say where it stands and name its model
+abbrev pub place_members : Version → ℕ
+place_members One = 2
+place_members Two = 3
+
+-- what it is, by how many members are left to say so
+unfoldable pub body_of : ℕ → Data → Option Body
+body_of many seen =
+    if many == 1 then (texts_under (codes "args") seen >>= λ args. Some (Net args))
+    else (if many == 3 then (standing_of seen >>= λ standing. Some (Executive standing))
+    else (if many == 4 then (texts_under (codes "args") seen >>= λ args. standing_of seen >>= λ standing. Some (Atomic args standing)) else None))
+
+unfoldable pub row_of : Version → Data → Option Row
+row_of version seen =
+    location_of version seen >>= λ place.
+    under as_str (codes "model") seen >>= λ model.
+    body_of (count_in seen - place_members version) seen >>= λ body.
+    Some (record { location = place; model = model; body = body })
 
 -- ---- an image
 
--- a part, of the kind that its number of members says
-unfoldable pub old_row_in : Members → Option Row
-old_row_in members =
-    if count members == 6 then old_atomic_of members
-    else (if count members == 3 then old_net_of members else old_executive_of members)
+-- its version, where it has as many members as an image and is marked as one
+unfoldable pub version_in : Data → Option Version
+version_in seen =
+    under as_str (codes "kind") seen >>= λ kind.
+    under version_of (codes "version") seen >>= λ version.
+    only_if (bytes_eq kind (codes "dsde-save") && count_in seen == 6) version
 
-unfoldable pub row_in : Members → Option Row
-row_in members =
-    if count members == 7 then atomic_of members
-    else (if count members == 4 then net_of members else executive_of members)
-
-unfoldable pub row_of : Version → Data → Option Row
-row_of One seen = as_object seen >>= old_row_in
-row_of Two seen = as_object seen >>= row_in
-
-unfoldable pub rows_of : Version → Data → Option (List Row)
-rows_of version seen = as_array seen >>= each_of (row_of version)
-
--- what the members of an image say, if its numbers are bounded
-unfoldable pub image_of_members : Members → Option Image
-image_of_members members =
-    read_under as_str (codes "kind") members >>= λ kind.
-    under (codes "parts") kind.1 >>= λ parts.
-    read_under number_of (codes "records") parts.1 >>= λ records.
-    read_under moment_of (codes "time") records.1 >>= λ time.
-    read_under number_of (codes "turn") time.1 >>= λ turn.
-    read_under version_of (codes "version") turn.1 >>= λ version.
-    only_at_end version.1 version.0 >>= λ own.
-    rows_of own parts.0 >>= λ rows.
-    only_if (bytes_eq kind.0 (codes "dsde-save") && nat_le records.0 turn.0 && nat_le turn.0 (2 ^ 62))
-    (record { version = own; turn = turn.0; time = time.0; records = records.0; parts = rows })
+-- how many records are taken, the time, and how many turns are done, if they are bounded
+unfoldable pub progress_of : Data → Option (ℕ × ℕ × ℕ)
+progress_of seen =
+    under number_of (codes "records") seen >>= λ records.
+    under moment_of (codes "time") seen >>= λ time.
+    under number_of (codes "turn") seen >>= λ turn.
+    only_if (nat_le records turn && nat_le turn (2 ^ 62)) (records, time, turn)
 
 unfoldable pub image_of : Data → Option Image
-image_of seen = as_object seen >>= image_of_members
+image_of seen =
+    version_in seen >>= λ version.
+    progress_of seen >>= λ own.
+    under as_array (codes "parts") seen >>= λ parts.
+    each_of (row_of version) parts >>= λ rows.
+    Some (record { version = version; turn = own.2; time = own.1; records = own.0; parts = rows })
 
 -- ---- what is looked at behind that
 

@@ -2,21 +2,19 @@
 
 ghost use Rattle.std.specs.Prelude.{◌≡◌, ◌≢◌, ◌&&◌, ◌^◌, nat_le, IfOk, IsErrOf};
 ghost use Rattle.serde_json.specs.Data.{Data};
-ghost use Rattle.serde_json.specs.View.{view, members_view};
+ghost use Rattle.serde_json.specs.View.{view};
 ghost use Rattle.dsde_image.specs.Image.{IsImage};
 ghost use Rattle.dsde_image.specs.declared.image.Image.{Image};
 ghost use Rattle.dsde_image_json.specs.Json.{image_data};
 ghost use Rattle.dsde_image_json.specs.Text.{IsReading};
-ghost use Rattle.dsde_image_reading.specs.Form.{GivesIt, image_of_members, image_of};
+ghost use Rattle.dsde_image_reading.specs.Form.{GivesIt, version_in, progress_of, image_of};
 ghost use Rattle.dsde_image_reading.specs.declared.image.ReadImage.TheVariants as read_image;
 
-use crate::fields::{
-    Members, moment_under, number_under, only_at_end, text_under, under, version_under,
-};
+use crate::fields::{array_under, count_in, moment_under, number_under, str_under, version_under};
 use crate::misread::Misread;
 use crate::names::with_names;
-use crate::rows::rows_of;
-use dsde_image::Image;
+use crate::rows::each_row;
+use dsde_image::{Image, Version};
 use dsde_values::Memory;
 use serde_json::{Category, Value};
 use std::alloc::Global;
@@ -86,32 +84,61 @@ fn read_value(alloc: Global, value: &Value) -> Result<Image, ReadImage>
 fn image_of(alloc: Global, value: &Value) -> Result<Image, Misread>
     ensures { GivesIt result (image_of (view value.now)) }
 {
-    let map = value.as_object().ok_or(Misread::Other)?;
-    image_of_members(alloc, map.iter())
+    let Some(version) = version_in(value) else {
+        return Err(Misread::Other);
+    };
+    let Some((records, time, turn)) = progress_of(value) else {
+        return Err(Misread::Other);
+    };
+    let Some(parts) = array_under(value, "parts") else {
+        return Err(Misread::Other);
+    };
+    let parts = each_row(alloc, version, parts)?;
+    Ok(Image {
+        version,
+        turn,
+        time,
+        records,
+        parts,
+    })
 }
 
-#[tactic(auto, unfolding(crate::specs::Form::image_of_members))]
-fn image_of_members(alloc: Global, members: Members<'_>) -> Result<Image, Misread>
-    ensures { GivesIt result (image_of_members (members_view members.entry)) }
+/// The version of an image, where a value is marked as one.
+#[tactic(auto, unfolding(crate::specs::Form::version_in))]
+fn version_in(value: &Value) -> Option<Version>
+    ensures { result ≡ version_in (view value.now) }
 {
-    let (kind, rest) = text_under(alloc, members, "kind")?;
-    let (parts, rest) = under(rest, "parts")?;
-    let (records, rest) = number_under(rest, "records")?;
-    let (time, rest) = moment_under(rest, "time")?;
-    let (turn, rest) = number_under(rest, "turn")?;
-    let (version, rest) = version_under(rest, "version")?;
-    let version = only_at_end(rest, version)?;
-    let parts = rows_of(alloc, version, parts)?;
-    if kind.as_slice() == b"dsde-save".as_slice() && are_bounded(records, turn) {
-        Ok(Image {
-            version,
-            turn,
-            time,
-            records,
-            parts,
-        })
+    let Some(kind) = str_under(value, "kind") else {
+        return None;
+    };
+    let Some(version) = version_under(value, "version") else {
+        return None;
+    };
+    if kind == "dsde-save" && count_in(value) == 6 {
+        Some(version)
     } else {
-        Err(Misread::Other)
+        None
+    }
+}
+
+/// How many records an image says to be taken, its time, and how many turns are done.
+#[tactic(auto, unfolding(crate::specs::Form::progress_of))]
+fn progress_of(value: &Value) -> Option<(u64, u64, u64)>
+    ensures { result ≡ progress_of (view value.now) }
+{
+    let Some(records) = number_under(value, "records") else {
+        return None;
+    };
+    let Some(time) = moment_under(value, "time") else {
+        return None;
+    };
+    let Some(turn) = number_under(value, "turn") else {
+        return None;
+    };
+    if are_bounded(records, turn) {
+        Some((records, time, turn))
+    } else {
+        None
     }
 }
 
