@@ -7,3 +7,4 @@ mod NetRows
 mod Opening
 mod Whole
 mod WholeTexts
+pub mod Rows

@@ -22,7 +22,6 @@ use Rattle.dsde_image_fits.specs.Rows.{Script}
 use Rattle.dsde_image_fits.specs.Walk.{Left, Walked, ◌>>=◌, restored, only_at_end}
 use Rattle.dsde_image_walk.specs.declared.ends.RestoreEnd.{RestoreEnd}
 use Rattle.dsde_image_walk.specs.declared.ends.RestoreEnd.TheVariants as restore_end
-use denote.Ref.{Bor}
 
 -- The answer is what is restored, or the first path that does not fit, or memory ran out.
 abbrev pub Walks : {X A : Type 0} → (X → A) → Result X RestoreEnd → Walked A → Type 0
@@ -30,12 +29,9 @@ Walks view (Ok x) expected = expected ≡ Ok (view x)
 Walks view (Err (restore_end.DoesNotFit path)) expected = expected ≡ Err (path_text path)
 Walks view (Err restore_end.Memory) expected = Unit {0}
 
--- what is restored, and the rows and the room that are left
-abbrev pub with_left : {A : Type 0} → A × Bor (List Row) × ℕ → A × Left
-with_left one = (one.0, (one.1.now, one.2))
-
-abbrev pub WalksOn : {A : Type 0} → Result (A × Bor (List Row) × ℕ) RestoreEnd → Walked (A × Left) → Type 0
-WalksOn = Walks with_left
+-- The same of what is restored, where these rows and this room are left.
+abbrev pub WalksOn : {A : Type 0} → Result A RestoreEnd → Left → Walked (A × Left) → Type 0
+WalksOn result left = Walks (λ one. (one, left)) result
 
 -- the path does not fit, or memory ran out
 abbrev pub Misses : Path → RestoreEnd → Type 0

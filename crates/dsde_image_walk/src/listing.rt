@@ -9,6 +9,7 @@ ghost use Rattle.dsde_sim_tree.specs.declared.sim.Sim.TheVariants as sim;
 ghost use Rattle.dsde_sim_tree.specs.declared.sim.Sim.TheViews.{out-Kid, out-Net};
 ghost use Rattle.dsde_image_fits.specs.Rows.{standing_of, atomic_row, boss_row, net_row, rows, rows_of_kid, rows_of_net};
 ghost use Rattle.dsde_image_fits.specs.Script.{script};
+ghost use Rattle.dsde_image_walk.specs.Listed.{row_at};
 
 use crate::{location_of, name_of, texts};
 use dsde_image::{Body, Row, Standing, Version};
@@ -30,6 +31,25 @@ fn standing_of(alloc: Global, program: &Program, leaf: &Leaf) -> Result<Standing
     })
 }
 
+/// The row of a part at a path, of this model.
+fn row_of(
+    alloc: Global,
+    program: &Program,
+    version: Version,
+    path: &Path,
+    model: ModelId,
+    body: Body,
+) -> Result<Row, Memory>
+    requires { model.0 < length (infos_of program.now) }
+    ensures { IfOk result (λ row. row ≡ row_at (script program.now) version path.now model body) }
+{
+    Ok(Row {
+        location: location_of(alloc, version, path)?,
+        model: name_of(alloc, program, model)?,
+        body,
+    })
+}
+
 fn atomic_row(
     alloc: Global,
     program: &Program,
@@ -42,11 +62,8 @@ fn atomic_row(
 {
     let args = texts(alloc, program, &leaf.args)?;
     let standing = standing_of(alloc, program, leaf)?;
-    Ok(Row {
-        location: location_of(alloc, version, path)?,
-        model: name_of(alloc, program, leaf.model)?,
-        body: Body::Atomic { args, standing },
-    })
+    let body = Body::Atomic { args, standing };
+    row_of(alloc, program, version, path, leaf.model, body)
 }
 
 /// The row of the executive of the network at a path.
@@ -62,11 +79,8 @@ fn boss_row(
 {
     let path = boss_of(alloc, path)?;
     let standing = standing_of(alloc, program, leaf)?;
-    Ok(Row {
-        location: location_of(alloc, version, &path)?,
-        model: name_of(alloc, program, leaf.model)?,
-        body: Body::Executive { standing },
-    })
+    let body = Body::Executive { standing };
+    row_of(alloc, program, version, &path, leaf.model, body)
 }
 
 fn net_row(
@@ -81,11 +95,7 @@ fn net_row(
     ensures { IfOk result (λ row. row ≡ net_row (script program.now) version path.now model args.now) }
 {
     let args = texts(alloc, program, args)?;
-    Ok(Row {
-        location: location_of(alloc, version, path)?,
-        model: name_of(alloc, program, model)?,
-        body: Body::Net { args },
-    })
+    row_of(alloc, program, version, path, model, Body::Net { args })
 }
 
 /// What fits a program where a part does that is this network. A call that does nothing.

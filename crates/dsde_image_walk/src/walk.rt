@@ -10,6 +10,7 @@ ghost use Rattle.dsde_sim_starting.specs.given.executive.Structure.{IsPlan};
 ghost use Rattle.dsde_image_fits.specs.given.system.Program.{system};
 ghost use Rattle.dsde_image_fits.specs.given.system.Fitting.{FitsArgs};
 ghost use Rattle.dsde_image_fits.specs.given.system.Plans.{FitsEntry};
+ghost use Rattle.dsde_sim_tree.specs.Told.{to_boss};
 ghost use Rattle.dsde_sim_tree.specs.Tree.{model_of, entry_of};
 ghost use Rattle.dsde_sim_starting.specs.Fitting.{FitsKid, FitsTree};
 ghost use Rattle.dsde_image_fits.specs.Fits.{RestoredRight};
@@ -35,55 +36,67 @@ use dsde_sim_tree::{DEEPEST, Kid, MOST_PARTS, Sim};
 use dsde_values::{Memory, Path, Seq, Values, copy_values};
 use std::alloc::Global;
 
-/// The next row, where it stands at this path; so many names may stand behind the path that it is in.
-fn took<'r>(
+/// What a walk goes by: a program, and the version and the time of an image of it.
+#[derive(Drop)]
+struct Walk<'p, 'm> {
     alloc: Global,
+    program: &'p Program<'m>,
     version: Version,
-    left: u32,
-    path: &Path,
+    time: u64,
+}
+
+/// The rows that are left, and how many parts may still come.
+#[derive(Drop)]
+struct Left<'r> {
     rows: &'r [Row],
     room: u64,
-) -> Result<(&'r Row, &'r [Row], u64), RestoreEnd>
-    ensures walks { Walks (λ one. (one.0.now, (one.1.now, one.2))) result (took version left path.now (rows.now, room)) }
+}
+
+/// The next row, where it stands at this path; so many names may stand behind the path that it is in.
+fn took<'r>(
+    walk: &Walk<'_, '_>,
+    left: u32,
+    path: &Path,
+    here: &mut Left<'r>,
+) -> Result<&'r Row, RestoreEnd>
+    ensures walks { Walks (λ row. (row.now, (here.new.rows.now, here.new.room))) result (took walk.now.version left path.now (here.old.rows.now, here.old.room)) }
 {
-    if left == 0 || room == 0 {
-        return Err(misfit(alloc, path));
+    if left == 0 || here.room == 0 {
+        return Err(misfit(walk.alloc, path));
     }
-    let Some((row, rest)) = rows.split_first() else {
-        return Err(misfit(alloc, path));
+    let Some((row, rest)) = here.rows.split_first() else {
+        return Err(misfit(walk.alloc, path));
     };
-    if is_at(alloc, version, path, &row.location)? {
-        Ok((row, rest, room - 1))
+    if is_at(walk.alloc, walk.version, path, &row.location)? {
+        here.rows = rest;
+        here.room -= 1;
+        Ok(row)
     } else {
-        Err(misfit(alloc, path))
+        Err(misfit(walk.alloc, path))
     }
 }
 
 /// An atomic component, restored from the next row.
-fn restored_atomic<'r>(
-    alloc: Global,
-    program: &Program,
-    version: Version,
+fn restored_atomic(
+    walk: &Walk<'_, '_>,
     left: u32,
     soft: bool,
     model: ModelId,
     args: Values,
     path: &Path,
-    time: u64,
-    rows: &'r [Row],
-    room: u64,
-) -> Result<(Sim, &'r [Row], u64), RestoreEnd>
-    requires moment { IsMoment time }
-    requires atomic { (system program.now).is_network model ≡ false }
-    requires args { FitsArgs program.now model.0 args }
-    ensures walks { WalksOn result (restored_atomic (system program.now) (script program.now) version time left soft model args path.now (rows.now, room)) }
-    ensures fits { IfOk result (λ one. FitsTree program.now one.0) }
-    ensures model { IfOk result (λ one. model_of one.0 ≡ model) }
+    here: &mut Left<'_>,
+) -> Result<Sim, RestoreEnd>
+    requires moment { IsMoment walk.now.time }
+    requires atomic { (system walk.now.program.now).is_network model ≡ false }
+    requires args { FitsArgs walk.now.program.now model.0 args }
+    ensures walks { WalksOn result (here.new.rows.now, here.new.room) (restored_atomic (system walk.now.program.now) (script walk.now.program.now) walk.now.version walk.now.time left soft model args path.now (here.old.rows.now, here.old.room)) }
+    ensures fits { IfOk result (FitsTree walk.now.program.now) }
+    ensures model { IfOk result (λ tree. model_of tree ≡ model) }
 {
-    let (row, rest, room) = took(alloc, version, left, path, rows, room)?;
-    match atomic_in(alloc, program, soft, model, args, time, row)? {
-        Some(leaf) => Ok((Sim::Leaf(leaf), rest, room)),
-        None => Err(misfit(alloc, path)),
+    let row = took(walk, left, path, here)?;
+    match atomic_in(walk.alloc, walk.program, soft, model, args, walk.time, row)? {
+        Some(leaf) => Ok(Sim::Leaf(leaf)),
+        None => Err(misfit(walk.alloc, path)),
     }
 }
 
@@ -95,275 +108,212 @@ fn copy_of(alloc: Global, values: &Values) -> Result<Values, Memory>
 }
 
 /// The executive of the network at a path, restored from the next row.
-fn restored_boss<'r>(
-    alloc: Global,
-    program: &Program,
-    version: Version,
+fn restored_boss(
+    walk: &Walk<'_, '_>,
     left: u32,
     model: ModelId,
     args: &Values,
     path: &Path,
-    time: u64,
-    rows: &'r [Row],
-    room: u64,
-) -> Result<(Leaf, &'r [Row], u64), RestoreEnd>
-    requires moment { IsMoment time }
-    requires args { FitsArgs program.now model.0 args.now }
-    ensures walks { WalksOn result (restored_boss (system program.now) (script program.now) version time left model args.now path.now (rows.now, room)) }
-    ensures fits { IfOk result (λ one. FitsOwn program.now model true args.now one.0) }
+    here: &mut Left<'_>,
+) -> Result<Leaf, RestoreEnd>
+    requires moment { IsMoment walk.now.time }
+    requires args { FitsArgs walk.now.program.now model.0 args.now }
+    ensures walks { WalksOn result (here.new.rows.now, here.new.room) (restored_boss (system walk.now.program.now) (script walk.now.program.now) walk.now.version walk.now.time left model args.now path.now (here.old.rows.now, here.old.room)) }
+    ensures fits { IfOk result (FitsOwn walk.now.program.now model true args.now) }
 {
-    let path = boss_of(alloc, path)?;
-    let args = copy_of(alloc, args)?;
-    let (row, rest, room) = took(alloc, version, left, &path, rows, room)?;
-    match boss_in(alloc, program, model, args, time, row)? {
-        Some(boss) => Ok((boss, rest, room)),
-        None => Err(misfit(alloc, &path)),
+    let path = boss_of(walk.alloc, path)?;
+    let row = took(walk, left, &path, here)?;
+    let args = copy_of(walk.alloc, args)?;
+    match boss_in(walk.alloc, walk.program, model, args, walk.time, row)? {
+        Some(boss) => Ok(boss),
+        None => Err(RestoreEnd::DoesNotFit(path)),
     }
 }
 
-/// The arguments of a network by its own row, and what is left behind it.
-fn took_net<'r>(
-    alloc: Global,
-    program: &Program,
-    version: Version,
+/// The arguments of a network by its own row.
+fn took_net(
+    walk: &Walk<'_, '_>,
     left: u32,
     soft: bool,
     model: ModelId,
     args: Values,
     path: &Path,
-    rows: &'r [Row],
-    room: u64,
-) -> Result<(Values, &'r [Row], u64), RestoreEnd>
-    requires { FitsArgs program.now model.0 args }
-    ensures walks { WalksOn result (took_net (script program.now) version left soft model args path.now (rows.now, room)) }
-    ensures fits { IfOk result (λ one. FitsArgs program.now model.0 one.0) }
+    here: &mut Left<'_>,
+) -> Result<Values, RestoreEnd>
+    requires { FitsArgs walk.now.program.now model.0 args }
+    ensures walks { WalksOn result (here.new.rows.now, here.new.room) (took_net (script walk.now.program.now) walk.now.version left soft model args path.now (here.old.rows.now, here.old.room)) }
+    ensures fits { IfOk result (FitsArgs walk.now.program.now model.0) }
 {
-    let (row, rest, room) = took(alloc, version, left, path, rows, room)?;
-    match net_in(alloc, program, soft, model, args, row)? {
-        Some(own) => Ok((own, rest, room)),
-        None => Err(misfit(alloc, path)),
+    let row = took(walk, left, path, here)?;
+    match net_in(walk.alloc, walk.program, soft, model, args, row)? {
+        Some(own) => Ok(own),
+        None => Err(misfit(walk.alloc, path)),
+    }
+}
+
+/// The executive of the network at a path does not fit.
+fn boss_misfit(alloc: Global, path: &Path) -> RestoreEnd
+    ensures { Misses (to_boss path.now) result }
+{
+    match boss_of(alloc, path) {
+        Ok(path) => RestoreEnd::DoesNotFit(path),
+        Err(Memory) => RestoreEnd::Memory,
     }
 }
 
 /// The structure that goes with the state of the executive of the network at a path.
 fn planned(
-    alloc: Global,
-    program: &Program,
+    walk: &Walk<'_, '_>,
     model: ModelId,
     args: &Values,
     boss: &Leaf,
     path: &Path,
 ) -> Result<Plan, RestoreEnd>
-    requires network { (system program.now).is_network model ≡ true }
-    requires args { FitsArgs program.now model.0 args.now }
-    requires boss { FitsOwn program.now model true args.now boss.now }
-    ensures walks { Walks (λ plan. plan) result (planned (system program.now) model args.now boss.now path.now) }
-    ensures fits { IfOk result (IsPlan program.now model.0) }
+    requires network { (system walk.now.program.now).is_network model ≡ true }
+    requires args { FitsArgs walk.now.program.now model.0 args.now }
+    requires boss { FitsOwn walk.now.program.now model true args.now boss.now }
+    ensures walks { Walks (λ plan. plan) result (planned (system walk.now.program.now) model args.now boss.now path.now) }
+    ensures fits { IfOk result (IsPlan walk.now.program.now model.0) }
 {
-    let path = boss_of(alloc, path)?;
-    match structure(alloc, program, model, args, &boss.state) {
+    match structure(walk.alloc, walk.program, model, args, &boss.state) {
         Ok(plan) => Ok(plan),
         Err(EvalEnd::Memory) => Err(RestoreEnd::Memory),
-        Err(EvalEnd::Fault(_, _)) => Err(misfit(alloc, &path)),
+        Err(EvalEnd::Fault(_, _)) => Err(boss_misfit(walk.alloc, path)),
     }
 }
 
 /// The part that is restored, where so many names may stand behind the path that it is in.
 #[cycle(restoring)]
-fn restored<'r>(
-    alloc: Global,
-    program: &Program,
-    version: Version,
+fn restored(
+    walk: &Walk<'_, '_>,
     left: u32,
     soft: bool,
     model: ModelId,
     args: Values,
     path: &Path,
-    time: u64,
-    rows: &'r [Row],
-    room: u64,
-) -> Result<(Sim, &'r [Row], u64), RestoreEnd>
-    requires moment { IsMoment time }
-    requires args { FitsArgs program.now model.0 args }
-    ensures walks { WalksOn result (restored (system program.now) (script program.now) version time left soft model args path.now (rows.now, room)) }
-    ensures fits { IfOk result (λ one. FitsTree program.now one.0) }
-    ensures model { IfOk result (λ one. model_of one.0 ≡ model) }
+    here: &mut Left<'_>,
+) -> Result<Sim, RestoreEnd>
+    requires moment { IsMoment walk.now.time }
+    requires args { FitsArgs walk.now.program.now model.0 args }
+    ensures walks { WalksOn result (here.new.rows.now, here.new.room) (restored (system walk.now.program.now) (script walk.now.program.now) walk.now.version walk.now.time left soft model args path.now (here.old.rows.now, here.old.room)) }
+    ensures fits { IfOk result (FitsTree walk.now.program.now) }
+    ensures model { IfOk result (λ tree. model_of tree ≡ model) }
 {
     if left == 0 {
-        return Err(misfit(alloc, path));
+        return Err(misfit(walk.alloc, path));
     }
-    if is_network(program, model) {
-        restored_net(
-            alloc,
-            program,
-            version,
-            left - 1,
-            soft,
-            model,
-            args,
-            path,
-            time,
-            rows,
-            room,
-        )
+    if is_network(walk.program, model) {
+        restored_net(walk, left - 1, soft, model, args, path, here)
     } else {
-        restored_atomic(
-            alloc, program, version, left, soft, model, args, path, time, rows, room,
-        )
+        restored_atomic(walk, left, soft, model, args, path, here)
     }
 }
 
 /// A network, by its own row and by those behind it.
 #[cycle(restoring)]
-fn restored_net<'r>(
-    alloc: Global,
-    program: &Program,
-    version: Version,
+fn restored_net(
+    walk: &Walk<'_, '_>,
     left: u32,
     soft: bool,
     model: ModelId,
     args: Values,
     path: &Path,
-    time: u64,
-    rows: &'r [Row],
-    room: u64,
-) -> Result<(Sim, &'r [Row], u64), RestoreEnd>
-    requires moment { IsMoment time }
+    here: &mut Left<'_>,
+) -> Result<Sim, RestoreEnd>
+    requires moment { IsMoment walk.now.time }
     requires left { left < 2 ^ 32 - 1 }
-    requires network { (system program.now).is_network model ≡ true }
-    requires args { FitsArgs program.now model.0 args }
-    ensures walks { WalksOn result (restored_net (system program.now) (script program.now) version time left (restored (system program.now) (script program.now) version time left) soft model args path.now (rows.now, room)) }
-    ensures fits { IfOk result (λ one. FitsTree program.now one.0) }
-    ensures model { IfOk result (λ one. model_of one.0 ≡ model) }
+    requires network { (system walk.now.program.now).is_network model ≡ true }
+    requires args { FitsArgs walk.now.program.now model.0 args }
+    ensures walks { WalksOn result (here.new.rows.now, here.new.room) (restored_net (system walk.now.program.now) (script walk.now.program.now) walk.now.version walk.now.time left (restored (system walk.now.program.now) (script walk.now.program.now) walk.now.version walk.now.time left) soft model args path.now (here.old.rows.now, here.old.room)) }
+    ensures fits { IfOk result (FitsTree walk.now.program.now) }
+    ensures model { IfOk result (λ tree. model_of tree ≡ model) }
 {
-    let (own, rest, room) = took_net(
-        alloc,
-        program,
-        version,
-        left + 1,
-        soft,
-        model,
-        args,
-        path,
-        rows,
-        room,
-    )?;
-    with_args(
-        alloc, program, version, left, model, own, path, time, rest, room,
-    )
+    let own = took_net(walk, left + 1, soft, model, args, path, here)?;
+    with_args(walk, left, model, own, path, here)
 }
 
 /// A network whose own row is taken: its executive, and what stands behind it.
 #[cycle(restoring)]
-fn with_args<'r>(
-    alloc: Global,
-    program: &Program,
-    version: Version,
+fn with_args(
+    walk: &Walk<'_, '_>,
     left: u32,
     model: ModelId,
     args: Values,
     path: &Path,
-    time: u64,
-    rows: &'r [Row],
-    room: u64,
-) -> Result<(Sim, &'r [Row], u64), RestoreEnd>
-    requires moment { IsMoment time }
-    requires network { (system program.now).is_network model ≡ true }
-    requires args { FitsArgs program.now model.0 args }
-    ensures walks { WalksOn result (with_args (system program.now) (script program.now) version time left (restored (system program.now) (script program.now) version time left) model path.now (args, (rows.now, room))) }
-    ensures fits { IfOk result (λ one. FitsTree program.now one.0) }
-    ensures model { IfOk result (λ one. model_of one.0 ≡ model) }
+    here: &mut Left<'_>,
+) -> Result<Sim, RestoreEnd>
+    requires moment { IsMoment walk.now.time }
+    requires network { (system walk.now.program.now).is_network model ≡ true }
+    requires args { FitsArgs walk.now.program.now model.0 args }
+    ensures walks { WalksOn result (here.new.rows.now, here.new.room) (with_args (system walk.now.program.now) (script walk.now.program.now) walk.now.version walk.now.time left (restored (system walk.now.program.now) (script walk.now.program.now) walk.now.version walk.now.time left) model path.now (args, (here.old.rows.now, here.old.room))) }
+    ensures fits { IfOk result (FitsTree walk.now.program.now) }
+    ensures model { IfOk result (λ tree. model_of tree ≡ model) }
 {
-    let (boss, rest, room) = restored_boss(
-        alloc, program, version, left, model, &args, path, time, rows, room,
-    )?;
-    with_boss(
-        alloc, program, version, left, model, args, path, time, boss, rest, room,
-    )
+    let boss = restored_boss(walk, left, model, &args, path, here)?;
+    with_boss(walk, left, model, args, path, boss, here)
 }
 
 /// A network whose executive is restored: the components of its structure.
 #[cycle(restoring)]
-fn with_boss<'r>(
-    alloc: Global,
-    program: &Program,
-    version: Version,
+fn with_boss(
+    walk: &Walk<'_, '_>,
     left: u32,
     model: ModelId,
     args: Values,
     path: &Path,
-    time: u64,
     boss: Leaf,
-    rows: &'r [Row],
-    room: u64,
-) -> Result<(Sim, &'r [Row], u64), RestoreEnd>
-    requires moment { IsMoment time }
-    requires network { (system program.now).is_network model ≡ true }
-    requires args { FitsArgs program.now model.0 args }
-    requires boss { FitsOwn program.now model true args boss }
-    ensures walks { WalksOn result (with_boss (system program.now) (script program.now) version time (restored (system program.now) (script program.now) version time left) model args path.now (boss, (rows.now, room))) }
-    ensures fits { IfOk result (λ one. FitsTree program.now one.0) }
-    ensures model { IfOk result (λ one. model_of one.0 ≡ model) }
+    here: &mut Left<'_>,
+) -> Result<Sim, RestoreEnd>
+    requires moment { IsMoment walk.now.time }
+    requires network { (system walk.now.program.now).is_network model ≡ true }
+    requires args { FitsArgs walk.now.program.now model.0 args }
+    requires boss { FitsOwn walk.now.program.now model true args boss }
+    ensures walks { WalksOn result (here.new.rows.now, here.new.room) (with_boss (system walk.now.program.now) (script walk.now.program.now) walk.now.version walk.now.time (restored (system walk.now.program.now) (script walk.now.program.now) walk.now.version walk.now.time left) model args path.now (boss, (here.old.rows.now, here.old.room))) }
+    ensures fits { IfOk result (FitsTree walk.now.program.now) }
+    ensures model { IfOk result (λ tree. model_of tree ≡ model) }
 {
-    let Plan { entries, links } = planned(alloc, program, model, &args, &boss, path)?;
-    let (kids, rest, room) = restored_kids(
-        alloc, program, version, left, entries, path, time, rows, room,
-    )?;
-    let net = net_of(alloc, model, args, boss, kids, links)?;
-    Ok((Sim::Net(net), rest, room))
+    let Plan { entries, links } = planned(walk, model, &args, &boss, path)?;
+    let kids = restored_kids(walk, left, entries, path, here)?;
+    let net = net_of(walk.alloc, model, args, boss, kids, links)?;
+    Ok(Sim::Net(net))
 }
 
 /// The components of a structure, one after another.
 #[cycle(restoring)]
-fn restored_kids<'r>(
-    alloc: Global,
-    program: &Program,
-    version: Version,
+fn restored_kids(
+    walk: &Walk<'_, '_>,
     left: u32,
     entries: Seq<Entry>,
     path: &Path,
-    time: u64,
-    rows: &'r [Row],
-    room: u64,
-) -> Result<(Seq<Kid>, &'r [Row], u64), RestoreEnd>
-    requires moment { IsMoment time }
-    requires entries { AllByRecursion (FitsEntry program.now) entries }
-    ensures walks { WalksOn result (restored_kids (system program.now) (script program.now) version time (restored (system program.now) (script program.now) version time left) entries path.now (rows.now, room) []) }
-    ensures fits { IfOk result (λ all. AllByRecursion (FitsKid program.now) all.0) }
-    ensures roles { IfOk result (λ all. roles (map entry_of all.0) ≡ roles entries) }
+    here: &mut Left<'_>,
+) -> Result<Seq<Kid>, RestoreEnd>
+    requires moment { IsMoment walk.now.time }
+    requires entries { AllByRecursion (FitsEntry walk.now.program.now) entries }
+    ensures walks { WalksOn result (here.new.rows.now, here.new.room) (restored_kids (system walk.now.program.now) (script walk.now.program.now) walk.now.version walk.now.time (restored (system walk.now.program.now) (script walk.now.program.now) walk.now.version walk.now.time left) entries path.now (here.old.rows.now, here.old.room) []) }
+    ensures fits { IfOk result (AllByRecursion (FitsKid walk.now.program.now)) }
+    ensures roles { IfOk result (λ kids. roles (map entry_of kids) ≡ roles entries) }
 {
-    let mut done = Seq::new(alloc);
-    let mut rows = rows;
-    let mut room = room;
+    let mut done = Seq::new(walk.alloc);
     for entry in entries.into_vec() {
-        let (kid, rest, more) = restored_kid(
-            alloc, program, version, left, entry, path, time, rows, room,
-        )?;
-        done.push(kid)?;
-        rows = rest;
-        room = more;
+        done.push(restored_kid(walk, left, entry, path, here)?)?;
     }
-    Ok((done, rows, room))
+    Ok(done)
 }
 
 /// The component that an entry of a structure wants.
 #[cycle(restoring)]
-fn restored_kid<'r>(
-    alloc: Global,
-    program: &Program,
-    version: Version,
+fn restored_kid(
+    walk: &Walk<'_, '_>,
     left: u32,
     entry: Entry,
     path: &Path,
-    time: u64,
-    rows: &'r [Row],
-    room: u64,
-) -> Result<(Kid, &'r [Row], u64), RestoreEnd>
-    requires moment { IsMoment time }
-    requires entry { FitsEntry program.now entry }
-    ensures walks { WalksOn result (restored_kid (restored (system program.now) (script program.now) version time left) entry path.now (rows.now, room)) }
-    ensures fits { IfOk result (λ one. FitsKid program.now one.0) }
-    ensures role { IfOk result (λ one. role (entry_of one.0) ≡ role entry) }
+    here: &mut Left<'_>,
+) -> Result<Kid, RestoreEnd>
+    requires moment { IsMoment walk.now.time }
+    requires entry { FitsEntry walk.now.program.now entry }
+    ensures walks { WalksOn result (here.new.rows.now, here.new.room) (restored_kid (restored (system walk.now.program.now) (script walk.now.program.now) walk.now.version walk.now.time left) entry path.now (here.old.rows.now, here.old.room)) }
+    ensures fits { IfOk result (FitsKid walk.now.program.now) }
+    ensures role { IfOk result (λ kid. role (entry_of kid) ≡ role entry) }
 {
     let Entry {
         name,
@@ -371,46 +321,30 @@ fn restored_kid<'r>(
         args,
         soft,
     } = entry;
-    let path = below(alloc, path, &name)?;
-    let (sim, rest, room) = restored(
-        alloc, program, version, left, soft, model, args, &path, time, rows, room,
-    )?;
-    Ok((Kid { name, sim }, rest, room))
+    let path = below(walk.alloc, path, &name)?;
+    let sim = restored(walk, left, soft, model, args, &path, here)?;
+    Ok(Kid { name, sim })
 }
 
 /// The tree whose root is of the model that runs, with these arguments.
-fn whole_tree(
-    alloc: Global,
-    program: &Program,
-    version: Version,
-    args: Values,
-    time: u64,
-    rows: &[Row],
-) -> Result<Sim, RestoreEnd>
-    requires moment { IsMoment time }
-    requires args { FitsArgs program.now (top_number program.now).0 args }
-    requires locations { AllByRecursion (HasLocation version) rows.now }
-    ensures walks { Walks (λ tree. tree) result (whole_tree (system program.now) (script program.now) version time (top_number program.now) args rows.now) }
-    ensures fits { IfOk result (FitsTree program.now) }
+fn whole_tree(walk: &Walk<'_, '_>, args: Values, rows: &[Row]) -> Result<Sim, RestoreEnd>
+    requires moment { IsMoment walk.now.time }
+    requires args { FitsArgs walk.now.program.now (top_number walk.now.program.now).0 args }
+    requires locations { AllByRecursion (HasLocation walk.now.version) rows.now }
+    ensures walks { Walks (λ tree. tree) result (whole_tree (system walk.now.program.now) (script walk.now.program.now) walk.now.version walk.now.time (top_number walk.now.program.now) args rows.now) }
+    ensures fits { IfOk result (FitsTree walk.now.program.now) }
 {
     left_are_last();
-    let root = Path::root(alloc)?;
-    let (tree, rest, _room) = restored(
-        alloc,
-        program,
-        version,
-        DEEPEST,
-        false,
-        program.top_model(),
-        args,
-        &root,
-        time,
+    let root = Path::root(walk.alloc)?;
+    let mut here = Left {
         rows,
-        MOST_PARTS,
-    )?;
-    match rest.split_first() {
+        room: MOST_PARTS,
+    };
+    let model = walk.program.top_model();
+    let tree = restored(walk, DEEPEST, false, model, args, &root, &mut here)?;
+    match here.rows.split_first() {
         None => Ok(tree),
-        Some((row, _)) => Err(left_over(alloc, version, &row.location)),
+        Some((row, _)) => Err(left_over(walk.alloc, walk.version, &row.location)),
     }
 }
 
@@ -434,8 +368,14 @@ pub fn restored_tree(
     program.right();
     scripts_are_exact();
     only_images_fit();
+    let walk = Walk {
+        alloc,
+        program,
+        version,
+        time,
+    };
     match top_args(alloc, program) {
-        Ok(args) => whole_tree(alloc, program, version, args, time, rows),
+        Ok(args) => whole_tree(&walk, args, rows),
         Err(LeafEnd::Memory) => Err(RestoreEnd::Memory),
         Err(LeafEnd::Fault(_, _, _)) => Err(misfit_at_root(alloc)),
     }

@@ -3,44 +3,44 @@ use Rattle.std.proofs.lemmas.Result.{err_from_is_err_and}
 use Rattle.dsde_image_fits.specs.given.system.Program.{system}
 use Rattle.dsde_image_fits.specs.Walk.{took_net, with_args, restored}
 use Rattle.dsde_image_fits.specs.Script.{script}
-use Rattle.dsde_image_walk.specs.Walks.{WalksOn, with_left}
+use Rattle.dsde_image_walk.specs.Walks.{WalksOn}
 use Rattle.dsde_image_walk.proofs.Opening.{restored-network, net-opens, stops, goes}
 use Rattle.dsde_image_walk.proofs.Fitting.{made-fits, kid-fits}
 use Rattle.dsde_image_walk.proofs.walk.+restoring.Goals as goal
 
 pub restored-returns-then-is_network-clause-walks : goal.restored-returns-then-is_network-clause-walks
 restored-returns-then-is_network-clause-walks t c =
-    let network : (system c.args.program.now).is_network c.args.model ≡ true = cc (c.is_network.ensures, c.if-is_network.true) in
-    subst (WalksOn c.restored_net.result)
-    (sym (restored-network (system c.args.program.now) (script c.args.program.now) c.args.version c.args.time c.args.left _ c.args.soft c.args.model c.args.args c.args.path.now (c.args.rows.now, c.args.room) (omega arith) network))
+    let network : (system c.args.walk.now.program.now).is_network c.args.model ≡ true = cc (c.is_network.ensures, c.if-is_network.true) in
+    subst (WalksOn c.restored_net.result (c.restored_net.new.here.rows.now, c.restored_net.new.here.room))
+    (sym (restored-network (system c.args.walk.now.program.now) (script c.args.walk.now.program.now) c.args.walk.now.version c.args.walk.now.time c.args.left _ c.args.soft c.args.model c.args.args c.args.path.now (c.args.here.now.rows.now, c.args.here.now.room) (omega arith) network))
     c.restored_net.ensures.walks
 
 pub restored_net-returns-in_err-own-clause-walks : goal.restored_net-returns-in_err-own-clause-walks
 restored_net-returns-in_err-own-clause-walks t c =
     let p = err_from_is_err_and c.from_residual.result c.from_residual.ensures.1 in
-    let s = system c.args.program.now in
-    let r = script c.args.program.now in
-    rw (p.1, p.2) (stops with_left with_left c.in_err-own.field-0.0
-    (took_net r c.args.version _ c.args.soft c.args.model c.args.args c.args.path.now (c.args.rows.now, c.args.room))
-    (with_args s r c.args.version c.args.time c.args.left (restored s r c.args.version c.args.time c.args.left) c.args.model c.args.path.now) _
+    let s = system c.args.walk.now.program.now in
+    let r = script c.args.walk.now.program.now in
+    rw (p.1, p.2) (stops (λ one. (one, (c.took_net.new.here.rows.now, c.took_net.new.here.room))) (λ one. (one, (c.took_net.new.here.rows.now, c.took_net.new.here.room))) c.in_err-own.field-0.0
+    (took_net r c.args.walk.now.version _ c.args.soft c.args.model c.args.args c.args.path.now (c.args.here.now.rows.now, c.args.here.now.room))
+    (with_args s r c.args.walk.now.version c.args.walk.now.time c.args.left (restored s r c.args.walk.now.version c.args.walk.now.time c.args.left) c.args.model c.args.path.now) _
     c.in_err-own.ensures.walks
-    (net-opens s r c.args.version c.args.time c.args.left _ c.args.soft c.args.model c.args.args c.args.path.now (c.args.rows.now, c.args.room) (omega arith)))
+    (net-opens s r c.args.walk.now.version c.args.walk.now.time c.args.left _ c.args.soft c.args.model c.args.args c.args.path.now (c.args.here.now.rows.now, c.args.here.now.room) (omega arith)))
 
 pub restored_net-returns-clause-walks : goal.restored_net-returns-clause-walks
 restored_net-returns-clause-walks t c =
-    let s = system c.args.program.now in
-    let r = script c.args.program.now in
-    goes with_left c.with_args.result
-    (took_net r c.args.version _ c.args.soft c.args.model c.args.args c.args.path.now (c.args.rows.now, c.args.room)) (c.in_ok-own.own, (c.in_ok-own.rest.now, c.in_ok-own.room))
-    (with_args s r c.args.version c.args.time c.args.left (restored s r c.args.version c.args.time c.args.left) c.args.model c.args.path.now) _
+    let s = system c.args.walk.now.program.now in
+    let r = script c.args.walk.now.program.now in
+    goes (λ one. (one, (c.with_args.new.here.rows.now, c.with_args.new.here.room))) c.with_args.result
+    (took_net r c.args.walk.now.version _ c.args.soft c.args.model c.args.args c.args.path.now (c.args.here.now.rows.now, c.args.here.now.room)) (c.in_ok-own.own, (c.took_net.new.here.rows.now, c.took_net.new.here.room))
+    (with_args s r c.args.walk.now.version c.args.walk.now.time c.args.left (restored s r c.args.walk.now.version c.args.walk.now.time c.args.left) c.args.model c.args.path.now) _
     c.in_ok-own.ensures.walks
-    (net-opens s r c.args.version c.args.time c.args.left _ c.args.soft c.args.model c.args.args c.args.path.now (c.args.rows.now, c.args.room) (omega arith))
+    (net-opens s r c.args.walk.now.version c.args.walk.now.time c.args.left _ c.args.soft c.args.model c.args.args c.args.path.now (c.args.here.now.rows.now, c.args.here.now.room) (omega arith))
     c.with_args.ensures.walks
 
 pub with_boss-returns-clause-fits : goal.with_boss-returns-clause-fits
 with_boss-returns-clause-fits t c =
-    made-fits c.args.program.now c.args.model c.args.args c.args.boss c.in_ok-kids.kids c.in_ok-entries.field-0 c.in_ok-net.net c.in_ok-net.ensures.fits
+    made-fits c.args.walk.now.program.now c.args.model c.args.args c.args.boss c.in_ok-kids.kids c.in_ok-entries.field-0 c.in_ok-net.net c.in_ok-net.ensures.fits
     c.requires.network c.requires.args c.requires.boss c.in_ok-kids.ensures.fits c.in_ok-kids.ensures.roles c.in_ok-entries.ensures.fits
 
 pub restored_kid-returns-clause-fits : goal.restored_kid-returns-clause-fits
-restored_kid-returns-clause-fits t c = kid-fits c.args.program.now c.args.entry.name c.in_ok-sim.sim c.in_ok-sim.ensures.fits
+restored_kid-returns-clause-fits t c = kid-fits c.args.walk.now.program.now c.args.entry.name c.in_ok-sim.sim c.in_ok-sim.ensures.fits

@@ -22,4 +22,4 @@ decreases-restored_kid l = 6 * l.left + 1
 
 abbrev pub invariant-restored_kids-loop-entry : goal.invariant-restored_kids-loop-entry
 invariant-restored_kids-loop-entry l =
-    HaveRestored l.program l.version l.time l.left l.path l.fn.entries (l.fn.rows, l.fn.room) l.done (l.rows, l.room) l.entry-iterator.rest.items
+    HaveRestored l.walk.program.now l.walk.version l.walk.time l.left l.path l.fn.entries (l.fn.here.rows.now, l.fn.here.room) l.done (l.here.rows.now, l.here.room) l.entry-iterator.rest.items

@@ -7,5 +7,5 @@ use Rattle.dsde_image_walk.proofs.walk.restored_atomic.Goals as goal
 
 pub returns-in-Some-clause-fits : goal.returns-in-Some-clause-fits
 returns-in-Some-clause-fits c =
-    atomic-fits c.args.program.now c.args.model c.in-Some.leaf
-    (subst (λ (own : Option Leaf). IfSome own (FitsComponent c.args.program.now c.args.model false)) c.in-Some.is c.in_ok-leaf.ensures.fits) c.requires.atomic
+    atomic-fits c.args.walk.now.program.now c.args.model c.in-Some.leaf
+    (subst (λ (own : Option Leaf). IfSome own (FitsComponent c.args.walk.now.program.now c.args.model false)) c.in-Some.is c.in_ok-leaf.ensures.fits) c.requires.atomic
