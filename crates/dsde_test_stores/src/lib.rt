@@ -1,4 +1,4 @@
-//! Tests of what is kept: counts, banks, schedules, trees, tables by name.
+//! Tests of what is kept, as banks, schedules, trees and tables by name, and of the outside: sources, sinks and shelves.
 #![tactic(auto)]
 
 #[cfg(test)]

@@ -1,99 +1,65 @@
 //! Trees of parts.
 
-ghost use Rattle.std.specs.Prelude.{◌≡◌, ◌<◌};
-
-use crate::tests::text;
 use dsde_bank::Handle;
 use dsde_base::Steps;
 use dsde_grove::{Grove, GrowEnd};
 use dsde_values::{Memory, Name, Stem, Text, write_path};
 use std::alloc::Global;
-use std::marker::Brand;
-use std::process::Abort;
-use std::sync::ledger::{Blank, Ledger};
-use std::test::Fail;
+use std::mem;
+use std::sync::ledger::Ledger;
 
-/// A call on a tree. A part goes by its number, in the order of growth; the root has 0.
-#[derive(Clone, Copy)]
-enum Call<'a> {
-    Grow(usize, &'a str, u8),
-    Get(usize),
-    Change(usize, u8),
-    Child(usize, &'a str),
-    Path(usize),
-    Drop(usize),
-}
-
-/// A tree, and the handles of its parts in the order of growth.
-#[derive(Drop)]
-struct Given {
-    grove: Grove<u8>,
-    handles: Vec<Handle>,
-}
-
-/// The handle of this number; one that no tree gives where there is none.
-fn handle_of(given: &Given, number: usize) -> Handle {
-    let never = Handle {
-        birth: u64::MAX,
-        slot: 0,
-    };
-    given.handles.get(number).copied().unwrap_or(never)
-}
-
-fn name(alloc: Global, stem: &str) -> Result<Name, Memory> {
+/// The name `m[index]`.
+fn name(alloc: Global, index: u64) -> Result<Name, Memory> {
     Ok(Name {
-        stem: Stem::from_slice(alloc, stem.as_bytes())?,
-        index: None,
+        stem: Stem::from_slice(alloc, b"m")?,
+        index: Some(index),
     })
 }
 
-/// Grows a part, while there are births left.
+/// Grows a part of the name `m[index]`, while there are births left.
 fn grow<L: Ledger>(
+    alloc: Global,
     grove: &mut Grove<u8>,
     parent: Handle,
-    name: Name,
-    value: u8,
+    index: u64,
     looks: &mut Steps<L>,
 ) -> Result<Handle, (GrowEnd, u8)> {
-    if grove.born() == u64::MAX {
-        return Err((GrowEnd::Memory, value));
+    match name(alloc, index) {
+        Ok(name) if grove.born() < u64::MAX => grove.grow(parent, name, b'v', looks),
+        _ => Err((GrowEnd::Memory, b'v')),
     }
-    grove.grow(parent, name, value, looks)
 }
 
-/// Grows a part, and tells how that ended.
-fn tell_growth<L: Ledger>(
+/// Whether a part has this child, or none, of the name `m[index]`.
+fn has_child<L: Ledger>(
     alloc: Global,
-    given: &mut Given,
-    parent: usize,
-    stem: &str,
-    value: u8,
+    grove: &Grove<u8>,
+    parent: Handle,
+    index: u64,
+    wanted: Option<Handle>,
     looks: &mut Steps<L>,
-) -> Result<Text, Memory> {
-    let parent = handle_of(given, parent);
-    match grow(&mut given.grove, parent, name(alloc, stem)?, value, looks) {
-        Ok(handle) => {
-            given.handles.push(handle)?;
-            text(alloc, b"grown")
-        }
-        Err((GrowEnd::Stale, value)) => with_byte(alloc, "stale ", value),
-        Err((GrowEnd::Taken, value)) => with_byte(alloc, "taken ", value),
-        Err((GrowEnd::Memory, _)) => Err(Memory),
+) -> bool {
+    match name(alloc, index) {
+        Ok(name) => grove.child(parent, &name, looks) == wanted,
+        Err(Memory) => false,
     }
 }
 
-fn with_byte(alloc: Global, words: &str, byte: u8) -> Result<Text, Memory> {
-    let mut told = text(alloc, words.as_bytes())?;
-    told.push(byte)?;
-    Ok(told)
-}
-
-/// The value, if there is one.
-fn value_text(alloc: Global, value: Option<u8>) -> Result<Text, Memory> {
-    match value {
-        Some(value) => with_byte(alloc, "", value),
-        None => Ok(Text::new(alloc)),
-    }
+/// Whether the path of a part is written so: as nothing, where there is no part.
+fn has_path<L: Ledger>(
+    alloc: Global,
+    grove: &Grove<u8>,
+    handle: Handle,
+    wanted: &[u8],
+    looks: &mut Steps<L>,
+) -> bool {
+    let mut text = Text::new(alloc);
+    let is_written = match grove.path_of(handle, looks) {
+        Ok(Some(path)) => write_path(&path, &mut text).is_ok(),
+        Ok(None) => true,
+        Err(Memory) => false,
+    };
+    is_written && text.as_slice() == wanted
 }
 
 /// Puts a value in the place of that of a part, and answers the one before.
@@ -103,297 +69,189 @@ fn change<L: Ledger>(
     value: u8,
     looks: &mut Steps<L>,
 ) -> Option<u8> {
-    let place = grove.get_mut(handle, looks)?;
-    let before = *place;
-    *place = value;
-    Some(before)
-}
-
-/// The number of a child.
-fn child<L: Ledger>(
-    given: &Given,
-    handle: Handle,
-    name: &Name,
-    looks: &mut Steps<L>,
-) -> Option<u8> {
-    let child = given.grove.child(handle, name, looks)?;
-    let number = given.handles.iter().position(|handle| *handle == child)?;
-    Some(digit(number as u64))
-}
-
-/// A number below ten as it is written.
-fn digit(number: u64) -> u8 {
-    if number < 10 {
-        b'0' + number as u8
-    } else {
-        b'?'
+    match grove.get_mut(handle, looks) {
+        Some(place) => Some(mem::replace(place, value)),
+        None => None,
     }
 }
 
-/// How the path of a part is written; nothing where there is no part.
-fn path_text<L: Ledger>(
-    alloc: Global,
-    grove: &Grove<u8>,
-    handle: Handle,
-    looks: &mut Steps<L>,
-) -> Result<Text, Memory> {
-    let mut text = Text::new(alloc);
-    if let Some(path) = grove.path_of(handle, looks)? {
-        write_path(&path, &mut text)?;
-    }
-    Ok(text)
+/// Whether a handle finds the value of a new part, which is changed.
+fn is_changed<L: Ledger>(grove: &mut Grove<u8>, handle: Handle, looks: &mut Steps<L>) -> bool {
+    matches!(grove.get(handle, looks), Some(b'v'))
+        && matches!(change(grove, handle, b'w', looks), Some(b'v'))
+        && matches!(grove.get(handle, looks), Some(b'w'))
 }
 
-/// Drops parts, and tells how many, and how many are left.
-fn tell_drop<L: Ledger>(
+/// Whether a handle finds nothing.
+fn is_gone<L: Ledger>(
     alloc: Global,
     grove: &mut Grove<u8>,
     handle: Handle,
     looks: &mut Steps<L>,
-) -> Result<Text, Memory> {
-    let Some(dropped) = grove.drop_subtree(handle, looks) else {
-        return Ok(Text::new(alloc));
+) -> bool {
+    grove.get(handle, looks).is_none()
+        && grove.get_mut(handle, looks).is_none()
+        && has_child(alloc, grove, handle, 1, None, looks)
+        && has_path(alloc, grove, handle, b"", looks)
+        && matches!(
+            grow(alloc, grove, handle, 1, looks),
+            Err((GrowEnd::Stale, b'v'))
+        )
+        && grove.drop_subtree(handle, looks).is_none()
+}
+
+/// Whether a part is dropped with that many in all, which leaves so many.
+fn is_dropped<L: Ledger>(
+    grove: &mut Grove<u8>,
+    handle: Handle,
+    count: u64,
+    left: u64,
+    looks: &mut Steps<L>,
+) -> bool {
+    matches!(grove.drop_subtree(handle, looks), Some(dropped) if dropped == count)
+        && grove.live() == left
+}
+
+/// Whether two parts, the second below the first, are found as they should, and are dropped. The
+/// first has the name `m[0]` below the root.
+fn are_dropped<L: Ledger>(
+    alloc: Global,
+    grove: &mut Grove<u8>,
+    root: Handle,
+    first: Handle,
+    second: Handle,
+    looks: &mut Steps<L>,
+) -> bool {
+    is_changed(grove, second, looks)
+        && has_child(alloc, grove, first, 1, Some(second), looks)
+        && has_path(alloc, grove, second, b"root/m[0]/m[1]", looks)
+        && matches!(
+            grow(alloc, grove, root, 0, looks),
+            Err((GrowEnd::Taken, b'v'))
+        )
+        && is_dropped(grove, first, 2, 1, looks)
+}
+
+/// Whether that is so of two new parts, and a third of the first one's name is found, while their
+/// handles find nothing.
+fn is_round<L: Ledger>(
+    alloc: Global,
+    grove: &mut Grove<u8>,
+    root: Handle,
+    looks: &mut Steps<L>,
+) -> bool {
+    let Ok(first) = grow(alloc, grove, root, 0, looks) else {
+        return false;
     };
-    let mut told = with_byte(alloc, "dropped ", digit(dropped))?;
-    told.extend_from_slice(b", left ")?;
-    told.push(digit(grove.live()))?;
-    Ok(told)
+    let Ok(second) = grow(alloc, grove, first, 1, looks) else {
+        return false;
+    };
+    let are_dropped = are_dropped(alloc, grove, root, first, second, looks);
+    let Ok(third) = grow(alloc, grove, root, 0, looks) else {
+        return false;
+    };
+    are_dropped
+        && has_child(alloc, grove, root, 0, Some(third), looks)
+        && has_path(alloc, grove, third, b"root/m[0]", looks)
+        && is_gone(alloc, grove, first, looks)
+        && is_gone(alloc, grove, second, looks)
+        && is_dropped(grove, third, 1, 1, looks)
 }
 
-/// What a call answers, in words; nothing where it finds no part.
-fn answer<L: Ledger>(
+/// Whether a part that was dropped stays dropped, in a thousand rounds.
+fn are_rounds<L: Ledger>(
     alloc: Global,
-    given: &mut Given,
-    call: Call,
+    grove: &mut Grove<u8>,
+    root: Handle,
     looks: &mut Steps<L>,
-) -> Result<Text, Memory> {
-    match call {
-        Call::Grow(parent, stem, value) => tell_growth(alloc, given, parent, stem, value, looks),
-        Call::Get(part) => {
-            let value = given.grove.get(handle_of(given, part), looks).copied();
-            value_text(alloc, value)
-        }
-        Call::Change(part, value) => {
-            let handle = handle_of(given, part);
-            value_text(alloc, change(&mut given.grove, handle, value, looks))
-        }
-        Call::Child(part, stem) => {
-            let name = name(alloc, stem)?;
-            value_text(alloc, child(given, handle_of(given, part), &name, looks))
-        }
-        Call::Path(part) => path_text(alloc, &given.grove, handle_of(given, part), looks),
-        Call::Drop(part) => {
-            let handle = handle_of(given, part);
-            tell_drop(alloc, &mut given.grove, handle, looks)
-        }
-    }
-}
-
-/// Makes the calls on a tree, of whose parts the root alone is known, and compares what they answer.
-fn play<L: Ledger>(
-    rt: &impl Abort,
-    alloc: Global,
-    given: &mut Given,
-    calls: &[(Call, &str)],
-    looks: &mut Steps<L>,
-) -> Result<(), Fail> {
-    given.handles.truncate(1);
-    for (call, want) in calls {
-        let told = answer(alloc, given, *call, looks)?;
-        assert_eq!(rt; told.as_slice(), want.as_bytes());
-    }
-    Ok(())
-}
-
-/// A tree of one part.
-fn planted(alloc: Global) -> Result<Given, Memory> {
-    let (grove, root) = Grove::new(alloc, b'0')?;
-    let mut handles = Vec::new(alloc);
-    handles.push(root)?;
-    Ok(Given { grove, handles })
-}
-
-/// Drops two parts, one below the other, and then one more, over and over. Answers how many parts were born.
-fn play_rounds<L: Ledger>(
-    rt: &impl Abort,
-    alloc: Global,
-    given: &mut Given,
-    looks: &mut Steps<L>,
-) -> Result<u64, Fail> {
+) -> bool {
     for _ in 0..1000 {
-        let round = [
-            (Call::Grow(0, "a", b'1'), "grown"),
-            (Call::Grow(1, "b", b'2'), "grown"),
-            (Call::Get(1), "1"),
-            (Call::Get(2), "2"),
-            (Call::Path(2), "root/a/b"),
-            (Call::Child(1, "b"), "2"),
-            (Call::Grow(0, "a", b'3'), "taken 3"),
-            (Call::Drop(1), "dropped 2, left 1"),
-            (Call::Get(1), ""),
-            (Call::Get(2), ""),
-            (Call::Change(2, b'5'), ""),
-            (Call::Path(2), ""),
-            (Call::Child(1, "b"), ""),
-            (Call::Child(0, "a"), ""),
-            (Call::Drop(1), ""),
-            (Call::Grow(2, "c", b'5'), "stale 5"),
-            (Call::Grow(0, "a", b'4'), "grown"),
-            (Call::Path(3), "root/a"),
-            (Call::Child(0, "a"), "3"),
-            (Call::Child(0, "b"), ""),
-            (Call::Change(3, b'6'), "4"),
-            (Call::Get(3), "6"),
-            (Call::Get(1), ""),
-            (Call::Get(2), ""),
-            (Call::Change(1, b'5'), ""),
-            (Call::Path(1), ""),
-            (Call::Drop(1), ""),
-            (Call::Grow(1, "c", b'5'), "stale 5"),
-            (Call::Drop(3), "dropped 1, left 1"),
-        ];
-        play(rt, alloc, given, &round, looks)?;
-    }
-    Ok(given.grove.born())
-}
-
-/// Grows and drops over and over, and at last drops the root.
-fn ends_with_its_root<L: Ledger>(rt: &impl Abort, alloc: Global, blank: Blank) -> Result<(), Fail>
-    requires name { blank.name ≡ L.name }
-    requires parts { blank.parts ≡ L.parts }
-    requires backed { 0 < blank.parts }
-{
-    let mut looks = Steps::<L>::new(blank);
-    let mut given = planted(alloc)?;
-    assert_eq!(rt; play_rounds(rt, alloc, &mut given, &mut looks)?, 3001);
-    let end = [
-        (Call::Grow(0, "a", b'1'), "grown"),
-        (Call::Drop(0), "dropped 2, left 0"),
-        (Call::Get(0), ""),
-        (Call::Get(1), ""),
-        (Call::Drop(0), ""),
-        (Call::Grow(0, "a", b'1'), "stale 1"),
-    ];
-    play(rt, alloc, &mut given, &end, &mut looks)
-}
-
-#[test]
-fn a_dropped_part_stays_dropped(rt: HostRuntime) -> Result<(), Fail> {
-    ends_with_its_root::<Brand>(&rt, rt.alloc(), Blank::new(1))
-}
-
-/// The name of the part of that number below its parent.
-fn indexed(alloc: Global, index: u64) -> Result<Name, Memory> {
-    Ok(Name {
-        stem: Stem::from_slice(alloc, b"m")?,
-        index: Some(index),
-    })
-}
-
-/// Grows a part of that number.
-fn grow_indexed<L: Ledger>(
-    alloc: Global,
-    given: &mut Given,
-    parent: Handle,
-    index: u64,
-    looks: &mut Steps<L>,
-) -> Result<(), Memory> {
-    match grow(
-        &mut given.grove,
-        parent,
-        indexed(alloc, index)?,
-        b'v',
-        looks,
-    ) {
-        Ok(handle) => Ok(given.handles.push(handle)?),
-        Err(_) => Err(Memory),
-    }
-}
-
-/// Grows four parts below each part from that number on.
-fn grow_level<L: Ledger>(
-    alloc: Global,
-    given: &mut Given,
-    first: usize,
-    looks: &mut Steps<L>,
-) -> Result<(), Memory> {
-    for number in first..given.handles.len() {
-        let parent = handle_of(given, number);
-        for index in 0..4 {
-            grow_indexed(alloc, given, parent, index, looks)?;
+        if !is_round(alloc, grove, root, looks) {
+            return false;
         }
     }
-    Ok(())
+    grove.born() == 3001
 }
 
-/// A tree of five levels, in which each part above the last has four below it.
-fn grown<L: Ledger>(alloc: Global, looks: &mut Steps<L>) -> Result<Given, Memory> {
-    let mut given = planted(alloc)?;
-    for first in [0, 1, 5, 21] {
-        grow_level(alloc, &mut given, first, looks)?;
-    }
-    Ok(given)
-}
-
-/// How many handles find a path, and how many names these have.
-fn walked<L: Ledger>(given: &Given, looks: &mut Steps<L>) -> Result<(u64, u64), Memory> {
-    let mut found = 0u64;
-    let mut names = 0u64;
-    for handle in &given.handles {
-        if let Some(path) = given.grove.path_of(*handle, looks)? {
-            found = found.saturating_add(1);
-            names = names.saturating_add(path.names.len() as u64);
+/// Grows a tree of five levels, in which each part above the last has four below it, and answers
+/// whether that succeeded. The root is the first of the handles.
+fn grow_all<L: Ledger>(
+    alloc: Global,
+    grove: &mut Grove<u8>,
+    handles: &mut Vec<Handle>,
+    looks: &mut Steps<L>,
+) -> bool {
+    for number in 0..340usize {
+        let Some(parent) = handles.get(number / 4) else {
+            return false;
+        };
+        match grow(alloc, grove, *parent, number as u64 % 4, looks) {
+            Ok(handle) if handles.push(handle).is_ok() => {}
+            _ => return false,
         }
     }
-    Ok((found, names))
+    true
 }
 
-/// How many parts a drop takes out, and how many are left.
-fn dropped<L: Ledger>(
-    given: &mut Given,
-    number: usize,
+/// Whether so many handles find a path, and these have so many names.
+fn are_walked<L: Ledger>(
+    grove: &Grove<u8>,
+    handles: &[Handle],
+    found: u64,
+    names: u64,
     looks: &mut Steps<L>,
-) -> (Option<u64>, u64) {
-    let handle = handle_of(given, number);
-    let count = given.grove.drop_subtree(handle, looks);
-    (count, given.grove.live())
+) -> bool {
+    let mut paths = 0u64;
+    let mut all_names = 0u64;
+    for handle in handles {
+        if let Ok(Some(path)) = grove.path_of(*handle, looks) {
+            paths = paths.saturating_add(1);
+            all_names = all_names.saturating_add(path.names.len() as u64);
+        }
+    }
+    paths == found && all_names == names
 }
 
-/// The path of the last part of a large tree, and what walks and drops tell of it.
-fn told<L: Ledger>(
+/// Whether a tree of hundreds is walked as it should, also once it is dropped from a part in its
+/// middle on, and from its root.
+fn is_walked<L: Ledger>(
     alloc: Global,
-    given: &mut Given,
+    grove: &mut Grove<u8>,
+    handles: &[Handle],
     looks: &mut Steps<L>,
-) -> Result<([(u64, u64); 3], [(Option<u64>, u64); 3]), Memory> {
-    let whole = walked(given, looks)?;
-    let middle = dropped(given, 1, looks);
-    let rest = walked(given, looks)?;
-    let again = dropped(given, 1, looks);
-    let root = handle_of(given, 0);
-    grow_indexed(alloc, given, root, 0, looks)?;
-    let more = walked(given, looks)?;
-    let all = dropped(given, 0, looks);
-    Ok(([whole, rest, more], [middle, again, all]))
+) -> bool {
+    let [root, middle, .., last] = handles else {
+        return false;
+    };
+    has_path(alloc, grove, *last, b"root/m[3]/m[3]/m[3]/m[3]", looks)
+        && are_walked(grove, handles, 341, 1593, looks)
+        && is_dropped(grove, *middle, 85, 256, looks)
+        && are_walked(grove, handles, 256, 1195, looks)
+        && is_dropped(grove, *root, 256, 0, looks)
+        && are_walked(grove, handles, 0, 0, looks)
+        && is_gone(alloc, grove, *root, looks)
 }
 
-/// A tree of hundreds is grown, walked, and dropped from its middle and from its root.
-fn hundreds_are_dropped<L: Ledger>(rt: &impl Abort, alloc: Global, blank: Blank) -> Result<(), Fail>
-    requires name { blank.name ≡ L.name }
-    requires parts { blank.parts ≡ L.parts }
-    requires backed { 0 < blank.parts }
-{
-    let mut looks = Steps::<L>::new(blank);
-    let mut given = grown(alloc, &mut looks)?;
-    let last = handle_of(&given, 340);
-    let path = path_text(alloc, &given.grove, last, &mut looks)?;
-    assert_eq!(rt; path.as_slice(), b"root/m[3]/m[3]/m[3]/m[3]".as_slice());
-    let (walks, drops) = told(alloc, &mut given, &mut looks)?;
-    assert_eq!(rt; walks, [(341, 1593), (256, 1195), (257, 1197)]);
-    assert_eq!(rt; drops, [(Some(85), 256), (None, 256), (Some(257), 0)]);
-    Ok(())
+/// Whether a tree of hundreds is grown, walked and dropped.
+fn are_hundreds<L: Ledger>(
+    alloc: Global,
+    grove: &mut Grove<u8>,
+    root: Handle,
+    handles: &mut Vec<Handle>,
+    looks: &mut Steps<L>,
+) -> bool {
+    handles.push(root).is_ok()
+        && grow_all(alloc, grove, handles, looks)
+        && is_walked(alloc, grove, handles, looks)
 }
 
-#[test]
-fn a_tree_of_hundreds_is_walked_and_dropped(rt: HostRuntime) -> Result<(), Fail> {
-    hundreds_are_dropped::<Brand>(&rt, rt.alloc(), Blank::new(1))
+/// Whether parts are found as they should: those of small trees, and then those of a large one.
+pub fn parts_are_found<L: Ledger>(alloc: Global, looks: &mut Steps<L>) -> bool {
+    match Grove::new(alloc, b'v') {
+        Ok((mut grove, root)) => {
+            are_rounds(alloc, &mut grove, root, looks)
+                && are_hundreds(alloc, &mut grove, root, &mut Vec::new(alloc), looks)
+        }
+        Err(Memory) => false,
+    }
 }

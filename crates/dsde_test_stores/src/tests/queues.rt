@@ -2,201 +2,107 @@
 
 use dsde_bank::{Batch, Handle};
 use dsde_queue::Queue;
-use dsde_values::Memory;
-use std::alloc::Global;
-use std::test::Fail;
 
 type Pair = (u64, Handle);
 
-const A: Handle = Handle { birth: 0, slot: 2 };
-
-const B: Handle = Handle { birth: 1, slot: 1 };
-
-const C: Handle = Handle { birth: 2, slot: 0 };
-
-/// Makes room for a pair and puts it in.
-fn put(queue: &mut Queue, pair: Pair) -> Result<(), Memory> {
-    queue.reserve(1)?;
-    queue.put_reserved(pair.0, pair.1);
-    Ok(())
-}
-
-/// A queue of these pairs.
-fn queue_of(alloc: Global, pairs: &[Pair]) -> Result<Queue, Memory> {
-    let mut queue = Queue::new(alloc);
-    for pair in pairs {
-        put(&mut queue, *pair)?;
-    }
-    Ok(queue)
-}
-
-/// The first pair, as a look and a taking tell it; nothing where the two differ.
-fn take_first(queue: &mut Queue) -> Option<Pair> {
-    let least = queue.least();
-    let first = queue.take_first();
-    if least == first { first } else { None }
-}
-
-/// Makes room for all, and takes those of the least time.
-fn take_least(queue: &mut Queue, due: &mut Batch<Handle>) -> Result<Option<u64>, Memory> {
-    due.reserve(queue.len())?;
-    Ok(queue.take_least(due))
-}
-
-/// Keeps the pairs of all handles but one.
-fn drop_all_of(queue: &mut Queue, gone: Handle) {
-    queue.compact(&|_time: u64, handle: Handle| handle != gone);
-}
-
-/// The pairs that are left once those of a handle are dropped, taken one by one.
-fn without(alloc: Global, pairs: &[Pair], gone: Handle) -> Result<Vec<Pair>, Memory> {
-    let mut queue = queue_of(alloc, pairs)?;
-    drop_all_of(&mut queue, gone);
-    let mut left = Vec::new(alloc);
-    for _ in 0..queue.len() {
-        left.push(take_first(&mut queue).unwrap_or((0, gone)))?;
-    }
-    Ok(left)
-}
-
-#[test]
-fn a_pair_stands_once_after_compact(rt: HostRuntime) -> Result<(), Fail> {
-    let left = without(rt.alloc(), &[(7, B), (5, C), (7, B), (5, A)], C)?;
-    assert_eq!(rt; left.as_slice(), [(5, A), (7, B)].as_slice());
-    Ok(())
-}
-
-#[test]
-fn the_least_are_taken_in_order(rt: HostRuntime) -> Result<(), Fail> {
-    let mut queue = queue_of(rt.alloc(), &[(5, A), (7, B), (5, C)])?;
-    let mut due = Batch::new(rt.alloc());
-    for (time, handles) in [
-        (Some(5), [A, C].as_slice()),
-        (Some(7), [A, C, B].as_slice()),
-        (None, [A, C, B].as_slice()),
-    ] {
-        assert_eq!(rt; take_least(&mut queue, &mut due)?, time);
-        assert_eq!(rt; due.as_slice(), handles);
-    }
-    assert_eq!(rt; take_first(&mut queue), None);
-    Ok(())
-}
-
-/// The next of a fixed sequence that looks random.
-fn next_random(seed: u64) -> u64 {
-    seed.wrapping_mul(6_364_136_223_846_793_005)
-        .wrapping_add(1_442_695_040_888_963_407)
-}
-
-/// A queue, and a list of its pairs that is sorted from the last to the first.
-#[derive(Drop)]
-struct Twins {
-    queue: Queue,
-    list: Vec<Pair>,
-}
-
-fn put_in_both(twins: &mut Twins, pair: Pair) -> Result<(), Memory> {
-    put(&mut twins.queue, pair)?;
-    twins.list.push(pair)?;
-    twins.list.sort_unstable();
-    twins.list.reverse();
-    Ok(())
-}
-
-/// Puts a pair in, or takes the first, as the seed says. Answers what was taken of each, and the number of both.
-fn step(twins: &mut Twins, seed: u64, birth: u64) -> Result<[(Option<Pair>, usize); 2], Memory> {
-    let mut taken = [None, None];
-    if seed >> 62 == 0 {
-        taken = [take_first(&mut twins.queue), twins.list.pop()];
-    } else {
-        let slot = (seed >> 8) as usize;
-        put_in_both(twins, ((seed >> 40) % 50, Handle { birth, slot }))?;
-    }
-    let [of_queue, of_list] = taken;
-    Ok([(of_queue, twins.queue.len()), (of_list, twins.list.len())])
-}
-
-#[test]
-fn a_queue_is_a_sorted_list(rt: HostRuntime) -> Result<(), Fail> {
-    let mut twins = Twins {
-        queue: Queue::new(rt.alloc()),
-        list: Vec::new(rt.alloc()),
-    };
-    let mut seed = 1;
-    for birth in 0..600 {
-        seed = next_random(seed);
-        let [of_queue, of_list] = step(&mut twins, seed, birth)?;
-        assert_eq!(rt; of_queue, of_list, "at {birth}");
-    }
-    Ok(())
-}
-
-/// Some thousand pairs, of which many have one time.
-fn many_pairs(alloc: Global) -> Result<Vec<Pair>, Memory> {
-    let mut pairs = Vec::new(alloc);
-    let mut seed = 1u64;
-    for birth in 0..2000u64 {
-        seed = next_random(seed);
-        let slot = (seed >> 50) as usize;
-        pairs.push(((seed >> 40) % 300, Handle { birth, slot }))?;
-    }
-    Ok(pairs)
-}
-
-/// Puts all pairs in.
-fn put_all(queue: &mut Queue, pairs: &[Pair]) -> Result<(), Memory> {
-    for pair in pairs {
-        put(queue, *pair)?;
-    }
-    Ok(())
-}
-
-/// Takes that many pairs one by one.
-fn take_some(queue: &mut Queue, count: usize, taken: &mut Vec<Pair>) -> Result<(), Memory> {
-    for _ in 0..count {
-        if let Some(pair) = take_first(queue) {
-            taken.push(pair)?;
+/// Adds a thousand pairs, of which many have one time, and answers whether that succeeded. Their
+/// births are odd, or else even.
+fn add_pairs(pairs: &mut Vec<Pair>, odd: u8) -> bool {
+    for number in 0..1000usize {
+        let time = (number * 7919 % 300) as u64;
+        let birth = number as u64 * 2 + odd as u64;
+        let slot = 1000 - number;
+        if pairs.push((time, Handle { birth, slot })).is_err() {
+            return false;
         }
     }
-    Ok(())
+    true
+}
+
+/// Makes room for each pair and puts it in, and answers whether that succeeded.
+fn put_all(queue: &mut Queue, pairs: &[Pair]) -> bool {
+    for (time, handle) in pairs {
+        if queue.reserve(1).is_err() {
+            return false;
+        }
+        queue.put_reserved(*time, *handle);
+    }
+    true
+}
+
+/// Takes a hundred pairs one by one.
+fn take_some(queue: &mut Queue, taken: &mut Vec<Pair>) -> bool {
+    for _ in 0..100 {
+        let least = queue.least();
+        let first = queue.take_first();
+        match first {
+            Some(pair) if least == first && taken.push(pair).is_ok() => {}
+            _ => return false,
+        }
+    }
+    true
 }
 
 /// Takes the pairs of the least time.
-fn take_time(
-    queue: &mut Queue,
-    due: &mut Batch<Handle>,
-    taken: &mut Vec<Pair>,
-) -> Result<(), Memory> {
+fn take_time(queue: &mut Queue, due: &mut Batch<Handle>, taken: &mut Vec<Pair>) -> bool {
     due.clear();
-    if let Some(time) = take_least(queue, due)? {
-        for handle in due.as_slice() {
-            taken.push((time, *handle))?;
+    if due.reserve(queue.len()).is_err() {
+        return false;
+    }
+    let Some(time) = queue.take_least(due) else {
+        return true;
+    };
+    for handle in due.as_slice() {
+        if taken.push((time, *handle)).is_err() {
+            return false;
         }
     }
-    Ok(())
+    true
 }
 
-/// What a queue gives that had these pairs twice and keeps those whose births are odd: the first hundred one by one, and then time by time.
-fn drained(alloc: Global, pairs: &[Pair]) -> Result<Vec<Pair>, Memory> {
-    let mut queue = queue_of(alloc, pairs)?;
-    put_all(&mut queue, pairs)?;
-    queue.compact(&|_time: u64, handle: Handle| handle.birth % 2 == 1);
-    let mut taken = Vec::new(alloc);
-    take_some(&mut queue, 100, &mut taken)?;
-    let mut due = Batch::new(alloc);
-    for _ in 0..queue.len() {
-        take_time(&mut queue, &mut due, &mut taken)?;
+/// Takes all pairs, those of one time together.
+fn take_times(queue: &mut Queue, due: &mut Batch<Handle>, taken: &mut Vec<Pair>) -> bool {
+    for _ in 0..=queue.len() {
+        if !take_time(queue, due, taken) {
+            return false;
+        }
     }
-    Ok(taken)
+    true
+}
+
+/// Whether a queue is a sorted list of which the first hundred pairs are taken one by one, and then
+/// those of one time together, if it was given pairs of odd births twice, and others that it drops.
+fn is_sorted(
+    queue: &mut Queue,
+    odd: &mut Vec<Pair>,
+    even: &mut Vec<Pair>,
+    due: &mut Batch<Handle>,
+    taken: &mut Vec<Pair>,
+) -> bool {
+    let are_put = add_pairs(odd, 1)
+        && add_pairs(even, 0)
+        && put_all(queue, odd)
+        && put_all(queue, even)
+        && put_all(queue, odd);
+    queue.compact(&|_time: u64, handle: Handle| handle.birth % 2 == 1);
+    odd.sort_unstable();
+    are_put
+        && take_some(queue, taken)
+        && take_times(queue, due, taken)
+        && taken.as_slice() == odd.as_slice()
+        && queue.take_first().is_none()
 }
 
 #[test]
-fn a_queue_of_thousands_is_a_sorted_list(rt: HostRuntime) -> Result<(), Fail> {
-    let mut pairs = many_pairs(rt.alloc())?;
-    let taken = drained(rt.alloc(), pairs.as_slice())?;
-    pairs.retain(|pair| pair.1.birth % 2 == 1);
-    pairs.sort_unstable();
-    assert_eq!(rt; taken.len(), 1000);
-    assert_eq!(rt; taken.as_slice(), pairs.as_slice());
-    Ok(())
+fn a_queue_is_a_sorted_list(rt: HostRuntime) {
+    let alloc = rt.alloc();
+    assert!(rt;
+        is_sorted(
+            &mut Queue::new(alloc),
+            &mut Vec::new(alloc),
+            &mut Vec::new(alloc),
+            &mut Batch::new(alloc),
+            &mut Vec::new(alloc),
+        )
+    );
 }
