@@ -1,25 +1,40 @@
 //! Lists and boxes.
 
-use crate::memory::ample;
-use anyhow::{Result, bail};
-use dsde_test_data::{Value, check_names, items_at, number_at, text_at, word_at};
+use crate::calls::{Answer, truth};
 use dsde_values::{Boxed, Memory, Seq, Text};
 use std::alloc::Global;
+use std::mem;
 
-/// What differs in a table of `edits`, which change a list of bytes one after the other, each with
-/// what it `gives`.
-pub(crate) fn differences(alloc: Global, table: &Value) -> Result<String> {
-    check_names(table, &["about", "name", "edits"])?;
-    let mut lines = String::new(alloc);
-    let mut list = Text::new(alloc);
-    for edit in items_at(table, "edits")? {
-        check_names(edit, &["edit", "text", "at", "gives"])?;
-        list = edited(alloc, list, edit)?;
-        if !is_so(&list, &text_at(alloc, edit, "gives")?) {
-            writeln!(lines, "  {edit}: another list")?;
-        }
+/// Changes a list of bytes, or answers whether it is this one.
+///
+/// The bytes of a text are pushed, the list is extended by it, one item is popped, one is set at the
+/// place of the first digit, or those from that place on are truncated; the list is remade from a
+/// `Vec`, or boxed and taken out.
+pub(crate) fn answer(
+    alloc: Global,
+    list: &mut Text,
+    word: &str,
+    text: &[u8],
+) -> Result<Answer, Memory> {
+    if word == "list" {
+        return Ok(truth(is_so(list, text)));
     }
-    Ok(lines)
+    change(alloc, list, word, text)?;
+    Ok(Answer::Done)
+}
+
+fn change(alloc: Global, list: &mut Text, word: &str, text: &[u8]) -> Result<(), Memory> {
+    match word {
+        "push" => return push_all(list, text),
+        "extend" => return list.extend_from_slice(text),
+        "box" => return put_into_box(alloc, list),
+        "pop" => drop_last(list),
+        "set" => set(list, place_of(text), text),
+        "truncate" => list.truncate(place_of(text)),
+        "remake" => remake(alloc, list),
+        _ => {}
+    }
+    Ok(())
 }
 
 /// Whether a list is these bytes, as each call says that looks at it.
@@ -28,24 +43,6 @@ fn is_so(list: &Text, bytes: &[u8]) -> bool {
         && list.len() == bytes.len()
         && list.is_empty() == bytes.is_empty()
         && list.get(1) == bytes.get(1)
-}
-
-/// The list behind a change: with a `text` pushed or extended by, with one item popped, with the
-/// items from a place on truncated, or one set at a place; remade from a `Vec`; boxed and taken out.
-fn edited(alloc: Global, mut list: Text, edit: &Value) -> Result<Text> {
-    let text = text_at(alloc, edit, "text")?;
-    let at = number_at(edit, "at")?.unwrap_or(0) as usize;
-    match word_at(edit, "edit")? {
-        "push" => ample(push_all(&mut list, &text))?,
-        "extend" => ample(list.extend_from_slice(&text))?,
-        "pop" => drop_last(&mut list),
-        "set" => set(&mut list, at, &text),
-        "truncate" => list.truncate(at),
-        "remake" => return Ok(Seq::from_vec(list.into_vec())),
-        "box" => return ample(boxed(alloc, list)),
-        word => bail!("{word}: no edit"),
-    }
-    Ok(list)
 }
 
 fn push_all(list: &mut Text, items: &[u8]) -> Result<(), Memory> {
@@ -59,20 +56,32 @@ fn drop_last(list: &mut Text) {
     let _last = list.pop();
 }
 
-fn set(list: &mut Text, at: usize, items: &[u8]) {
-    if let (Some(place), Some(item)) = (list.get_mut(at), items.first()) {
+/// The number that the first byte is as a digit.
+fn place_of(text: &[u8]) -> usize {
+    match text.first() {
+        Some(digit) => digit.saturating_sub(b'0') as usize,
+        None => 0,
+    }
+}
+
+fn set(list: &mut Text, at: usize, text: &[u8]) {
+    if let (Some(place), Some(item)) = (list.get_mut(at), text.last()) {
         *place = *item;
     }
 }
 
-/// A list that went into a box and came out; a copy of what is inside, where the box is short.
-fn boxed(alloc: Global, list: Text) -> Result<Text, Memory> {
-    let boxed = Boxed::new(alloc, list)?;
+fn remake(alloc: Global, list: &mut Text) {
+    let own = mem::replace(list, Text::new(alloc));
+    *list = Seq::from_vec(own.into_vec());
+}
+
+/// Puts the list into a box and takes it out; nothing is left where the box is short.
+fn put_into_box(alloc: Global, list: &mut Text) -> Result<(), Memory> {
+    let boxed = Boxed::new(alloc, mem::replace(list, Text::new(alloc)))?;
     let inside = Text::from_slice(alloc, boxed.get().as_slice())?;
     let out = boxed.into_inner();
-    Ok(if inside.as_slice() == out.as_slice() {
-        out
-    } else {
-        Text::new(alloc)
-    })
+    if inside.as_slice() == out.as_slice() {
+        *list = out;
+    }
+    Ok(())
 }

@@ -1,68 +1,51 @@
-//! `dsde_test_calls`: gives the texts of tables to single calls on values, types, paths, names, decimals,
-//! lists, entries and inputs, and compares what they answer with what is wanted.
+//! `dsde_test_calls`: gives the lines of files to single calls, and writes what they answer.
 //!
-//! The words after the program's name are names of files of tables. It writes a line for each table,
-//! and one for each answer that differs.
+//! The words after the program's name are names of files. A file that begins with an empty line has lines that ask for
+//! something; before those of others stands the text of a model, with an empty line behind it. Lines that ask for nothing
+//! are written as they stand.
+//!
+//! In a text `|` stands for a line feed and `^` for a carriage return, and `<9 TEXT>` for nine times that text.
 #![tactic(auto)]
 
-mod answers;
-mod cases;
-mod decimals;
+mod asked;
+mod calls;
+mod events;
 mod inputs;
-mod kinds;
 mod lists;
-mod memory;
 mod names;
+mod orders;
 mod paths;
-mod places;
 mod survivals;
+mod text;
 mod types;
 mod values;
 
-use anyhow::{Context, Result, bail};
-use dsde_test_data::{Value, check_names, items_at, read_cases, word_at};
+use dsde_values::Memory;
 use std::alloc::Global;
-use std::env;
 use std::rt::Files;
+use std::{env, fs, io};
 
-fn main(rt: HostRuntime) -> Result<()> {
+fn main(rt: HostRuntime) -> io::Result<()> {
     for name in env::args(&rt)?.skip(1) {
-        show_file(&rt, &name).context(format_args!("{name}"))?;
+        show(&rt, &name)?;
     }
     Ok(())
 }
 
-/// Writes a line for each table of a file, and one for each answer that differs.
-///
-/// The types of its tables stand under `definitions`, in lists that have names.
-fn show_file(rt: &(impl Files + Print + AllocGlobal), name: &str) -> Result<()> {
-    let file = read_cases(rt, name)?;
-    check_names(&file, &["definitions", "tables"])?;
-    for table in items_at(&file, "tables")? {
-        let name = word_at(table, "name")?;
-        let lines = differences(rt.alloc(), table, &file).context(format_args!("{name}"))?;
-        if lines.is_empty() {
-            println!(rt; "{name}: ok")?;
-        } else {
-            print!(rt; "{name}:\n{lines}")?;
-        }
+/// Writes what comes of the lines of a file.
+fn show(rt: &(impl Files + Print + AllocGlobal), name: &str) -> io::Result<()> {
+    let file = fs::read_to_string(rt, name)?;
+    match answers(rt.alloc(), file.as_str()) {
+        Ok(answers) => print!(rt; "{answers}"),
+        Err(Memory) => println!(rt; "no memory"),
     }
-    Ok(())
 }
 
-/// What differs from what a table wants, a line for each answer; the table says by `about` what it
-/// is a table of.
-fn differences(alloc: Global, table: &Value, file: &Value) -> Result<String> {
-    match word_at(table, "about")? {
-        "cases" => cases::differences(alloc, table),
-        "values" => values::differences(alloc, table, file),
-        "types" => types::differences(alloc, table),
-        "paths" => paths::differences(alloc, table),
-        "names" => names::differences(alloc, table),
-        "decimals" => decimals::differences(alloc, table),
-        "lists" => lists::differences(alloc, table),
-        "survivals" => survivals::differences(alloc, table),
-        "inputs" => inputs::differences(alloc, table),
-        about => bail!("{about}: nothing that a table is about"),
+fn answers(alloc: Global, file: &str) -> Result<String, Memory> {
+    let mut answers = String::new(alloc);
+    match file.strip_prefix('\n') {
+        Some(lines) => calls::append_all(alloc, &mut answers, lines)?,
+        None => asked::append_all(alloc, &mut answers, file)?,
     }
+    Ok(answers)
 }

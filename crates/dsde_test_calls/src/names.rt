@@ -1,55 +1,51 @@
 //! Names: their order.
 
-use crate::memory::ample;
-use crate::places::spelled;
-use anyhow::{Context, Result};
-use dsde_test_data::{Value, check_names, items_at};
-use dsde_values::{Name, compare_names};
+use crate::calls::Answer;
+use dsde_values::{Memory, Name, Stem, compare_names};
 use std::alloc::Global;
 use std::cmp::Ordering;
 
-/// What differs in a table of words: those that are `ordered` are names in this order.
-pub(crate) fn differences(alloc: Global, table: &Value) -> Result<String> {
-    check_names(table, &["about", "name", "ordered"])?;
-    let mut lines = String::new(alloc);
-    let names = names_of(alloc, items_at(table, "ordered")?)?;
-    tell_orders(&mut lines, &names)?;
-    Ok(lines)
+/// How many of the names that are kept come before this one, which is kept too.
+pub(crate) fn keep(alloc: Global, names: &mut Vec<Name>, word: &str) -> Result<Answer, Memory> {
+    let name = copy_of(alloc, word)?;
+    let count = count_before(names, &name);
+    names.push(name)?;
+    Ok(Answer::Number(count))
 }
 
-/// Copies of the names that words spell.
-fn names_of(alloc: Global, words: &[Value]) -> Result<Vec<Name>> {
-    let mut names = Vec::new(alloc);
-    for word in words {
-        let name = name_of(alloc, word)?;
-        names.push(ample(name.copy(alloc))?)?;
-    }
-    Ok(names)
+/// A copy of the name that a word spells.
+fn copy_of(alloc: Global, word: &str) -> Result<Name, Memory> {
+    let name = name_of(alloc, word)?;
+    name.copy(alloc)
 }
 
-/// The name that a word spells: the last of the path that ends with it.
-pub(crate) fn name_of(alloc: Global, word: &Value) -> Result<Name> {
-    let word = word.as_str().context("a name: no string")?;
-    let text = format!(in alloc; "root/{word}")?;
-    let path = ample(spelled(alloc, text.as_bytes()))?;
-    path.and_then(|mut path| path.names.pop())
-        .context("no name")
+/// The name that a word spells.
+pub(crate) fn name_of(alloc: Global, word: &str) -> Result<Name, Memory> {
+    let (stem, index) = word.split_once('[').unwrap_or((word, ""));
+    let index = index.split_once(']').unwrap_or((index, "")).0;
+    Ok(Name {
+        stem: Stem::from_slice(alloc, stem.as_bytes())?,
+        index: index.parse::<u64>().ok(),
+    })
 }
 
-fn tell_orders(lines: &mut String, names: &[Name]) -> Result<()> {
-    for (index, name) in names.iter().enumerate() {
-        for (place, other) in names.iter().enumerate() {
-            if !compare_so(name, other, index.cmp(&place)) {
-                writeln!(lines, "  {index} and {place}: another order")?;
-            }
+/// How many of the names come before this one, as both ways to compare them say.
+fn count_before(names: &[Name], name: &Name) -> u64 {
+    let mut count = 0u64;
+    for other in names {
+        if are_so(other, name, Ordering::Less)
+            && are_so(name, other, Ordering::Greater)
+            && are_so(other, other, Ordering::Equal)
+        {
+            count = count.saturating_add(1);
         }
     }
-    Ok(())
+    count
 }
 
 /// Whether two names are ordered so, and are the same exactly where they are equal, as each call
 /// says.
-fn compare_so(name: &Name, other: &Name, order: Ordering) -> bool {
+fn are_so(name: &Name, other: &Name, order: Ordering) -> bool {
     compare_names(name, other) == order
         && name.cmp(other) == order
         && name.is_same(other) == order.is_eq()

@@ -1,63 +1,59 @@
 //! Paths: their spelling and their order.
 
-use crate::memory::ample;
-use crate::places::{difference, spelled};
-use anyhow::Result;
-use dsde_test_data::{Value, bytes_of, check_names, items_at};
-use dsde_values::{Path, compare_paths};
+use crate::calls::{Answer, truth};
+use dsde_values::{Memory, Path, ReadPath, Text, compare_paths, read_path, write_path};
 use std::alloc::Global;
 
-/// What differs in a table of texts: those that are `ordered` spell paths in this order, of which
-/// that of the whole model is `root`; those that are `refused` spell none.
-pub(crate) fn differences(alloc: Global, table: &Value) -> Result<String> {
-    check_names(table, &["about", "name", "ordered", "refused"])?;
-    let mut lines = String::new(alloc);
-    let paths = ordered(alloc, &mut lines, table)?;
-    tell_orders(&mut lines, &paths)?;
-    tell_refused(alloc, &mut lines, table)?;
-    Ok(lines)
+/// How many of the paths that are kept come before the one that a text spells, which is kept too.
+pub(crate) fn keep(alloc: Global, paths: &mut Vec<Path>, text: &[u8]) -> Result<Answer, Memory> {
+    match read_path(alloc, text) {
+        Ok(path) => keep_it(alloc, paths, path, text),
+        Err(ReadPath::NotAPath) => Ok(truth(false)),
+        Err(ReadPath::Memory) => Err(Memory),
+    }
 }
 
-/// The paths; adds a line for each text that is none, or is written otherwise.
-fn ordered(alloc: Global, lines: &mut String, table: &Value) -> Result<Vec<Path>> {
-    let mut paths = Vec::new(alloc);
-    for text in items_at(table, "ordered")? {
-        match path_of(alloc, text)? {
-            Ok(path) => paths.push(path)?,
-            Err(what) => writeln!(lines, "  {text}: {what}")?,
+fn keep_it(
+    alloc: Global,
+    paths: &mut Vec<Path>,
+    path: Path,
+    text: &[u8],
+) -> Result<Answer, Memory> {
+    let answer = told(alloc, paths, &path, text);
+    paths.push(path)?;
+    answer
+}
+
+/// How many of the paths come before this one, or what is otherwise than it should: how it is
+/// written, or whether it is the root.
+fn told(alloc: Global, paths: &[Path], path: &Path, text: &[u8]) -> Result<Answer, Memory> {
+    if !is_written(alloc, path, text)? {
+        return Ok(Answer::Word("written otherwise"));
+    }
+    if is_root(alloc, path)? != (text == b"root".as_slice()) {
+        return Ok(Answer::Word("another root"));
+    }
+    Ok(Answer::Number(count_before(paths, path)))
+}
+
+fn is_written(alloc: Global, path: &Path, text: &[u8]) -> Result<bool, Memory> {
+    let mut written = Text::new(alloc);
+    write_path(path, &mut written)?;
+    Ok(written.as_slice() == text)
+}
+
+fn is_root(alloc: Global, path: &Path) -> Result<bool, Memory> {
+    let root = Path::root(alloc)?;
+    Ok(compare_paths(path, &root).is_eq())
+}
+
+/// How many of the paths come before this one, as both ways to compare them say.
+fn count_before(paths: &[Path], path: &Path) -> u64 {
+    let mut count = 0u64;
+    for other in paths {
+        if compare_paths(other, path).is_lt() && compare_paths(path, other).is_gt() {
+            count = count.saturating_add(1);
         }
     }
-    Ok(paths)
-}
-
-/// The path that a text spells, or what differs.
-fn path_of(alloc: Global, text: &Value) -> Result<Result<Path, &'static str>> {
-    let text = bytes_of(alloc, text)?;
-    ample(difference(alloc, &text))
-}
-
-fn tell_orders(lines: &mut String, paths: &[Path]) -> Result<()> {
-    for (index, path) in paths.iter().enumerate() {
-        for (place, other) in paths.iter().enumerate() {
-            if compare_paths(path, other) != index.cmp(&place) {
-                writeln!(lines, "  {index} and {place}: another order")?;
-            }
-        }
-    }
-    Ok(())
-}
-
-/// Adds a line for each text that is to be refused and is not.
-fn tell_refused(alloc: Global, lines: &mut String, table: &Value) -> Result<()> {
-    for text in items_at(table, "refused")? {
-        if is_path(alloc, text)? {
-            writeln!(lines, "  {text}: a path")?;
-        }
-    }
-    Ok(())
-}
-
-fn is_path(alloc: Global, text: &Value) -> Result<bool> {
-    let text = bytes_of(alloc, text)?;
-    Ok(ample(spelled(alloc, &text))?.is_some())
+    count
 }

@@ -1,145 +1,84 @@
 //! Values of a type, read from texts.
 
-use crate::kinds::{Kind, difference, spelled};
-use crate::memory::ample;
-use crate::types::{definitions_at, type_of, types_of};
-use anyhow::{Context, Result};
-use dsde_test_data::{Value as Data, bytes_of, check_names, items_at, text_at, word_at};
-use dsde_values::{Value, equal, has_type};
+use crate::calls::{Answer, Kept, truth};
+use crate::types::type_of;
+use dsde_values::{
+    Memory, ReadValue, Text, Ty, Types, Value, copy_value, equal, has_type, is_lawful, read_value,
+    write_value,
+};
 use std::alloc::Global;
 
-/// What differs in a table of texts of a type, `over` the definitions of this name.
-///
-/// Those that are `accepted` spell different values, also where the text goes on with what is
-/// `behind`; those that are `refused` begin with none. Of each value are `also` all of these types,
-/// and `never` any of those, over the definitions of the name `seen_over`.
-pub(crate) fn differences(alloc: Global, table: &Data, file: &Data) -> Result<String> {
-    check_names(
-        table,
-        &[
-            "about",
-            "name",
-            "over",
-            "type",
-            "behind",
-            "accepted",
-            "refused",
-            "seen_over",
-            "also",
-            "never",
-        ],
-    )?;
-    let mut lines = String::new(alloc);
-    let values = values_of(alloc, &mut lines, table, file)?;
-    tell_equal(&mut lines, &values)?;
-    if table.get("seen_over").is_some() {
-        tell_types(alloc, &mut lines, table, file, &values)?;
+/// How many bytes the value has with which a text begins, which is kept; none where the table of
+/// types is not lawful.
+pub(crate) fn keep(alloc: Global, kept: &mut Kept, text: &[u8]) -> Result<Answer, Memory> {
+    if !is_lawful(&kept.types) {
+        return Ok(truth(false));
     }
-    Ok(lines)
+    match read_value(alloc, text, &kept.ty, &kept.types) {
+        Ok((value, size)) => keep_it(alloc, kept, value, &text[..size]),
+        Err(ReadValue::NotAValue) => Ok(truth(false)),
+        Err(ReadValue::Memory) => Err(Memory),
+    }
 }
 
-/// The values that are accepted; adds a line for each text that is read otherwise than is wanted.
-fn values_of(alloc: Global, lines: &mut String, table: &Data, file: &Data) -> Result<Vec<Value>> {
-    let kind = kind_of(
-        alloc,
-        definitions_at(file, word_at(table, "over")?)?,
-        word_at(table, "type")?,
-    )?;
-    tell_refused(alloc, lines, table, &kind)?;
-    accepted(alloc, lines, table, &kind)
+fn keep_it(alloc: Global, kept: &mut Kept, value: Value, text: &[u8]) -> Result<Answer, Memory> {
+    let answer = told(alloc, kept, &value, text);
+    kept.values.push(value)?;
+    answer
 }
 
-/// The type that is written so, and its table.
-fn kind_of(alloc: Global, defs: &[Data], words: &str) -> Result<Kind> {
-    let ty = type_of(alloc, words, defs)?;
-    let types = types_of(alloc, defs)?;
-    Ok(Kind { ty, types })
+/// How many bytes a value has, or what is otherwise than it should: its type, how it compares with
+/// those that are kept, or its copy.
+fn told(alloc: Global, kept: &Kept, value: &Value, text: &[u8]) -> Result<Answer, Memory> {
+    if !has_type(value, &kept.ty, &kept.types) {
+        return Ok(Answer::Word("of another type"));
+    }
+    if is_among(&kept.values, value) {
+        return Ok(Answer::Word("equal to another"));
+    }
+    if !is_copied(alloc, value, &kept.types, text)? {
+        return Ok(Answer::Word("copied or written otherwise"));
+    }
+    Ok(Answer::Number(text.len() as u64))
 }
 
-fn accepted(alloc: Global, lines: &mut String, table: &Data, kind: &Kind) -> Result<Vec<Value>> {
-    let behind = text_at(alloc, table, "behind")?;
-    let mut values = Vec::new(alloc);
-    for text in items_at(table, "accepted")? {
-        match value_of(alloc, text, &behind, kind)? {
-            Ok(value) => values.push(value)?,
-            Err(what) => writeln!(lines, "  {text}: {what}")?,
+/// Whether a value is equal to one of these.
+fn is_among(values: &[Value], value: &Value) -> bool {
+    for other in values {
+        if equal(value, other) || equal(other, value) {
+            return true;
         }
     }
-    Ok(values)
+    false
 }
 
-/// The value that a text spells where this stands behind it, or what differs.
-fn value_of(
-    alloc: Global,
-    text: &Data,
-    behind: &[u8],
-    kind: &Kind,
-) -> Result<Result<Value, &'static str>> {
-    let text = bytes_of(alloc, text)?;
-    ample(difference(alloc, &text, behind, kind))
+/// Whether the copy of a value is equal to it, and is written so.
+fn is_copied(alloc: Global, value: &Value, types: &Types, text: &[u8]) -> Result<bool, Memory> {
+    match copy_value(alloc, value) {
+        Ok(copy) if equal(&copy, value) => is_written(alloc, &copy, types, text),
+        Ok(_) => Ok(false),
+        Err(Memory) => Err(Memory),
+    }
 }
 
-/// Adds a line for each text that is to be refused and is not.
-fn tell_refused(alloc: Global, lines: &mut String, table: &Data, kind: &Kind) -> Result<()> {
-    for text in items_at(table, "refused")? {
-        if begins_with_value(alloc, text, kind)? {
-            writeln!(lines, "  {text}: a value")?;
+fn is_written(alloc: Global, value: &Value, types: &Types, text: &[u8]) -> Result<bool, Memory> {
+    let mut written = Text::new(alloc);
+    write_value(value, types, &mut written)?;
+    Ok(written.as_slice() == text)
+}
+
+/// How many of the values that are kept have this type.
+pub(crate) fn having(alloc: Global, kept: &Kept, words: &str) -> Result<Answer, Memory> {
+    let ty = type_of(alloc, words)?;
+    Ok(Answer::Number(count_of(&kept.values, &ty, &kept.types)))
+}
+
+fn count_of(values: &[Value], ty: &Ty, types: &Types) -> u64 {
+    let mut count = 0u64;
+    for value in values {
+        if has_type(value, ty, types) {
+            count = count.saturating_add(1);
         }
     }
-    Ok(())
-}
-
-fn begins_with_value(alloc: Global, text: &Data, kind: &Kind) -> Result<bool> {
-    let text = bytes_of(alloc, text)?;
-    Ok(ample(spelled(alloc, &text, kind))?.is_some())
-}
-
-/// Adds a line for each two values that are equal, or one that is not equal to itself.
-fn tell_equal(lines: &mut String, values: &[Value]) -> Result<()> {
-    for (index, value) in values.iter().enumerate() {
-        for (place, other) in values.iter().enumerate() {
-            if equal(value, other) != (index == place) {
-                writeln!(lines, "  {index} and {place}: equal, or not")?;
-            }
-        }
-    }
-    Ok(())
-}
-
-/// Adds a line for each type that the values have and are not to have, or the other way round.
-fn tell_types(
-    alloc: Global,
-    lines: &mut String,
-    table: &Data,
-    file: &Data,
-    values: &[Value],
-) -> Result<()> {
-    let defs = definitions_at(file, word_at(table, "seen_over")?)?;
-    tell_having(alloc, lines, items_at(table, "also")?, true, defs, values)?;
-    tell_having(alloc, lines, items_at(table, "never")?, false, defs, values)
-}
-
-fn tell_having(
-    alloc: Global,
-    lines: &mut String,
-    words: &[Data],
-    wanted: bool,
-    defs: &[Data],
-    values: &[Value],
-) -> Result<()> {
-    for word in words {
-        let words = word.as_str().context("a type that is no string")?;
-        let kind = kind_of(alloc, defs, words)?;
-        if !all_have(values, &kind, wanted) {
-            writeln!(lines, "  {word}: not so")?;
-        }
-    }
-    Ok(())
-}
-
-/// Whether all values have a type, or none has.
-fn all_have(values: &[Value], kind: &Kind, wanted: bool) -> bool {
-    values
-        .iter()
-        .all(|value| has_type(value, &kind.ty, &kind.types) == wanted)
+    count
 }

@@ -1,7 +1,7 @@
 use Rattle.std.proofs.Common.{◌≡◌, true, false, List, [], ◌∷◌, refl}
 use Rattle.std.specs.List.{AllByRecursion}
 use Rattle.dsde_drawing.specs.Drawing.{IsOrderly, IsPassed}
-use Rattle.dsde_test_orders.proofs.tests.order_of_numbers.Goals as goal
+use Rattle.dsde_test_calls.proofs.orders.drawn.Goals as goal
 
 none : {A : Type 0} (list : List A) → AllByRecursion (λ other. false ≡ false) list
 none [] = tt

@@ -4,7 +4,7 @@ use Rattle.std.proofs.lemmas.List.Elements.{All-nil, All-cons}
 use Rattle.dsde_values.specs.declared.types.Field.{Field}
 use Rattle.dsde_values.specs.declared.types.Ty.TheVariants as ty
 use Rattle.dsde_words.specs.Words.{is_word}
-use Rattle.dsde_test_calls.proofs.answers.two_ports.Goals as goal
+use Rattle.dsde_test_calls.proofs.inputs.two_ports.Goals as goal
 
 abbrev x : Field
 x = record { name = 120 ∷ []; ty = ty.Int }

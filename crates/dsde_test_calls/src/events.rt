@@ -1,6 +1,6 @@
 //! Lines read back.
 
-use crate::asked::bytes_of;
+use crate::text::bytes_of;
 use dsde_program::Program;
 use dsde_trace::{Event, write_event};
 use dsde_trace_reading::{ReadEvent, read_event};
@@ -78,17 +78,23 @@ pub(crate) fn append_changed(
     program: &Program,
 ) -> Result<(), Memory> {
     let mut bytes = bytes_of(alloc, line)?;
+    let count = changeable(alloc, &mut bytes, program)?;
     let size = bytes.len();
-    let mut count = 0u64;
-    for place in 0..size {
-        let byte = put(&mut bytes, place, b'~');
-        if is_line(alloc, &bytes, program)? {
-            count = count.saturating_add(1);
-        }
-        put(&mut bytes, place, byte);
-    }
     writeln!(answers, "{count} of {size}: {line}")?;
     Ok(())
+}
+
+/// How many of the bytes can be a tilde so that they still are a line.
+fn changeable(alloc: Global, bytes: &mut [u8], program: &Program) -> Result<u64, Memory> {
+    let mut count = 0u64;
+    for place in 0..bytes.len() {
+        let byte = put(bytes, place, b'~');
+        if is_line(alloc, bytes, program)? {
+            count = count.saturating_add(1);
+        }
+        put(bytes, place, byte);
+    }
+    Ok(count)
 }
 
 /// Puts a byte at a place, and hands back the one that stood there.

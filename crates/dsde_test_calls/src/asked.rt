@@ -1,10 +1,14 @@
-//! What a file asks for.
+//! Lines of traces, read back and written again over a model.
+//!
+//! - `event LINE`: the line that is written of the event whose line that is, behind the numbers of its
+//!   model and its port; or that it is the line of none.
+//! - `changed LINE`: how many of its bytes can be replaced by a tilde so that it still is a line.
 //!
 //! What is made of a model is not dropped: the program ends soon.
 
 ghost use Rattle.dsde_language.specs.Right.{IsRight};
 
-use crate::lines::{append_changed, append_event};
+use crate::events::{append_changed, append_event};
 use dsde_cli_verdict::read_model;
 use dsde_program::{Program, resolve};
 use dsde_syntax::Model;
@@ -12,20 +16,16 @@ use dsde_values::Memory;
 use std::alloc::Global;
 use std::mem;
 
-/// What comes of the lines behind the model and the empty line.
-pub(crate) fn answers(alloc: Global, file: &str) -> Result<String, Memory> {
-    let mut answers = String::new(alloc);
+/// Appends what comes of the lines behind a model and an empty line.
+pub(crate) fn append_all(alloc: Global, answers: &mut String, file: &str) -> Result<(), Memory> {
     let (text, asked) = file.split_once("\n\n").unwrap_or((file, ""));
     let read = read_model(alloc, text.as_bytes());
     let appended = match &read {
-        Ok(model) => append_answers(alloc, &mut answers, model, asked),
-        Err(_) => append_line(&mut answers, "a model that is not accepted"),
+        Ok(model) => append_answers(alloc, answers, model, asked),
+        Err(_) => append_line(answers, "a model that is not accepted"),
     };
     mem::forget(read);
-    match appended {
-        Ok(()) => Ok(answers),
-        Err(Memory) => Err(Memory),
-    }
+    appended
 }
 
 /// Appends what comes of the lines behind a model.
@@ -76,16 +76,6 @@ fn append_answer(
 
 /// Appends a line as it stands.
 fn append_line(answers: &mut String, line: &str) -> Result<(), Memory> {
-    answers.push_str(line)?;
-    answers.push('\n')?;
+    writeln!(answers, "{line}")?;
     Ok(())
-}
-
-/// The bytes of a text, in which `|` stands for a line feed.
-pub(crate) fn bytes_of(alloc: Global, text: &str) -> Result<Vec<u8>, Memory> {
-    let mut bytes = Vec::new(alloc);
-    for byte in text.as_bytes() {
-        bytes.push(if *byte == b'|' { b'\n' } else { *byte })?;
-    }
-    Ok(bytes)
 }

@@ -1,5 +1,0 @@
-//! Tests of orders that are drawn.
-#![tactic(auto)]
-
-#[cfg(test)]
-mod tests;
