@@ -38,15 +38,14 @@ pub struct Outcome {
 }
 
 fn are_same_vias(one: &[Via], other: &[Via]) -> bool {
-    if one.len() != other.len() {
-        return false;
-    }
-    for (own, other) in one.iter().zip(other) {
-        if own.id.0 != other.id.0 {
-            return false;
+    let mut index: usize = 0;
+    for via in one {
+        match other.get(index) {
+            Some(own) if own.id.0 == via.id.0 => index = index.saturating_add(1),
+            _ => return false,
         }
     }
-    true
+    index == other.len()
 }
 
 fn are_same(one: &Row, other: &Row) -> bool {

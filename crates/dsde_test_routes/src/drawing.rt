@@ -36,20 +36,14 @@ fn has(names: &[Name], name: &Name) -> bool {
     false
 }
 
-/// Adds copies of names.
-pub fn add_copies(alloc: Global, names: &[Name], all: &mut Seq<Name>) -> Result<(), Memory> {
-    for name in names {
-        all.push(name.copy(alloc)?)?;
-    }
-    Ok(())
-}
-
 /// The first component from this one on that is a network.
 fn inner(kids: &[WiredKid], first: usize) -> Option<&WiredKid> {
-    for (index, kid) in kids.iter().enumerate() {
+    let mut index: usize = 0;
+    for kid in kids {
         if index >= first && kid.below.is_some() {
             return Some(kid);
         }
+        index = index.saturating_add(1);
     }
     None
 }
@@ -75,7 +69,7 @@ impl Dice {
     }
 
     fn handle(&mut self) -> Handle {
-        self.births = self.births.wrapping_add(1);
+        self.births = self.births.saturating_add(1);
         Handle {
             birth: self.births,
             slot: self.below(7),

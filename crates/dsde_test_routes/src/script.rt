@@ -55,10 +55,12 @@ fn word_at<'w>(words: &[&'w str], index: usize) -> &'w str {
 
 fn names(alloc: Global, words: &[&str]) -> Result<Seq<Name>, Memory> {
     let mut names = Seq::new(alloc);
-    for (index, word) in words.iter().enumerate() {
-        if index > 0 {
+    let mut is_first = true;
+    for word in words {
+        if !is_first {
             names.push(named(alloc, *word)?)?;
         }
+        is_first = false;
     }
     Ok(names)
 }
@@ -116,7 +118,7 @@ fn worker(alloc: Global, index: u64, links: &mut Seq<Link>) -> Result<WiredKid, 
     Ok(WiredKid {
         name,
         handle: Handle {
-            birth: index.wrapping_add(1000),
+            birth: index.saturating_add(1000),
             slot: 0,
         },
         below: None,
