@@ -1,18 +1,21 @@
 //! `dsde_test_cases`: runs whole commands over memory, and compares how they end with what is wanted.
 //!
-//! The words after the program's name are names of files of cases. It writes a line for each case,
-//! which says `ok` or what differs, and then what `report` writes for some statuses by themselves.
+//! The words after the program's name are names of files of cases, or of models that two engines run. It
+//! writes a line for each case and each model, which says `ok` or what differs, and then what `report`
+//! writes for some statuses by themselves.
 #![tactic(auto)]
 
 mod compare;
+mod engines;
+mod left;
 mod run;
 mod statuses;
 
 use crate::compare::differences;
 use crate::run::run;
 use crate::statuses::show_statuses;
-use anyhow::{Context, Result};
-use dsde_test_data::{Value, check_names, items_at, read_cases, word_at};
+use anyhow::{Context, Result, anyhow};
+use dsde_test_data::{Value, check_names, items_at, number_at, read_cases, text_at, word_at};
 use std::alloc::Global;
 use std::env;
 use std::rt::Files;
@@ -26,13 +29,19 @@ fn main(rt: HostRuntime) -> Result<()> {
 
 /// Runs the cases of a file, and writes a line for each.
 ///
-/// The texts under `models` stand on the shelf of each case.
+/// The texts under `models` stand on the shelf of each case. A file without cases has `compared` models.
 fn run_file(rt: &(impl Files + Print + AllocGlobal), name: &str) -> Result<()> {
     let file = read_cases(rt, name)?;
-    check_names(&file, &["models", "cases"])?;
-    for case in items_at(&file, "cases")? {
+    check_names(&file, &["models", "cases", "compared"])?;
+    let is_compared = file.get("compared").is_some();
+    for case in items_at(&file, if is_compared { "compared" } else { "cases" })? {
         let name = word_at(case, "name")?;
-        let lines = run_case(rt.alloc(), case, &file).context(format_args!("{name}"))?;
+        let lines = if is_compared {
+            compared(rt.alloc(), case)
+        } else {
+            run_case(rt.alloc(), case, &file)
+        };
+        let lines = lines.context(format_args!("{name}"))?;
         if lines.is_empty() {
             println!(rt; "{name}: ok")?;
         } else {
@@ -74,4 +83,13 @@ fn run_case(alloc: Global, case: &Value, file: &Value) -> Result<String> {
     )?;
     let outcome = run(alloc, case, file)?;
     differences(alloc, case, &outcome)
+}
+
+/// Runs a `model` on an `input` by both engines, for at most so many `turns`: in what they differ.
+fn compared(alloc: Global, case: &Value) -> Result<String> {
+    check_names(case, &["name", "model", "input", "turns"])?;
+    let turns = u16::try_from(number_at(case, "turns")?.unwrap_or(0))?;
+    let text = text_at(alloc, case, "model")?;
+    let input = text_at(alloc, case, "input")?;
+    engines::differences(alloc, &text, &input, turns).map_err(|_memory| anyhow!("memory ran out"))
 }

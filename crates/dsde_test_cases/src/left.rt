@@ -1,4 +1,6 @@
-//! Runs over memory, by two engines.
+//! What runs over memory leave, by two engines.
+//!
+//! What is made of a model is not dropped: the program ends soon.
 
 use dsde_io::{SureSink, SureSource};
 use dsde_plain::given::run::{Running, run_leaving, run_started};
@@ -6,29 +8,23 @@ use dsde_plain::{Plain, Sim};
 use dsde_trace::Pick;
 use dsde_values::{Memory, Seq, Text};
 use std::alloc::Global;
+use std::{mem, str};
 
 /// The most bytes that one read of an input gives.
 const LARGEST: usize = 16;
 
-/// What a run leaves: the lines that it wrote, and the text of its engine's tree, which is empty where it faulted.
-#[derive(Drop)]
-pub(crate) struct Outcome {
-    pub lines: Text,
-    pub tree: String,
-}
-
 /// What a run leaves from its start on an input, after at most so many turns, by the engine whose tree lies in
-/// a grove.
+/// a grove: the lines that it wrote and the tree, none where it faulted.
 pub(crate) fn by_grove(
     alloc: Global,
     own: &Running<'_>,
     input: &[u8],
     turns: u16,
-) -> Result<Outcome, Memory> {
+) -> Result<String, Memory> {
     let mut source = SureSource::new(Text::from_slice(alloc, input)?, LARGEST);
     let mut sink = SureSink::new(Text::new(alloc));
     let mut left = None;
-    let _how = run_leaving(
+    let how = run_leaving(
         alloc,
         own,
         Pick::All,
@@ -38,13 +34,16 @@ pub(crate) fn by_grove(
         &mut left,
     );
     let tree = match &left {
-        Some(core) if !core.spent() => text_of(alloc, &core.tree_of()?)?,
-        _ => String::new(alloc),
+        Some(core) if !core.spent() => Some(core.tree_of()),
+        _ => None,
     };
-    Ok(Outcome {
-        lines: Text::from_slice(alloc, sink.contents())?,
-        tree,
-    })
+    let told = match &tree {
+        Some(Ok(tree)) => told(alloc, &sink, Some(tree)),
+        Some(Err(Memory)) => Err(Memory),
+        None => told(alloc, &sink, None),
+    };
+    mem::forget((how, left, tree));
+    told
 }
 
 /// The same by the engine that walks the whole tree.
@@ -53,13 +52,13 @@ pub(crate) fn by_walking(
     own: &Running<'_>,
     input: &[u8],
     turns: u16,
-) -> Result<Outcome, Memory> {
+) -> Result<String, Memory> {
     let mut source = SureSource::new(Text::from_slice(alloc, input)?, LARGEST);
     let mut sink = SureSink::new(Text::new(alloc));
     let mut events = Seq::new(alloc);
     let started = Plain::start(alloc, own.program(), &mut events);
     let mut left = None;
-    let _how = run_started(
+    let how = run_started(
         alloc,
         started,
         events.as_slice(),
@@ -70,17 +69,19 @@ pub(crate) fn by_walking(
         &mut sink,
         &mut left,
     );
-    let tree = match &left {
-        Some(plain) if !plain.spent() => text_of(alloc, plain.tree())?,
-        _ => String::new(alloc),
+    let told = match &left {
+        Some(plain) if !plain.spent() => told(alloc, &sink, Some(plain.tree())),
+        _ => told(alloc, &sink, None),
     };
-    Ok(Outcome {
-        lines: Text::from_slice(alloc, sink.contents())?,
-        tree,
-    })
+    mem::forget((how, left, events));
+    told
 }
 
-/// The text of a tree, which tells all of it.
-fn text_of(alloc: Global, tree: &Sim) -> Result<String, Memory> {
-    Ok(format!(in alloc; "{tree:?}")?)
+/// The lines that were written, and the text of a tree, which tells all of it.
+fn told(alloc: Global, sink: &SureSink, tree: Option<&Sim>) -> Result<String, Memory> {
+    let lines = str::from_utf8(sink.contents()).unwrap_or("lines that are no text");
+    match tree {
+        Some(tree) => Ok(format!(in alloc; "{lines:?} {tree:?}")?),
+        None => Ok(format!(in alloc; "{lines:?}")?),
+    }
 }

@@ -9,7 +9,7 @@ use Rattle.dsde_plain.specs.given.sim_working.Working.{Working}
 use Rattle.dsde_trace.specs.given.sim_tree.Told.{Tells}
 use Rattle.dsde_trace.specs.given.sim_tree.Turn as turning
 use Rattle.dsde_plain.specs.given.run.lemmas_Beginning.{path-starts}
-use Rattle.dsde_test_plain.proofs.outcome.by_walking.Goals as goal
+use Rattle.dsde_test_cases.proofs.left.by_walking.Goals as goal
 
 pub run_started-how-requires-clause-starts : goal.run_started-how-requires-clause-starts
 run_started-how-requires-clause-starts c =
