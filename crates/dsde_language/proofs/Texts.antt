@@ -1,5 +1,5 @@
 -- What the rules say of small texts, computed: above each stands its text, and what is wrong with it, with line and
--- column. Many more stand with their verdicts in the tables of `dsde_test_refusals`.
+-- column. Many more stand with their verdicts in the tables of `dsde_test_cases`.
 use Rattle.std.proofs.Common.{◌≡◌, ℕ, true, false, List, [], ◌∷◌, Some, None, rules}
 use Rattle.std.specs.Prelude.{codes}
 use Rattle.dsde_syntax.specs.given.words.key_Key_TheVariants as key
