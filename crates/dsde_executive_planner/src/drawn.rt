@@ -41,13 +41,12 @@ impl Drawn {
         ensures entries { Becomes (with_entry at entry self.old.entries) result self.new.entries }
         ensures links { self.new.links ≡ self.old.links }
     {
-        if self.entries.has(&entry.name) {
-            return Err(EvalEnd::Fault(FaultKind::DuplicateComponent, at));
-        }
-        if self.entries.len() >= MOST {
+        if self.entries.len() >= MOST && !self.entries.has(&entry.name) {
             return Err(EvalEnd::Fault(FaultKind::Crowded, at));
         }
-        self.entries.put(entry)?;
+        if self.entries.put(entry)? {
+            return Err(EvalEnd::Fault(FaultKind::DuplicateComponent, at));
+        }
         Ok(())
     }
 

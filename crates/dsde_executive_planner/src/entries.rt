@@ -1,6 +1,6 @@
 //! The components that items have put into a structure, by name.
 
-ghost use Rattle.std.specs.Prelude.{◌≡◌, [], false, length, OnOk, IfOk};
+ghost use Rattle.std.specs.Prelude.{◌≡◌, [], false, length, Ok, IfOk};
 ghost use Rattle.dsde_executive_plans.specs.Layout.{inserted, is_there};
 
 use dsde_executive_plans::given::structure::Entry;
@@ -69,10 +69,10 @@ impl Entries {
         self.by_name.contains_key(name)
     }
 
-    /// Puts a component in whose name no other has. Without memory the components stay as they were.
-    pub(crate) fn put(&mut self, entry: Entry) -> Result<(), Memory>
-        requires { is_there entry.name self.old ≡ false }
-        ensures { OnOk result (self.new ≡ inserted entry self.old) }
+    /// Puts a component in, and says whether there was one of its name, whose place it took.
+    pub(crate) fn put(&mut self, entry: Entry) -> Result<bool, Memory>
+        ensures taken { IfOk result (λ taken. taken ≡ is_there entry.name self.old) }
+        ensures put { result ≡ Ok false → self.new ≡ inserted entry self.old }
     {
         orders_are_total();
         let Entry {
@@ -82,7 +82,7 @@ impl Entries {
             soft,
         } = entry;
         match self.by_name.insert(name, Chosen { model, args, soft }) {
-            Ok(_) => Ok(()),
+            Ok(before) => Ok(before.is_some()),
             Err(_) => Err(Memory),
         }
     }

@@ -1,13 +1,20 @@
-use Rattle.std.proofs.Common.{◌≡◌, ◌∙◌, false, List, ap, map, sym, subst}
-use Rattle.dsde_executive_plans.specs.given.structure.plan_Entry.{Entry}
+use Rattle.std.proofs.Common.{◌≡◌, ◌∙◌, false, ap, map, sym, is_some}
 use Rattle.dsde_executive_plans.specs.Layout.{inserted, is_there}
 use Rattle.dsde_executive_planner.specs.Entries.{entry_of}
-use Rattle.dsde_executive_planner.proofs.Naming.{put_in}
+use Rattle.dsde_executive_planner.proofs.Naming.{found, put_in}
 use Rattle.dsde_executive_planner.proofs.entries.Entries.put.Goals as goal
 
-pub returns-in-Ok : goal.returns-in-Ok
-returns-in-Ok c =
+pub returns-in-Ok-clause-taken : goal.returns-in-Ok-clause-taken
+returns-in-Ok-clause-taken c =
+    c.is_some.ensures
+    ∙ ap is_some c.in-Ok.ensures.old
+    ∙ found c.orders_are_total.ensures.names c.args.entry.name c.self.inside.by_name.entries
+    ∙ ap (is_there c.args.entry.name) c.self.view_is
+
+pub returns-in-Ok-clause-put : goal.returns-in-Ok-clause-put
+returns-in-Ok-clause-put c = λ free.
+    let absent : is_there c.args.entry.name (map entry_of c.self.inside.by_name.entries) ≡ false =
+    sym (c.is_some.ensures ∙ ap is_some c.in-Ok.ensures.old ∙ found c.orders_are_total.ensures.names c.args.entry.name c.self.inside.by_name.entries) ∙ cc in
     ap (map entry_of) c.in-Ok.ensures.entries
-    ∙ put_in c.orders_are_total.ensures.names c.args.entry.name (record { model = c.args.entry.model; args = c.args.entry.args; soft = c.args.entry.soft }) c.self.inside.by_name.entries
-    (subst (λ (l : List Entry). is_there c.args.entry.name l ≡ false) (sym c.self.view_is) c.requires)
+    ∙ put_in c.orders_are_total.ensures.names c.args.entry.name (record { model = c.args.entry.model; args = c.args.entry.args; soft = c.args.entry.soft }) c.self.inside.by_name.entries absent
     ∙ ap (inserted c.args.entry) c.self.view_is
