@@ -1,16 +1,16 @@
 //! What items have put into a structure so far.
 
-ghost use Rattle.std.specs.Prelude.{◌≡◌, [], map, IfOk};
+ghost use Rattle.std.specs.Prelude.{◌≡◌, [], map, IsTrue, IfSome, IfOk};
 ghost use Rattle.dsde_language.specs.Outcome.{Gives};
-ghost use Rattle.dsde_executive_plans.specs.Layout.{with_entry, with_link, has_part, tied, plan_of};
-ghost use Rattle.dsde_executive_planner.specs.Drawing.{Becomes};
+ghost use Rattle.dsde_executive_plans.specs.Layout.{with_entry, with_link, is_there, has_part, tied, plan_of};
+ghost use Rattle.dsde_executive_planner.specs.Drawing.{Becomes, IsTied};
 
 use crate::entries::Entries;
 use dsde_executive_plans::PlacedLink;
 use dsde_executive_plans::given::structure::{Entry, Link, Part, Plan};
 use dsde_faults::{EvalEnd, FaultKind};
 use dsde_lists::Memory;
-use dsde_values::Seq;
+use dsde_values::{Name, Seq};
 use std::alloc::Global;
 
 /// How many components a structure may have, and how many links.
@@ -76,14 +76,40 @@ impl Drawn {
     }
 }
 
-/// Whether a part of the network is there.
-fn has_part(entries: &Entries, part: &Part) -> bool
+/// Whether a part of the network is the component of this name.
+fn is_kid(part: &Part, name: &Name) -> bool
+    ensures { IsTrue result → part.now ≡ Part.Kid name.now }
+{
+    match part {
+        Part::Net => false,
+        Part::Boss => false,
+        Part::Kid(own) => own.is_same(name),
+    }
+}
+
+/// Whether there is a component of this name. One at an end of a link that is tied is there without a
+/// search.
+fn has_kid(entries: &Entries, before: Option<&Link>, name: &Name) -> bool
+    requires { IfSome before (λ link. IsTied entries.now link.now) }
+    ensures { result ≡ is_there name.now entries.now }
+{
+    match before {
+        Some(link) => {
+            is_kid(&link.from.part, name) || is_kid(&link.to.part, name) || entries.has(name)
+        }
+        None => entries.has(name),
+    }
+}
+
+/// Whether a part of the network is there. The link before, if there is one, is tied.
+fn has_part(entries: &Entries, before: Option<&Link>, part: &Part) -> bool
+    requires { IfSome before (λ link. IsTied entries.now link.now) }
     ensures { result ≡ has_part entries.now part.now }
 {
     match part {
         Part::Net => true,
         Part::Boss => true,
-        Part::Kid(name) => entries.has(name),
+        Part::Kid(name) => has_kid(entries, before, name),
     }
 }
 
@@ -91,11 +117,15 @@ fn has_part(entries: &Entries, part: &Part) -> bool
 fn tied(entries: &Entries, links: &[PlacedLink]) -> Result<(), EvalEnd>
     ensures { Gives (tied entries.now links.now) result }
 {
+    let mut before = None;
     for placed in links {
         let link = &placed.link;
-        if !has_part(entries, &link.from.part) || !has_part(entries, &link.to.part) {
+        if !has_part(entries, before, &link.from.part)
+            || !has_part(entries, before, &link.to.part)
+        {
             return Err(EvalEnd::Fault(FaultKind::DanglingLink, placed.at));
         }
+        before = Some(link);
     }
     Ok(())
 }
