@@ -14,7 +14,7 @@ use dsde_executive_plans::given::structure::{End, Entry, Link, Part, Plan, Via};
 use dsde_faults::{EvalEnd, FaultKind};
 use dsde_language::{ExprId, Make, MakeArm, MakeEnd, MakeIndex, MakePart, MakeVia, ModelId};
 use dsde_lists::Memory;
-use dsde_values::{Name, Seq, Stem, Text, Value, copy_value};
+use dsde_values::{Name, Seq, Stem, Text, Value};
 use std::alloc::Global;
 
 /// Does what the items of a structure do in the tables of a model, over slots, where expressions are
@@ -305,15 +305,15 @@ impl Planner<'_> {
     fn once(
         &self,
         makes: &[Make],
-        item: &Value,
+        item: Value,
         slots: &mut Seq<Value>,
         drawn: &mut Drawn,
     ) -> Result<(), EvalEnd>
-        requires { for_one (draws (part_in self.now) makes.now) item.now (draft_of slots.old drawn.old.entries drawn.old.links) ≢ Err Stuck }
-        ensures { Draws (for_one (draws (part_in self.now) makes.now) item.now (draft_of slots.old drawn.old.entries drawn.old.links)) result slots.new drawn.new.entries drawn.new.links }
+        requires { for_one (draws (part_in self.now) makes.now) item (draft_of slots.old drawn.old.entries drawn.old.links) ≢ Err Stuck }
+        ensures { Draws (for_one (draws (part_in self.now) makes.now) item (draft_of slots.old drawn.old.entries drawn.old.links)) result slots.new drawn.new.entries drawn.new.links }
     {
         let size = slots.len();
-        slots.push(copy_value(self.evaluator.alloc, item)?)?;
+        slots.push(item)?;
         self.makes(makes, slots, drawn)?;
         slots.truncate(size);
         Ok(())
@@ -332,8 +332,7 @@ impl Planner<'_> {
         ensures { Draws (for_list (part_in self.now) list (draws (part_in self.now) makes.now) (draft_of slots.old drawn.old.entries drawn.old.links)) result slots.new drawn.new.entries drawn.new.links }
     {
         let own = self.eval(list, slots)?;
-        let items = items_of(own);
-        self.for_each(makes, items.as_slice(), slots, drawn)
+        self.for_each(makes, items_of(own), slots, drawn)
     }
 
     /// Does items for each item of a list in order.
@@ -341,14 +340,14 @@ impl Planner<'_> {
     fn for_each(
         &self,
         makes: &[Make],
-        items: &[Value],
+        items: Seq<Value>,
         slots: &mut Seq<Value>,
         drawn: &mut Drawn,
     ) -> Result<(), EvalEnd>
-        requires { for_draw (draws (part_in self.now) makes.now) items.now (draft_of slots.old drawn.old.entries drawn.old.links) ≢ Err Stuck }
-        ensures { Draws (for_draw (draws (part_in self.now) makes.now) items.now (draft_of slots.old drawn.old.entries drawn.old.links)) result slots.new drawn.new.entries drawn.new.links }
+        requires { for_draw (draws (part_in self.now) makes.now) items (draft_of slots.old drawn.old.entries drawn.old.links) ≢ Err Stuck }
+        ensures { Draws (for_draw (draws (part_in self.now) makes.now) items (draft_of slots.old drawn.old.entries drawn.old.links)) result slots.new drawn.new.entries drawn.new.links }
     {
-        for item in items {
+        for item in items.into_vec() {
             self.once(makes, item, slots, drawn)?;
         }
         Ok(())

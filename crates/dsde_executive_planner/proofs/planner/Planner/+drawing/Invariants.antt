@@ -17,5 +17,5 @@ invariant-arms-loop-arm l =
 
 abbrev pub invariant-for_each-loop-item : goal.invariant-for_each-loop-item
 invariant-for_each-loop-item l =
-    for_draw (draws (part_in l.self) l.makes) (drop l.item-index l.items) (draft_of l.slots l.drawn.entries l.drawn.links)
-    ≡ for_draw (draws (part_in l.self) l.makes) l.items (draft_of l.fn.slots l.fn.drawn.entries l.fn.drawn.links)
+    for_draw (draws (part_in l.self) l.makes) l.item-iterator.rest.items (draft_of l.slots l.drawn.entries l.drawn.links)
+    ≡ for_draw (draws (part_in l.self) l.makes) l.fn.items (draft_of l.fn.slots l.fn.drawn.entries l.fn.drawn.links)
