@@ -69,7 +69,8 @@ impl Index {
     }
 }
 
-/// Adds a number to those at a component.
+/// Adds a number to those at a component. Links mostly come in the order of the components' names, so
+/// the last of these is looked at first.
 fn add_kid(
     alloc: Global,
     kids: &mut BTreeMap<Name, Seq<usize>>,
@@ -79,11 +80,24 @@ fn add_kid(
     ensures { OnOk result ((other : Name) → numbers_named kids.new other ≡ numbers_named kids.old other ++ (if is_same_name name.now other then number ∷ [] else [])) }
 {
     one_name();
-    let mut numbers = match kids.remove(name) {
-        Some(numbers) => numbers,
-        None => Seq::new(alloc),
-    };
-    numbers.push(number)?;
-    kids.insert(name.copy(alloc)?, numbers)?;
-    Ok(())
+    if let Some(last) = kids.last_entry() {
+        if last.key().is_same(name) {
+            return last.into_mut().push(number);
+        }
+    }
+    put_kid(alloc, kids, name, number)
+}
+
+/// The same by a search for the component.
+fn put_kid(
+    alloc: Global,
+    kids: &mut BTreeMap<Name, Seq<usize>>,
+    name: &Name,
+    number: usize,
+) -> Result<(), Memory>
+    ensures { OnOk result ((other : Name) → numbers_named kids.new other ≡ numbers_named kids.old other ++ (if is_same_name name.now other then number ∷ [] else [])) }
+{
+    one_name();
+    let numbers = kids.entry(name.copy(alloc)?)?.or_insert(Seq::new(alloc));
+    numbers.push(number)
 }

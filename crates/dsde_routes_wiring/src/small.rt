@@ -55,9 +55,10 @@ impl Rank {
     pub fn behind(&self, alloc: Global, number: usize) -> Result<Rank, Memory>
         ensures { IfOk result (λ rank. rank ≡ number ∷ self.now) }
     {
-        let mut numbers = SmallVec::from_slice(alloc, self.numbers.as_slice())?;
-        numbers.insert(0, number)?;
-        Ok(Rank { numbers })
+        let mut rank = Rank::new(alloc);
+        rank.push(number)?;
+        rank.append(self.as_slice())?;
+        Ok(rank)
     }
 
     /// Adds a number at the end. Without memory the rank stays as it was.
