@@ -1,10 +1,12 @@
 -- What the walks of a change give.
-use Rattle.std.specs.Prelude.{ℕ, Bool, List, map, drop}
+use Rattle.std.specs.Prelude.{◌≡◌, ℕ, Bool, false, List, map, drop}
 use Rattle.std.specs.List.{flat_map, enumerate_from}
 use Rattle.dsde_bank.specs.declared.handle.Handle.{Handle}
 use Rattle.dsde_values.specs.declared.name.Name.{Name}
 use Rattle.dsde_routes_wiring.specs.given.structure.plan_End.{End}
 use Rattle.dsde_routes_wiring.specs.given.structure.plan_Link.{Link}
+use Rattle.dsde_routes_wiring.specs.given.structure.plan_Part.{Part}
+use Rattle.dsde_routes_wiring.specs.given.structure.plan_Part_TheVariants as part
 use Rattle.dsde_routes_wiring.specs.declared.row.Row.{Row}
 use Rattle.dsde_routes_wiring.specs.declared.side.Side.{Side}
 use Rattle.dsde_routes_wiring.specs.declared.wiring.WiredKid.{WiredKid}
@@ -13,6 +15,7 @@ use Rattle.dsde_routes_wiring.specs.declared.wiring.WiredKid.TheViews.{out-Wirin
 use Rattle.dsde_routes_wiring.specs.Routes.{Ways, Route, Around, Inner, row_of, within, around_of, step_from, ways_by, at_end, crossed_by, inner_of_kid}
 use Rattle.dsde_routes_wiring.specs.Places.{bared, changed, kid_changed, passing, passing_kid, crossed_between}
 use Rattle.dsde_repair_walks.specs.declared.way.Way.{Way}
+use Rattle.dsde_repair_walks.specs.Found.{IsNoLeaf}
 use Rattle.dsde_repair_walks.specs.Walks.{ranked, beyond}
 
 -- link by link, from a number on
@@ -44,6 +47,12 @@ between_link befores afters me link = map row_of (crossed_between befores afters
 
 abbrev pub at_ways : Side → Around → End → List Way
 at_ways side around end = map ranked (at_end side around end)
+
+-- The part is neither atomic nor an executive, nor the network where its own ports are sources and targets.
+abbrev pub IsNoOwn : Bool → Wiring → Part → Type 0
+IsNoOwn whole net part.Net = whole ≡ false
+IsNoOwn whole net part.Boss = ⊥
+IsNoOwn whole net (part.Kid name) = IsNoLeaf net (part.Kid name)
 
 abbrev pub passing_kid_ways : Side → Name → List Name → WiredKid → ℕ → List Way
 passing_kid_ways side name rest kid port = map ranked ((passing_kid name (passing rest) kid).1.ways side port)

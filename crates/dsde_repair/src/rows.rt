@@ -1,6 +1,6 @@
 //! The rows of a network and of all beneath it.
 
-ghost use Rattle.std.specs.Prelude.{◌≡◌, [], ◌∷◌, ◌++◌, map, IfOk, IfSome, OnOk};
+ghost use Rattle.std.specs.Prelude.{◌≡◌, [], ◌∷◌, ◌++◌, map, IfOk, OnOk, MatchOption};
 ghost use Rattle.std.specs.List.{AllByRecursion};
 ghost use Rattle.dsde_routes_wiring.specs.Wired.{AreWired};
 ghost use Rattle.dsde_routes_wiring.specs.declared.wiring.WiredKid.TheViews.{out-Wiring};
@@ -9,7 +9,7 @@ ghost use Rattle.dsde_routes_wiring.specs.Places.{inside};
 ghost use Rattle.dsde_repair_walks.specs.Places.{IsBelowWired};
 ghost use Rattle.dsde_routes_wiring.specs.declared.side.Side.{Side};
 ghost use Rattle.dsde_repair_walks.specs.Walks.{beyond, own_way};
-ghost use Rattle.dsde_repair.specs.Walks.{at_ways, crossed_link, open_around};
+ghost use Rattle.dsde_repair.specs.Walks.{at_ways, crossed_link, open_around, IsNoOwn};
 
 use dsde_bank::Handle;
 use dsde_lists::Memory;
@@ -43,15 +43,16 @@ pub(crate) fn open_ways(
 }
 
 /// The part that is its own source and target at an end: an executive, an atomic component, or the network
-/// where its own ports are sources and targets; none where ways go on there.
-fn own_at(net: &Wiring, whole: bool, end: &End) -> Option<Handle>
+/// where its own ports are sources and targets. None where ways go on there, or none begins. The index of a
+/// component is kept in `last`, and looked at first.
+fn own_at(net: &Wiring, whole: bool, end: &End, last: &mut usize) -> Option<Handle>
     requires { AreWired net.now }
-    ensures { IfSome result (λ handle. (side : Side) → at_ways side (open_around whole net.now) end.now ≡ own_way handle end.now.port ∷ []) }
+    ensures { MatchOption result (IsNoOwn whole net.now end.now.part) (λ handle. (side : Side) → at_ways side (open_around whole net.now) end.now ≡ own_way handle end.now.port ∷ []) }
 {
     match end.part {
         Part::Net if whole => Some(net.me),
         Part::Net => None,
-        Part::Boss | Part::Kid(_) => leaf_at(net, end),
+        Part::Boss | Part::Kid(_) => leaf_at(net, end, last),
     }
 }
 
@@ -62,12 +63,16 @@ fn cross_link(
     whole: bool,
     number: usize,
     link: &Link,
+    last: &mut usize,
     rows: &mut Seq<Row>,
 ) -> Result<(), Memory>
     requires { AreWired net.now }
     ensures { OnOk result (rows.new ≡ rows.old ++ crossed_link (open_around whole net.now) (out-Wiring net.now).me (number, link.now)) }
 {
-    match (own_at(net, whole, &link.from), own_at(net, whole, &link.to)) {
+    match (
+        own_at(net, whole, &link.from, last),
+        own_at(net, whole, &link.to, last),
+    ) {
         (Some(source), Some(target)) => {
             rows.push(direct_row(alloc, number, link, source, target)?)
         }
@@ -103,8 +108,9 @@ pub(crate) fn crossing_rows(
     ensures { OnOk result (rows.new ≡ rows.old ++ map row_of (crossing (open_around whole net.now) (links_of net.now))) }
 {
     let links = net.links.as_slice();
+    let mut last = 0;
     for (number, link) in links.iter().enumerate() {
-        cross_link(alloc, net, whole, number, link, rows)?;
+        cross_link(alloc, net, whole, number, link, &mut last, rows)?;
     }
     Ok(())
 }

@@ -1,6 +1,8 @@
 -- What follows where a component stands at an index.
-use Rattle.std.proofs.Common.{◌≡◌, ℕ, Bool, true, false, if◌then◌else◌, List, [], ◌∷◌, ◌++◌, map, length, get_or, slice_get, slice_set, refl, append-nil, ap₂, sym, ap, ◌∙◌, subst, arith, Option, Some, None, Result, Ok, Err, OnOk}
+use Rattle.std.proofs.Common.{◌≡◌, ℕ, ◌<◌, Bool, true, false, if◌then◌else◌, List, [], ◌∷◌, ◌++◌, map, length, get_or, slice_get, slice_set, refl, append-nil, ap₂, sym, ap, ◌∙◌, subst, arith, Option, Some, None, Result, Ok, Err, OnOk, MatchOption}
 use Rattle.std.specs.List.{flat_map, AllByRecursion}
+use Rattle.std.specs.declared.cmp.Ordering.TheVariants.{Equal}
+use Rattle.dsde_values.specs.Path.{name_cmp}
 use Rattle.dsde_values.specs.declared.name.Name.{Name}
 use Rattle.dsde_routes_wiring.specs.declared.wiring.WiredKid.{WiredKid}
 use Rattle.dsde_routes_wiring.specs.declared.wiring.Wiring.{Wiring}
@@ -12,8 +14,8 @@ use Rattle.dsde_routes_wiring.specs.Wired.{Wired, IsWired, AreWired}
 use Rattle.dsde_routes_wiring.specs.Opened.{Beneath}
 use Rattle.dsde_repair_walks.proofs.Shapes.{wired_of, net-here, net-below}
 use Rattle.dsde_routes_wiring.specs.given.structure.Survival.{AreInOrder}
-use Rattle.dsde_repair_walks.specs.Found.{name_of, is_named, InOrder, IsAt, IsOne}
-use Rattle.dsde_repair_walks.proofs.Searching.{Found}
+use Rattle.dsde_repair_walks.specs.Found.{name_of, is_named, is_net, InOrder, IsAt, IsOne}
+use Rattle.dsde_repair_walks.proofs.Searching.{Found, one-found, one-order, or-same}
 use Rattle.dsde_repair_walks.specs.Places.{BelowWired, IsBelowWired, kid_with, kids_below}
 
 abbrev Other : Name → WiredKid → Type 0
@@ -109,6 +111,37 @@ pub found-one : (name : Name) (kids : List WiredKid) (index : ℕ) → IsAt name
 found-one name kids index at kid is =
     let same : get_or kids index kid ≡ at.kid = ap (λ own. get_or own index kid) at.is ∙ ap (λ i. get_or (at.before ++ at.kid ∷ at.after) i kid) (sym at.place) ∙ or-middle at.before at.kid at.after kid in
     (index, at, kid-at name kids index at ∙ ap Some (sym same ∙ sym is))
+
+-- a component of the name at an index is the one of its name
+pub same-at : ((name other : Name) → name_cmp name other ≡ Equal → name ≡ other) → (name : Name) (kids : List WiredKid) → InOrder kids → (index : ℕ) → index < length kids → (kid : WiredKid) → kid ≡ get_or kids index kid → name_of kid ≡ name → IsAt name kids index
+same-at one name kids sorted index below kid is named =
+    at-found name kids index (one-found name_of one name kids sorted index below
+    (λ d. one-order (name_of (get_or kids index d)) name (ap name_of (or-same kids index d kid below ∙ sym is) ∙ named)))
+
+-- components of which those of a name are networks
+abbrev Net : Name → WiredKid → Type 0
+Net name kid = is_named name kid ≡ true → is_net kid ≡ true
+
+other-net : (name : Name) (kid : WiredKid) → Other name kid → Net name kid
+other-net name kid other named = absurd (let e : true ≡ false = sym named ∙ other in cc)
+
+pub none-leaf : (name : Name) (kids : List WiredKid) → AllByRecursion (Other name) kids → AllByRecursion (Net name) kids
+none-leaf name [] none = tt
+none-leaf name (kid ∷ kids) none = (other-net name kid none.0, none-leaf name kids none.1)
+
+middle-net : (name : Name) (before : List WiredKid) (kid : WiredKid) (after : List WiredKid) → AllByRecursion (Other name) before → is_net kid ≡ true → AllByRecursion (Other name) after → AllByRecursion (Net name) (before ++ kid ∷ after)
+middle-net name [] kid after none net later = (λ named. net, none-leaf name after later)
+middle-net name (own ∷ before) kid after none net later = (other-net name own none.0, middle-net name before kid after none.1 net later)
+
+pub one-net : (name : Name) (kids : List WiredKid) (kid : WiredKid) → IsOne name kids kid → is_net kid ≡ true → AllByRecursion (Net name) kids
+one-net name kids kid one net =
+    let at = one.1 in
+    let same : at.kid ≡ kid = some-one at.kid kid (sym (kid-at name kids one.0 at) ∙ one.2) in
+    subst (AllByRecursion (Net name)) (sym at.is) (middle-net name at.before at.kid at.after at.none_before (ap is_net same ∙ net) at.none_after)
+
+pub option-then : {X : Type 0} (own : Option X) (P Q : Type 0) (R S : X → Type 0) → (P → Q) → ((x : X) → R x → S x) → MatchOption own P R → MatchOption own Q S
+option-then None P Q R S none some is = none is
+option-then (Some x) P Q R S none some is = some x is
 
 -- a network with its fields written one after the other
 pub written : (wiring : Wiring) (links : List Link) (kids : List WiredKid) (place : List Name) → length place ≡ 0 →

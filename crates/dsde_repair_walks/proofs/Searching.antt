@@ -8,6 +8,7 @@ use Rattle.std.specs.List.{AllByRecursion, list_any}
 use Rattle.std.specs.List.Sorted.{IsBinarySearchResult, IsSortedBy, IsStrictlySortedBy}
 use Rattle.std.specs.Ordering.{is_eq, is_lt, ordering_reverse}
 use Rattle.std.proofs.lemmas.Bool.{cases_lt}
+use Rattle.std.proofs.lemmas.Cmp.{tied_itself}
 use Rattle.std.proofs.lemmas.List.Sorted.{searchable_from_sorted}
 use Rattle.std.proofs.lemmas.Map.Keys.{sorted_head, sorted_tail}
 use Rattle.dsde_values.specs.declared.name.Name.{Name}
@@ -16,6 +17,14 @@ use Rattle.dsde_routes_wiring.specs.given.structure.Gather.{is_same_name}
 
 pub total : IsTotalOrder name_cmp
 total = search (comparing, rules)
+
+pub one-order : (name other : Name) → name ≡ other → name_cmp name other ≡ Equal
+one-order name other same = subst (λ (own : Name). name_cmp name own ≡ Equal) same (tied_itself total name)
+
+pub or-same : {X : Type 0} (xs : List X) (k : ℕ) (d e : X) → k < length xs → get_or xs k d ≡ get_or xs k e
+or-same [] k d e below = absurd (omega arith)
+or-same (x ∷ xs) zero d e below = refl
+or-same (x ∷ xs) (suc k) d e below = or-same xs k d e (omega arith)
 
 turned : (r : Ordering) → is_eq (ordering_reverse r) ≡ is_eq r
 turned Less = refl

@@ -1,6 +1,6 @@
 //! Components found by name.
 
-ghost use Rattle.std.specs.Prelude.{◌≡◌, MatchOption, false};
+ghost use Rattle.std.specs.Prelude.{◌≡◌, MatchOption, IsTrue, false};
 ghost use Rattle.std.specs.List.{AllByRecursion};
 ghost use Rattle.dsde_routes_wiring.specs.given.structure.Survival.{AreInOrder};
 ghost use Rattle.dsde_routes_wiring.specs.Places.{has_name};
@@ -10,7 +10,7 @@ use dsde_routes_wiring::WiredKid;
 use dsde_values::{Name, compare_names, one_name};
 
 /// Where the component of a name stands among those of a network.
-pub fn index_of(kids: &[WiredKid], name: &Name) -> Option<usize>
+pub(crate) fn index_of(kids: &[WiredKid], name: &Name) -> Option<usize>
     requires { InOrder kids.now }
     ensures { MatchOption result (AllByRecursion (λ kid. is_named name.now kid ≡ false) kids.now) (λ index. IsAt name.now kids.now index) }
 {
@@ -32,6 +32,52 @@ pub fn find_kid<'k>(kids: &'k [WiredKid], name: &Name) -> Option<&'k WiredKid>
             None => None,
             Some(kid) => Some(kid),
         },
+    }
+}
+
+/// Whether the component of a name stands at an index.
+fn stands_at(kids: &[WiredKid], index: usize, name: &Name) -> bool
+    requires { InOrder kids.now }
+    ensures { IsTrue result → IsAt name.now kids.now index }
+{
+    one_name();
+    match kids.get(index) {
+        None => false,
+        Some(kid) => kid.name.is_same(name),
+    }
+}
+
+/// Where the component of a name stands. It is looked for first where the last one was found, and
+/// behind that.
+fn index_near(kids: &[WiredKid], last: usize, name: &Name) -> Option<usize>
+    requires { InOrder kids.now }
+    ensures { MatchOption result (AllByRecursion (λ kid. is_named name.now kid ≡ false) kids.now) (λ index. IsAt name.now kids.now index) }
+{
+    if stands_at(kids, last, name) {
+        return Some(last);
+    }
+    let next = last.saturating_add(1);
+    if stands_at(kids, next, name) {
+        return Some(next);
+    }
+    index_of(kids, name)
+}
+
+/// The component of a name, whose index is kept in `last`, and looked at first: for names that mostly
+/// come in their order.
+pub fn find_near<'k>(kids: &'k [WiredKid], last: &mut usize, name: &Name) -> Option<&'k WiredKid>
+    requires { InOrder kids.now }
+    ensures { MatchOption result (AllByRecursion (λ kid. is_named name.now kid ≡ false) kids.now) (λ kid. IsOne name.now kids.now kid.now) }
+{
+    match index_near(kids, *last, name) {
+        None => None,
+        Some(index) => {
+            *last = index;
+            match kids.get(index) {
+                None => None,
+                Some(kid) => Some(kid),
+            }
+        }
     }
 }
 

@@ -15,7 +15,7 @@ mod way;
 
 pub use crossing::{cross, direct_row, extend_all};
 pub use ends::is_border_end;
-pub use found::{find_kid, index_of, is_among};
+pub use found::{find_kid, is_among};
 pub use laws::{
     a_change_leaves_the_others, a_change_touches_few, a_change_touches_these, routes_are_gathered,
     rows_are_counted, rows_are_routes, rows_follow_a_change,

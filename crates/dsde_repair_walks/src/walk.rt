@@ -1,8 +1,9 @@
 //! The ways of parts, by a walk over the links that lead there.
 
-ghost use Rattle.std.specs.Prelude.{ℕ, ◌≡◌, [], ◌∷◌, ◌++◌, map, IfOk, IfSome, OnOk};
+ghost use Rattle.std.specs.Prelude.{ℕ, ◌≡◌, [], ◌∷◌, ◌++◌, map, true, IfOk, OnOk, MatchOption};
 ghost use Rattle.dsde_routes_wiring.specs.Routes.{inner_of};
 ghost use Rattle.dsde_routes_wiring.specs.Wired.{AreWired};
+ghost use Rattle.dsde_repair_walks.specs.Found.{IsNoLeaf, is_net};
 ghost use Rattle.dsde_repair_walks.specs.Places.{IsBelowWired};
 ghost use Rattle.dsde_routes_wiring.specs.declared.wiring.WiredKid.TheViews.{out-Wiring};
 ghost use Rattle.dsde_routes_wiring.specs.declared.side.Side.{Side};
@@ -10,7 +11,7 @@ ghost use Rattle.dsde_repair_walks.specs.Walks.{link_at, own_way, ranked, ways_o
 
 use crate::crossing::extend_all;
 use crate::ends::is_border_end;
-use crate::found::index_of;
+use crate::found::{find_near, index_of};
 use crate::way::{Way, one_way};
 use dsde_bank::Handle;
 use dsde_lists::Memory;
@@ -104,9 +105,9 @@ pub fn ways_of_kid(alloc: Global, side: Side, kid: &WiredKid, port: u32) -> Resu
     }
 }
 
-/// The component itself, where it is atomic: then its one way is its own.
+/// The component itself, where it is atomic: then its one way is its own. None where it is a network.
 fn leaf_of(kid: &WiredKid) -> Option<Handle>
-    ensures { IfSome result (λ handle. (side : Side) (port : ℕ) → kid_ways side kid.now port ≡ own_way handle port ∷ []) }
+    ensures { MatchOption result (is_net kid.now ≡ true) (λ handle. (side : Side) (port : ℕ) → kid_ways side kid.now port ≡ own_way handle port ∷ []) }
 {
     match &kid.below {
         None => Some(kid.handle),
@@ -114,20 +115,19 @@ fn leaf_of(kid: &WiredKid) -> Option<Handle>
     }
 }
 
-/// The part at an end, where it is an executive or an atomic component: then its one way is its own.
-pub fn leaf_at(net: &Wiring, end: &End) -> Option<Handle>
+/// The part at an end, where it is an executive or an atomic component: then its one way is its own. None
+/// where it is the network itself, a network in it, or no component. The index of a component is kept in
+/// `last`, and looked at first.
+pub fn leaf_at(net: &Wiring, end: &End, last: &mut usize) -> Option<Handle>
     requires { AreWired net.now }
-    ensures { IfSome result (λ handle. (side : Side) → ways_at side net.now end.now ≡ own_way handle end.now.port ∷ []) }
+    ensures { MatchOption result (IsNoLeaf net.now end.now.part) (λ handle. (side : Side) → ways_at side net.now end.now ≡ own_way handle end.now.port ∷ []) }
 {
     match &end.part {
         Part::Net => None,
         Part::Boss => Some(net.boss),
-        Part::Kid(name) => match index_of(net.kids.as_slice(), name) {
+        Part::Kid(name) => match find_near(net.kids.as_slice(), last, name) {
             None => None,
-            Some(index) => match net.kids.get(index) {
-                None => None,
-                Some(kid) => leaf_of(kid),
-            },
+            Some(kid) => leaf_of(kid),
         },
     }
 }
