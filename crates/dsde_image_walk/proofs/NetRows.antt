@@ -24,16 +24,16 @@ net-rows script version net path =
     ∙ ap (λ (own : List Row). net_row script version path (out-Net net).model (out-Net net).args ∷ boss_row script version path (out-Net net).boss ∷ own)
     (flat_map-map (λ (listing : Listing). listing path) (rows_of_kid script version) (out-Net net).kids)
 
-pub net-listed : (script : Script) (version : Version) (net : Net) (path : Path) (old first second new : List Row) (own boss : Row) (kids : List Kid) (result : Result ⊤ Memory) →
-    first ≡ old ++ own ∷ [] → own ≡ net_row script version path (out-Net net).model (out-Net net).args →
-    second ≡ first ++ boss ∷ [] → boss ≡ boss_row script version path (out-Net net).boss →
+pub net-listed : (script : Script) (version : Version) (net : Net) (path : Path) (old first second new : List Row) (kids : List Kid) (result : Result ⊤ Memory) →
+    first ≡ old ++ net_row script version path (out-Net net).model (out-Net net).args ∷ [] →
+    second ≡ first ++ boss_row script version path (out-Net net).boss ∷ [] →
     kids ≡ (out-Net net).kids → OnOk result (new ≡ second ++ flat_map (λ kid. rows_of_kid script version kid path) kids) →
     OnOk result (new ≡ old ++ rows_of_net script version net path)
-net-listed script version net path old first second new own boss kids (Err why) first_is own_is second_is boss_is kids_are goes = tt
-net-listed script version net path old first second new own boss kids (Ok done) first_is own_is second_is boss_is kids_are goes =
+net-listed script version net path old first second new kids (Err why) first_is second_is kids_are goes = tt
+net-listed script version net path old first second new kids (Ok done) first_is second_is kids_are goes =
     goes
     ∙ ap (λ (all : List Kid). second ++ flat_map (λ kid. rows_of_kid script version kid path) all) kids_are
-    ∙ ap (λ (front : List Row). front ++ flat_map (λ kid. rows_of_kid script version kid path) (out-Net net).kids) (second_is ∙ ap (λ (row : Row). first ++ row ∷ []) boss_is ∙ ap (λ (front : List Row). front ++ boss_row script version path (out-Net net).boss ∷ []) (first_is ∙ ap (λ (row : Row). old ++ row ∷ []) own_is))
+    ∙ ap (λ (front : List Row). front ++ flat_map (λ kid. rows_of_kid script version kid path) (out-Net net).kids) (second_is ∙ ap (λ (front : List Row). front ++ boss_row script version path (out-Net net).boss ∷ []) first_is)
     ∙ append_assoc (old ++ net_row script version path (out-Net net).model (out-Net net).args ∷ []) (boss_row script version path (out-Net net).boss ∷ []) (flat_map (λ kid. rows_of_kid script version kid path) (out-Net net).kids)
     ∙ append_assoc old (net_row script version path (out-Net net).model (out-Net net).args ∷ []) (boss_row script version path (out-Net net).boss ∷ flat_map (λ kid. rows_of_kid script version kid path) (out-Net net).kids)
     ∙ ap (λ (rest : List Row). old ++ rest) (sym (net-rows script version net path))

@@ -7,7 +7,7 @@ use Rattle.dsde_language.specs.declared.ids.ModelId.{ModelId}
 use Rattle.dsde_sim_tree.specs.given.formalism.System.{System}
 use Rattle.dsde_image.specs.declared.image.Version.{Version}
 use Rattle.dsde_image_fits.specs.Rows.{Script}
-use Rattle.dsde_image_fits.specs.Walk.{Left, Walked, ◌>>=◌, took_net, with_args, restored_net, restored_atomic, restored}
+use Rattle.dsde_image_fits.specs.Walk.{Left, Walked, ◌>>=◌, took_net, restored_boss, with_boss, with_args, restored_net, restored_atomic, restored}
 use Rattle.dsde_image_walk.specs.declared.ends.RestoreEnd.{RestoreEnd}
 use Rattle.dsde_image_walk.specs.declared.ends.RestoreEnd.TheVariants as restore_end
 use Rattle.dsde_image_walk.specs.Walks.{Walks}
@@ -28,6 +28,15 @@ module _ (system : System) (script : Script) (version : Version) (time : ℕ) wh
       ≡ (took_net script version next soft model args path here >>= with_args system script version time left (restored system script version time left) model path)
   net-opens left next soft model args path here same =
       ap (λ (n : ℕ). took_net script version n soft model args path here >>= with_args system script version time left (restored system script version time left) model path) (sym same)
+
+  -- the same, where the row is taken
+  pub net-goes : (left next : ℕ) (soft : Bool) (model : ModelId) (args own : List Value) (path : Path) (here there : Left) → next ≡ suc left →
+      took_net script version next soft model args path here ≡ Ok (own, there) →
+      restored_net system script version time left (restored system script version time left) soft model args path here
+      ≡ (restored_boss system script version time left model own path there >>= with_boss system script version time (restored system script version time left) model own path)
+  net-goes left next soft model args own path here there same is =
+      net-opens left next soft model args path here same
+      ∙ ap (λ (read : Walked (List Value × Left)). read >>= with_args system script version time left (restored system script version time left) model path) is
 
 -- a step that fails, before the next
 pub stops : {X Y A B : Type 0} (view : X → A) (whole_view : Y → B) (why : RestoreEnd) (read : Walked A) (next : A → Walked B) (whole : Walked B) →

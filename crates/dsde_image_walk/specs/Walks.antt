@@ -12,7 +12,6 @@ use Rattle.dsde_image_fits.specs.given.system.Fitting.{FitsLeaf}
 use Rattle.dsde_sim_tree.specs.Told.{below}
 use Rattle.dsde_sim_tree.specs.declared.sim.Kid.{Kid}
 use Rattle.dsde_sim_tree.specs.declared.sim.Sim.{Sim}
-use Rattle.dsde_sim_tree.specs.declared.sim.TheConstants.{DEEPEST}
 use Rattle.dsde_sim_tree.specs.Start.{kid_of}
 use Rattle.dsde_sim_tree.specs.declared.step.TheConstants.{MOST_PARTS}
 use Rattle.dsde_image.specs.Image.{IsLocation}
@@ -51,10 +50,10 @@ HasLocation version row = IsLocation version row.location
 abbrev pub restored_kid : (Bool → ModelId → List Value → Path → Left → Walked (Sim × Left)) → Entry → Path → Left → Walked (Kid × Left)
 restored_kid walker entry path here = walker entry.soft entry.model entry.args (below path entry.name) here >>= λ one. Ok (kid_of entry.name one.0, one.1)
 
--- the tree of a root of this model with these arguments
-abbrev pub whole_tree : System → Script → Version → ℕ → ModelId → List Value → List Row → Walked Sim
-whole_tree system script version time model args rows =
-    restored system script version time DEEPEST false model args root (rows, MOST_PARTS) >>= λ one. only_at_end one.0 one.1.0
+-- the tree of a root of this model with these arguments, where so many names may stand behind that of the root
+abbrev pub whole_tree : System → Script → Version → ℕ → ℕ → ModelId → List Value → List Row → Walked Sim
+whole_tree system script version time left model args rows =
+    restored system script version time left false model args root (rows, MOST_PARTS) >>= λ one. only_at_end one.0 one.1.0
 
 -- A component or an executive of a program, of this model.
 pub record FitsComponent (model : Model) (number : ModelId) (boss : Bool) (leaf : Leaf) : Type 0 where

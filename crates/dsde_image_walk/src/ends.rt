@@ -10,7 +10,7 @@ use dsde_values::{Memory, Path, ReadPath, Seq, read_path};
 use std::alloc::Global;
 
 /// Why no tree was restored.
-#[derive(Debug, Drop)]
+#[derive(Drop)]
 pub enum RestoreEnd {
     /// The first path, in the order of the rows, at which they do not fit the program.
     DoesNotFit(Path),

@@ -1,6 +1,6 @@
 //! The rows of a tree, part by part.
 
-ghost use Rattle.std.specs.Prelude.{◌≡◌, ◌<◌, ◌++◌, length, OnOk, IfOk};
+ghost use Rattle.std.specs.Prelude.{◌≡◌, ◌<◌, ◌++◌, ◌∷◌, [], length, OnOk, IfOk};
 ghost use Rattle.std.specs.List.{AllByRecursion, flat_map};
 ghost use Rattle.dsde_language.specs.NodeModels.{infos_of};
 ghost use Rattle.dsde_image_fits.specs.given.system.Fitting.{FitsArgs, FitsLeaf};
@@ -31,71 +31,76 @@ fn standing_of(alloc: Global, program: &Program, leaf: &Leaf) -> Result<Standing
     })
 }
 
-/// The row of a part at a path, of this model.
-fn row_of(
+/// Appends the row of a part at a path, of this model.
+fn put_row(
     alloc: Global,
     program: &Program,
     version: Version,
     path: &Path,
     model: ModelId,
     body: Body,
-) -> Result<Row, Memory>
+    listed: &mut Seq<Row>,
+) -> Result<(), Memory>
     requires { model.0 < length (infos_of program.now) }
-    ensures { IfOk result (λ row. row ≡ row_at (script program.now) version path.now model body) }
+    ensures { OnOk result (listed.new ≡ listed.old ++ row_at (script program.now) version path.now model body ∷ []) }
 {
-    Ok(Row {
+    listed.push(Row {
         location: location_of(alloc, version, path)?,
         model: name_of(alloc, program, model)?,
         body,
     })
 }
 
-fn atomic_row(
+fn put_atomic(
     alloc: Global,
     program: &Program,
     version: Version,
     path: &Path,
     leaf: &Leaf,
-) -> Result<Row, Memory>
+    listed: &mut Seq<Row>,
+) -> Result<(), Memory>
     requires { leaf.now.model.0 < length (infos_of program.now) }
-    ensures { IfOk result (λ row. row ≡ atomic_row (script program.now) version path.now leaf.now) }
+    ensures { OnOk result (listed.new ≡ listed.old ++ atomic_row (script program.now) version path.now leaf.now ∷ []) }
 {
     let args = texts(alloc, program, &leaf.args)?;
     let standing = standing_of(alloc, program, leaf)?;
     let body = Body::Atomic { args, standing };
-    row_of(alloc, program, version, path, leaf.model, body)
+    put_row(alloc, program, version, path, leaf.model, body, listed)
 }
 
-/// The row of the executive of the network at a path.
-fn boss_row(
+/// Appends the row of the executive of the network at a path.
+fn put_boss(
     alloc: Global,
     program: &Program,
     version: Version,
     path: &Path,
     leaf: &Leaf,
-) -> Result<Row, Memory>
+    listed: &mut Seq<Row>,
+) -> Result<(), Memory>
     requires { leaf.now.model.0 < length (infos_of program.now) }
-    ensures { IfOk result (λ row. row ≡ boss_row (script program.now) version path.now leaf.now) }
+    ensures { OnOk result (listed.new ≡ listed.old ++ boss_row (script program.now) version path.now leaf.now ∷ []) }
 {
     let path = boss_of(alloc, path)?;
     let standing = standing_of(alloc, program, leaf)?;
     let body = Body::Executive { standing };
-    row_of(alloc, program, version, &path, leaf.model, body)
+    put_row(alloc, program, version, &path, leaf.model, body, listed)
 }
 
-fn net_row(
+fn put_net(
     alloc: Global,
     program: &Program,
     version: Version,
     path: &Path,
     model: ModelId,
     args: &Values,
-) -> Result<Row, Memory>
+    listed: &mut Seq<Row>,
+) -> Result<(), Memory>
     requires { model.0 < length (infos_of program.now) }
-    ensures { IfOk result (λ row. row ≡ net_row (script program.now) version path.now model args.now) }
+    ensures { OnOk result (listed.new ≡ listed.old ++ net_row (script program.now) version path.now model args.now ∷ []) }
 {
     let args = texts(alloc, program, args)?;
-    row_of(alloc, program, version, path, model, Body::Net { args })
+    let body = Body::Net { args };
+    put_row(alloc, program, version, path, model, body, listed)
 }
 
 /// What fits a program where a part does that is this network. A call that does nothing.
@@ -136,7 +141,7 @@ pub fn list(
     ensures { OnOk result (listed.new ≡ listed.old ++ rows (script program.now) version sim.now path.now) }
 {
     match sim {
-        Sim::Leaf(leaf) => listed.push(atomic_row(alloc, program, version, path, leaf)?),
+        Sim::Leaf(leaf) => put_atomic(alloc, program, version, path, leaf, listed),
         Sim::Net(net) => {
             net_fits(program, net.get());
             list_net(alloc, program, version, net.get(), path, listed)
@@ -157,8 +162,8 @@ fn list_net(
     ensures { OnOk result (listed.new ≡ listed.old ++ rows_of_net (script program.now) version net.now path.now) }
 {
     parts_fit(program, net);
-    listed.push(net_row(alloc, program, version, path, net.model, &net.args)?)?;
-    listed.push(boss_row(alloc, program, version, path, &net.boss)?)?;
+    put_net(alloc, program, version, path, net.model, &net.args, listed)?;
+    put_boss(alloc, program, version, path, &net.boss, listed)?;
     list_kids(alloc, program, version, net.kids.as_slice(), path, listed)
 }
 

@@ -16,7 +16,7 @@ use dsde_language::ModelId;
 use dsde_sim_starting::given::atomic::next_event;
 use dsde_sim_starting::given::program::Program;
 use dsde_sim_tree::given::formalism::Leaf;
-use dsde_values::{Memory, Seq, Text, Values, When};
+use dsde_values::{Memory, Seq, Text, Values, When, copy_values};
 use std::alloc::Global;
 
 fn is_next(found: When, next: When) -> bool
@@ -152,25 +152,35 @@ pub(crate) fn atomic_in(
     }
 }
 
-/// The executive that a row of this model says.
+/// Values equal to these.
+fn copy_of(alloc: Global, values: &Values) -> Result<Values, Memory>
+    ensures { IfOk result (λ copy. copy ≡ values.now) }
+{
+    copy_values(alloc, values.as_slice())
+}
+
+/// The executive with these arguments that a row of this model says.
 pub(crate) fn boss_in(
     alloc: Global,
     program: &Program,
     model: ModelId,
-    args: Values,
+    args: &Values,
     time: u64,
     row: &Row,
 ) -> Result<Option<Leaf>, Memory>
     requires moment { IsMoment time }
-    requires args { FitsArgs program.now model.0 args }
-    ensures is { IfOk result (λ found. found ≡ said_by (script program.now) row.now model (boss_in (system program.now) (script program.now) time model args row.now.body)) }
-    ensures fits { IfOk result (λ found. IfSome found (FitsOwn program.now model true args)) }
+    requires args { FitsArgs program.now model.0 args.now }
+    ensures is { IfOk result (λ found. found ≡ said_by (script program.now) row.now model (boss_in (system program.now) (script program.now) time model args.now row.now.body)) }
+    ensures fits { IfOk result (λ found. IfSome found (FitsOwn program.now model true args.now)) }
 {
     if !is_named(program, model, row.model.as_slice()) {
         return Ok(None);
     }
     match &row.body {
-        Body::Executive { standing } => stood(alloc, program, model, true, args, time, standing),
+        Body::Executive { standing } => {
+            let args = copy_of(alloc, args)?;
+            stood(alloc, program, model, true, args, time, standing)
+        }
         _ => Ok(None),
     }
 }

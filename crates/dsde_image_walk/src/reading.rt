@@ -2,16 +2,17 @@
 
 ghost use Rattle.std.specs.Prelude.{◌≡◌, IfOk};
 ghost use Rattle.dsde_values.specs.Value.{IsLawful};
-ghost use Rattle.dsde_image_fits.specs.Script.{values_of, whole_value};
+ghost use Rattle.dsde_image_walk.specs.Values.{spelled_value, values_by};
 
 use dsde_input_records::value_is_spelled;
 use dsde_values::{Field, Memory, ReadValue, Seq, Text, Ty, Types, Value, Values, read_value};
 use std::alloc::Global;
 
 /// The value of a type that a whole text spells, if it spells one.
+#[tactic(auto, unfolding(crate::specs::Values::spelled_value))]
 fn whole_value(alloc: Global, types: &Types, ty: &Ty, text: &[u8]) -> Result<Option<Value>, Memory>
     requires { IsLawful types.now }
-    ensures { IfOk result (λ found. found ≡ whole_value types.now ty.now text.now) }
+    ensures { IfOk result (λ found. found ≡ spelled_value types.now ty.now text.now) }
 {
     value_is_spelled();
     match read_value(alloc, text, ty, types) {
@@ -30,7 +31,7 @@ pub(crate) fn values_of(
     texts: &[Text],
 ) -> Result<Option<Values>, Memory>
     requires { IsLawful types.now }
-    ensures { IfOk result (λ found. found ≡ values_of types.now fields.now texts.now) }
+    ensures { IfOk result (λ found. found ≡ values_by (spelled_value types.now) fields.now texts.now) }
 {
     let mut values = Seq::new(alloc);
     let mut fields = fields;

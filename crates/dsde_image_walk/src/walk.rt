@@ -14,7 +14,7 @@ ghost use Rattle.dsde_sim_tree.specs.Told.{to_boss};
 ghost use Rattle.dsde_sim_tree.specs.Tree.{model_of, entry_of};
 ghost use Rattle.dsde_sim_starting.specs.Fitting.{FitsKid, FitsTree};
 ghost use Rattle.dsde_image_fits.specs.Fits.{RestoredRight};
-ghost use Rattle.dsde_image_fits.specs.Walk.{took, took_net, planned, restored_atomic, restored_boss, restored_net, restored_kids, with_boss, with_args, restored, tree_of};
+ghost use Rattle.dsde_image_fits.specs.Walk.{took, took_net, planned, restored_atomic, restored_boss, restored_net, restored_kids, with_boss, restored, tree_of};
 ghost use Rattle.dsde_image_fits.specs.Script.{script};
 ghost use Rattle.dsde_image_walk.specs.Walks.{Walks, WalksOn, Misses, HasLocation, FitsOwn, restored_kid, whole_tree};
 
@@ -33,7 +33,7 @@ use dsde_sim_starting::net_of;
 use dsde_sim_tree::given::formalism::Leaf;
 use dsde_sim_tree::given::structure::{Entry, Plan};
 use dsde_sim_tree::{DEEPEST, Kid, MOST_PARTS, Sim};
-use dsde_values::{Memory, Path, Seq, Values, copy_values};
+use dsde_values::{Memory, Path, Seq, Values};
 use std::alloc::Global;
 
 /// What a walk goes by: a program, and the version and the time of an image of it.
@@ -100,13 +100,6 @@ fn restored_atomic(
     }
 }
 
-/// Values equal to these.
-fn copy_of(alloc: Global, values: &Values) -> Result<Values, Memory>
-    ensures { IfOk result (λ copy. copy ≡ values.now) }
-{
-    copy_values(alloc, values.as_slice())
-}
-
 /// The executive of the network at a path, restored from the next row.
 fn restored_boss(
     walk: &Walk<'_, '_>,
@@ -123,7 +116,6 @@ fn restored_boss(
 {
     let path = boss_of(walk.alloc, path)?;
     let row = took(walk, left, &path, here)?;
-    let args = copy_of(walk.alloc, args)?;
     match boss_in(walk.alloc, walk.program, model, args, walk.time, row)? {
         Some(boss) => Ok(boss),
         None => Err(RestoreEnd::DoesNotFit(path)),
@@ -209,7 +201,7 @@ fn restored(
     }
 }
 
-/// A network, by its own row and by those behind it.
+/// A network: its own row, that of its executive, and what stands behind them.
 #[cycle(restoring)]
 fn restored_net(
     walk: &Walk<'_, '_>,
@@ -229,28 +221,8 @@ fn restored_net(
     ensures model { IfOk result (λ tree. model_of tree ≡ model) }
 {
     let own = took_net(walk, left + 1, soft, model, args, path, here)?;
-    with_args(walk, left, model, own, path, here)
-}
-
-/// A network whose own row is taken: its executive, and what stands behind it.
-#[cycle(restoring)]
-fn with_args(
-    walk: &Walk<'_, '_>,
-    left: u32,
-    model: ModelId,
-    args: Values,
-    path: &Path,
-    here: &mut Left<'_>,
-) -> Result<Sim, RestoreEnd>
-    requires moment { IsMoment walk.now.time }
-    requires network { (system walk.now.program.now).is_network model ≡ true }
-    requires args { FitsArgs walk.now.program.now model.0 args }
-    ensures walks { WalksOn result (here.new.rows.now, here.new.room) (with_args (system walk.now.program.now) (script walk.now.program.now) walk.now.version walk.now.time left (restored (system walk.now.program.now) (script walk.now.program.now) walk.now.version walk.now.time left) model path.now (args, (here.old.rows.now, here.old.room))) }
-    ensures fits { IfOk result (FitsTree walk.now.program.now) }
-    ensures model { IfOk result (λ tree. model_of tree ≡ model) }
-{
-    let boss = restored_boss(walk, left, model, &args, path, here)?;
-    with_boss(walk, left, model, args, path, boss, here)
+    let boss = restored_boss(walk, left, model, &own, path, here)?;
+    with_boss(walk, left, model, own, path, boss, here)
 }
 
 /// A network whose executive is restored: the components of its structure.
@@ -315,23 +287,24 @@ fn restored_kid(
     ensures fits { IfOk result (FitsKid walk.now.program.now) }
     ensures role { IfOk result (λ kid. role (entry_of kid) ≡ role entry) }
 {
+    let path = below(walk.alloc, path, &entry.name)?;
     let Entry {
         name,
         model,
         args,
         soft,
     } = entry;
-    let path = below(walk.alloc, path, &name)?;
     let sim = restored(walk, left, soft, model, args, &path, here)?;
     Ok(Kid { name, sim })
 }
 
-/// The tree whose root is of the model that runs, with these arguments.
-fn whole_tree(walk: &Walk<'_, '_>, args: Values, rows: &[Row]) -> Result<Sim, RestoreEnd>
+/// The tree whose root is of the model that runs, with these arguments; so many names may stand behind
+/// that of the root.
+fn whole_tree(walk: &Walk<'_, '_>, left: u32, args: Values, rows: &[Row]) -> Result<Sim, RestoreEnd>
     requires moment { IsMoment walk.now.time }
     requires args { FitsArgs walk.now.program.now (top_number walk.now.program.now).0 args }
     requires locations { AllByRecursion (HasLocation walk.now.version) rows.now }
-    ensures walks { Walks (λ tree. tree) result (whole_tree (system walk.now.program.now) (script walk.now.program.now) walk.now.version walk.now.time (top_number walk.now.program.now) args rows.now) }
+    ensures walks { Walks (λ tree. tree) result (whole_tree (system walk.now.program.now) (script walk.now.program.now) walk.now.version walk.now.time left (top_number walk.now.program.now) args rows.now) }
     ensures fits { IfOk result (FitsTree walk.now.program.now) }
 {
     left_are_last();
@@ -341,7 +314,7 @@ fn whole_tree(walk: &Walk<'_, '_>, args: Values, rows: &[Row]) -> Result<Sim, Re
         room: MOST_PARTS,
     };
     let model = walk.program.top_model();
-    let tree = restored(walk, DEEPEST, false, model, args, &root, &mut here)?;
+    let tree = restored(walk, left, false, model, args, &root, &mut here)?;
     match here.rows.split_first() {
         None => Ok(tree),
         Some((row, _)) => Err(left_over(walk.alloc, walk.version, &row.location)),
@@ -375,7 +348,7 @@ pub fn restored_tree(
         time,
     };
     match top_args(alloc, program) {
-        Ok(args) => whole_tree(&walk, args, rows),
+        Ok(args) => whole_tree(&walk, DEEPEST, args, rows),
         Err(LeafEnd::Memory) => Err(RestoreEnd::Memory),
         Err(LeafEnd::Fault(_, _, _)) => Err(misfit_at_root(alloc)),
     }

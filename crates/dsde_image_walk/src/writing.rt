@@ -30,6 +30,25 @@ pub fn texts(alloc: Global, program: &Program, values: &Values) -> Result<Seq<Te
     Ok(own)
 }
 
+/// Whether texts are the same, one by one.
+fn are_same(texts: &[Text], others: &[Text]) -> bool
+    ensures { result ≡ texts_eq texts.now others.now }
+{
+    let mut texts = texts;
+    let mut others = others;
+    while let Some((text, later)) = texts.split_first() {
+        let Some((other, rest)) = others.split_first() else {
+            return false;
+        };
+        if text.as_slice() != other.as_slice() {
+            return false;
+        }
+        texts = later;
+        others = rest;
+    }
+    others.is_empty()
+}
+
 /// Whether texts are those of values.
 pub fn are_written(
     alloc: Global,
@@ -39,17 +58,6 @@ pub fn are_written(
 ) -> Result<bool, Memory>
     ensures { IfOk result (λ same. same ≡ texts_eq own.now (texts (script program.now) values.now)) }
 {
-    let mut texts = own.as_slice();
-    let mut values = values.as_slice();
-    while let Some((text, later)) = texts.split_first() {
-        let Some((value, others)) = values.split_first() else {
-            return Ok(false);
-        };
-        if text.as_slice() != text_of(alloc, program, value)?.as_slice() {
-            return Ok(false);
-        }
-        texts = later;
-        values = others;
-    }
-    Ok(values.is_empty())
+    let written = texts(alloc, program, values)?;
+    Ok(are_same(own.as_slice(), written.as_slice()))
 }

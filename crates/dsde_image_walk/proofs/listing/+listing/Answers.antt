@@ -7,8 +7,8 @@ use Rattle.dsde_image_walk.proofs.listing.+listing.Goals as goal
 
 pub list_net-returns : goal.list_net-returns
 list_net-returns t c =
-    net-listed (script c.args.program.now) c.args.version c.args.net.now c.args.path.now c.args.listed.now _ _ _ _ _ _ c.list_kids.result c.in_ok-push.ensures.ok c.in_ok-net_row.ensures c.in_ok-push-2.ensures.ok c.in_ok-boss_row.ensures c.as_slice.ensures c.list_kids.ensures
+    net-listed (script c.args.program.now) c.args.version c.args.net.now c.args.path.now c.args.listed.now _ _ _ _ c.list_kids.result c.in_ok-put_net.ensures c.in_ok-put_boss.ensures c.as_slice.ensures c.list_kids.ensures
 
-pub list-atomic_row-requires : goal.list-atomic_row-requires
-list-atomic_row-requires t c =
+pub list-put_atomic-requires : goal.list-put_atomic-requires
+list-put_atomic-requires t c =
     (leaf-tree c.args.program.now c.in-Leaf.leaf (subst (FitsTree c.args.program.now) c.in-Leaf.is c.requires)).fits.below

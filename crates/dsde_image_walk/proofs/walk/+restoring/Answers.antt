@@ -1,10 +1,10 @@
 use Rattle.std.proofs.Common.{◌≡◌, true, subst, sym, arith}
 use Rattle.std.proofs.lemmas.Result.{err_from_is_err_and}
 use Rattle.dsde_image_fits.specs.given.system.Program.{system}
-use Rattle.dsde_image_fits.specs.Walk.{took_net, with_args, restored}
+use Rattle.dsde_image_fits.specs.Walk.{took_net, restored_boss, with_boss, with_args, restored}
 use Rattle.dsde_image_fits.specs.Script.{script}
 use Rattle.dsde_image_walk.specs.Walks.{WalksOn}
-use Rattle.dsde_image_walk.proofs.Opening.{restored-network, net-opens, stops, goes}
+use Rattle.dsde_image_walk.proofs.Opening.{restored-network, net-opens, net-goes, stops, goes}
 use Rattle.dsde_image_walk.proofs.Fitting.{made-fits, kid-fits}
 use Rattle.dsde_image_walk.proofs.walk.+restoring.Goals as goal
 
@@ -26,16 +26,27 @@ restored_net-returns-in_err-own-clause-walks t c =
     c.in_err-own.ensures.walks
     (net-opens s r c.args.walk.now.version c.args.walk.now.time c.args.left _ c.args.soft c.args.model c.args.args c.args.path.now (c.args.here.now.rows.now, c.args.here.now.room) (omega arith)))
 
+pub restored_net-returns-in_err-boss-clause-walks : goal.restored_net-returns-in_err-boss-clause-walks
+restored_net-returns-in_err-boss-clause-walks t c =
+    let p = err_from_is_err_and c.from_residual-in_err-boss.result c.from_residual-in_err-boss.ensures.1 in
+    let s = system c.args.walk.now.program.now in
+    let r = script c.args.walk.now.program.now in
+    rw (p.1, p.2) (stops (λ one. (one, (c.restored_boss.new.here.rows.now, c.restored_boss.new.here.room))) (λ one. (one, (c.restored_boss.new.here.rows.now, c.restored_boss.new.here.room))) c.in_err-boss.field-0.0
+    (restored_boss s r c.args.walk.now.version c.args.walk.now.time c.args.left c.args.model c.in_ok-own.own c.args.path.now (c.took_net.new.here.rows.now, c.took_net.new.here.room))
+    (with_boss s r c.args.walk.now.version c.args.walk.now.time (restored s r c.args.walk.now.version c.args.walk.now.time c.args.left) c.args.model c.in_ok-own.own c.args.path.now) _
+    c.in_err-boss.ensures.walks
+    (net-goes s r c.args.walk.now.version c.args.walk.now.time c.args.left _ c.args.soft c.args.model c.args.args c.in_ok-own.own c.args.path.now (c.args.here.now.rows.now, c.args.here.now.room) (c.took_net.new.here.rows.now, c.took_net.new.here.room) (omega arith) c.in_ok-own.ensures.walks))
+
 pub restored_net-returns-clause-walks : goal.restored_net-returns-clause-walks
 restored_net-returns-clause-walks t c =
     let s = system c.args.walk.now.program.now in
     let r = script c.args.walk.now.program.now in
-    goes (λ one. (one, (c.with_args.new.here.rows.now, c.with_args.new.here.room))) c.with_args.result
-    (took_net r c.args.walk.now.version _ c.args.soft c.args.model c.args.args c.args.path.now (c.args.here.now.rows.now, c.args.here.now.room)) (c.in_ok-own.own, (c.took_net.new.here.rows.now, c.took_net.new.here.room))
-    (with_args s r c.args.walk.now.version c.args.walk.now.time c.args.left (restored s r c.args.walk.now.version c.args.walk.now.time c.args.left) c.args.model c.args.path.now) _
-    c.in_ok-own.ensures.walks
-    (net-opens s r c.args.walk.now.version c.args.walk.now.time c.args.left _ c.args.soft c.args.model c.args.args c.args.path.now (c.args.here.now.rows.now, c.args.here.now.room) (omega arith))
-    c.with_args.ensures.walks
+    goes (λ one. (one, (c.with_boss.new.here.rows.now, c.with_boss.new.here.room))) c.with_boss.result
+    (restored_boss s r c.args.walk.now.version c.args.walk.now.time c.args.left c.args.model c.in_ok-own.own c.args.path.now (c.took_net.new.here.rows.now, c.took_net.new.here.room)) (c.in_ok-boss.boss, (c.restored_boss.new.here.rows.now, c.restored_boss.new.here.room))
+    (with_boss s r c.args.walk.now.version c.args.walk.now.time (restored s r c.args.walk.now.version c.args.walk.now.time c.args.left) c.args.model c.in_ok-own.own c.args.path.now) _
+    c.in_ok-boss.ensures.walks
+    (net-goes s r c.args.walk.now.version c.args.walk.now.time c.args.left _ c.args.soft c.args.model c.args.args c.in_ok-own.own c.args.path.now (c.args.here.now.rows.now, c.args.here.now.room) (c.took_net.new.here.rows.now, c.took_net.new.here.room) (omega arith) c.in_ok-own.ensures.walks)
+    c.with_boss.ensures.walks
 
 pub with_boss-returns-clause-fits : goal.with_boss-returns-clause-fits
 with_boss-returns-clause-fits t c =

@@ -3,22 +3,19 @@ use Rattle.dsde_image_walk.proofs.Kids.{HaveRestored}
 use Rattle.dsde_image_walk.proofs.walk.+restoring.Given as goal
 
 abbrev pub decreases-restored : goal.decreases-restored
-decreases-restored l = 6 * l.left
+decreases-restored l = 5 * l.left
 
 abbrev pub decreases-restored_net : goal.decreases-restored_net
-decreases-restored_net l = 6 * l.left + 5
-
-abbrev pub decreases-with_args : goal.decreases-with_args
-decreases-with_args l = 6 * l.left + 4
+decreases-restored_net l = 5 * l.left + 4
 
 abbrev pub decreases-with_boss : goal.decreases-with_boss
-decreases-with_boss l = 6 * l.left + 3
+decreases-with_boss l = 5 * l.left + 3
 
 abbrev pub decreases-restored_kids : goal.decreases-restored_kids
-decreases-restored_kids l = 6 * l.left + 2
+decreases-restored_kids l = 5 * l.left + 2
 
 abbrev pub decreases-restored_kid : goal.decreases-restored_kid
-decreases-restored_kid l = 6 * l.left + 1
+decreases-restored_kid l = 5 * l.left + 1
 
 abbrev pub invariant-restored_kids-loop-entry : goal.invariant-restored_kids-loop-entry
 invariant-restored_kids-loop-entry l =

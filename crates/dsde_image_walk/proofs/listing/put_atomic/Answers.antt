@@ -4,12 +4,12 @@ use Rattle.dsde_image.specs.declared.image.Standing.{Standing}
 use Rattle.dsde_image_fits.specs.Rows.{texts}
 use Rattle.dsde_image_fits.specs.Script.{script}
 use Rattle.dsde_image_walk.specs.Listed.{row_at}
-use Rattle.dsde_image_walk.proofs.Rows.{as-listed}
-use Rattle.dsde_image_walk.proofs.listing.atomic_row.Goals as goal
+use Rattle.dsde_image_walk.proofs.Rows.{as-put}
+use Rattle.dsde_image_walk.proofs.listing.put_atomic.Goals as goal
 
 pub returns : goal.returns
 returns c =
     let own = row_at (script c.args.program.now) c.args.version c.args.path.now c.args.leaf.now.model in
-    as-listed c.row_of.result _ _
+    as-put c.put_row.result c.args.listed.now c.put_row.new.listed _ _
     (ap (λ (args : List (List ℕ)). own (body.Atomic args c.in_ok-standing.standing)) c.in_ok-args.ensures ∙ ap (λ (standing : Standing). own (body.Atomic (texts (script c.args.program.now) c.args.leaf.now.args) standing)) c.in_ok-standing.ensures)
-    c.row_of.ensures
+    c.put_row.ensures
