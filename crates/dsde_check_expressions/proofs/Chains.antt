@@ -12,7 +12,7 @@ use Rattle.dsde_check_scope.specs.declared.error.CheckError.TheVariants as end_o
 use Rattle.dsde_check_scope.specs.Says.{Says}
 
 -- the first of what is left of a list, and what is behind it
-one_of : {X : Type 0} (items : List X) (index : ℕ) (own : X) → index < length items → own ≡ get_or items index own → drop index items ≡ own ∷ drop (index + 1) items
+pub one_of : {X : Type 0} (items : List X) (index : ℕ) (own : X) → index < length items → own ≡ get_or items index own → drop index items ≡ own ∷ drop (index + 1) items
 one_of items index own within is =
     drop-cons items index own within ∙ ap (λ first. first ∷ drop (suc index) items) (sym is) ∙ ap (λ next. own ∷ drop next items) (suc-eq-add-one index)
 
@@ -23,7 +23,7 @@ link_went link items index own left scope after within is went =
     ∙ ap (λ found. found >>= (λ seen. links_from seen (map link (drop (index + 1) items)) scope)) went
 
 -- what is wrong is wrong whatever comes next
-failed : (found : Result Seen Wrong) (next : Seen → Result Seen Wrong) (end : CheckError) → Says found (Err end) → Says (found >>= next) (Err end)
+pub failed : {A B : Type 0} (found : Result A Wrong) (next : A → Result B Wrong) (end : CheckError) → Says found (Err end) → Says (found >>= next) (Err end)
 failed found next (end_of.Wrong kind at) said = ap (λ own. own >>= next) said
 failed found next end_of.Memory said = tt
 
@@ -34,6 +34,6 @@ link_failed link items index own left scope end within is said =
     (failed _ (λ seen. links_from seen (map link (drop (index + 1) items)) scope) end said)
 
 -- what is wrong is passed on as it is
-pub passed_on : (meant : Result Seen Wrong) (end : CheckError) (answer : Result Seen CheckError) → IsErr answer → IsErrAnd answer (λ own. own ≡ end) → Says meant (Err end) → Says meant answer
+pub passed_on : {A : Type 0} (meant : Result A Wrong) (end : CheckError) (answer : Result A CheckError) → IsErr answer → IsErrAnd answer (λ own. own ≡ end) → Says meant (Err end) → Says meant answer
 passed_on meant end (Err own) _ is said = subst (λ other. Says meant (Err other)) (sym is) said
-passed_on meant end (Ok seen) none is said = cc
+passed_on meant end (Ok found) none is said = cc

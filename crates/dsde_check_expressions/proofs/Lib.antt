@@ -1,4 +1,5 @@
 pub mod Chains
 pub mod Falls
+pub mod Fits
 pub mod Folds
 pub mod Order

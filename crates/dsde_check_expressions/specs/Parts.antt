@@ -1,5 +1,5 @@
 -- What is seen of the parts of an expression that are no expressions themselves, and of some that have none.
-use Rattle.std.specs.Prelude.{ℕ, ◌+◌, min, max, true, not, List, Result}
+use Rattle.std.specs.Prelude.{ℕ, ◌+◌, min, max, true, not, List, Result, Ok}
 use Rattle.dsde_syntax.specs.declared.token.Sign.{Sign}
 use Rattle.dsde_syntax.specs.declared.id.Id.{Id}
 use Rattle.dsde_syntax.specs.declared.type_name.TypeName.{TypeName}
@@ -15,13 +15,14 @@ use Rattle.dsde_language.specs.declared.wrong.Wrong.{Wrong}
 use Rattle.dsde_language.specs.declared.wrong.WrongKind.TheVariants.{Unknown, WrongType}
 use Rattle.dsde_language.specs.Steps.{◌>>=◌, Test, unless}
 use Rattle.dsde_language.specs.Types.{wanted, held_type}
+use Rattle.dsde_language.specs.declared.builtin.Part.{Part}
 use Rattle.dsde_language.specs.declared.builtin.Row.{Row}
 use Rattle.dsde_language.specs.declared.seen.Fitted.{Fitted}
 use Rattle.dsde_language.specs.declared.signatures.Func.{Func}
 use Rattle.dsde_values.specs.declared.types.Field.{Field}
 use Rattle.dsde_values.specs.declared.types.Ty.{Ty}
 use Rattle.dsde_values.specs.declared.types.Ty.TheVariants as ty
-use Rattle.dsde_language.specs.Judge.{made, total, field_of, seen_as, type_of, sign_may_fault, all_fields, in_order, given_type, Judge, Link, Guarded, SetJudge, judge_step, suffix_step, arm_step, set_step, sign_tail_step, tail_step}
+use Rattle.dsde_language.specs.Judge.{made, total, field_of, seen_as, type_of, sign_may_fault, compared, all_fields, in_order, given_type, part_type, Judge, Scope, Link, Guarded, SetJudge, judge_step, suffix_step, arm_step, set_step, sign_tail_step, tail_step}
 
 -- `or value` and `and value`, behind what stands before it
 abbrev pub judge_tail : Around → Tail → Link
@@ -109,3 +110,50 @@ field_seen around name first at = field_of around.known first name >>= (λ ty. m
 abbrev pub unwrapped : Around → Seen → ℕ → Result Seen Wrong
 unwrapped around first at =
     held_type first >>= (λ inner. total around true at >>= (λ _. seen_as inner first.height at))
+
+-- a ?? b, by what is seen of a and of b
+abbrev pub or_else_of : ℕ → Judge → Judge → Judge
+or_else_of at left right scope =
+    left scope >>= (λ option.
+    held_type option >>= (λ inner.
+    right scope >>= (λ other.
+    other_seen inner option.height other at)))
+
+-- a comparison, by what is seen of both sides
+abbrev pub compare_of : Sign → ℕ → Judge → Judge → Judge
+compare_of which at left right scope =
+    left scope >>= (λ one.
+    compared which one >>= (λ own.
+    right scope >>= (λ other.
+    compared_seen own one.height other at)))
+
+-- not a, by what is seen of a
+abbrev pub not_of : ℕ → Judge → Judge
+not_of at own scope = own scope >>= (λ seen. negated seen at)
+
+-- -a, by what is seen of a
+abbrev pub neg_of : Around → ℕ → Judge → Judge
+neg_of around at own scope = own scope >>= (λ seen. negative around at seen)
+
+-- a part of this type: the greater of its height and of what came before it
+abbrev pub fit_one : Judge → Ty → ℕ → Scope → Result ℕ Wrong
+fit_one part own height scope =
+    part scope >>= (λ seen.
+    wanted own seen >>= (λ _.
+    Ok (max height seen.height)))
+
+-- an arm of an `if`, of this type: its height
+abbrev pub fit_arm : Guarded → Ty → ℕ → Scope → Result ℕ Wrong
+fit_arm arm own height scope =
+    arm height scope >>= (λ seen.
+    wanted own seen >>= (λ _.
+    Ok seen.height))
+
+-- an argument of a builtin, behind it: T, and the greatest height
+abbrev pub part_fitted : Part → Fitted → Seen → Result Fitted Wrong
+part_fitted own before seen =
+    part_type own before.ty seen >>= (λ ty. Ok (record { ty = ty; height = max before.height seen.height }))
+
+-- an argument of a builtin: T, and the greatest height
+abbrev pub fit_part : Judge → Part → Fitted → Scope → Result Fitted Wrong
+fit_part arg own before scope = arg scope >>= (λ seen. part_fitted own before seen)

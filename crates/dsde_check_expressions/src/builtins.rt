@@ -2,7 +2,7 @@
 
 ghost use Rattle.dsde_language.specs.Judge.{row_of, part_type};
 ghost use Rattle.dsde_check_scope.specs.Says.{Says};
-ghost use Rattle.dsde_check_expressions.specs.Parts.{builtin_seen};
+ghost use Rattle.dsde_check_expressions.specs.Parts.{builtin_seen, part_fitted};
 
 use dsde_check_scope::given::check_tables::{given_type, row_of};
 use dsde_check_scope::{Around, CheckError, copy_type, held_type, item_type, wanted};
@@ -13,12 +13,7 @@ use std::alloc::Global;
 
 /// What `T` is behind an argument, where it was this before: `WrongType` at an argument that is not
 /// what it is to be.
-pub(crate) fn part_type(
-    alloc: Global,
-    part: Part,
-    before: Ty,
-    seen: &Seen,
-) -> Result<Ty, CheckError>
+fn part_type(alloc: Global, part: Part, before: Ty, seen: &Seen) -> Result<Ty, CheckError>
     ensures { Says (part_type part before seen.now) result }
 {
     match part {
@@ -34,6 +29,22 @@ pub(crate) fn part_type(
             Ok(before)
         }
     }
+}
+
+/// The same of what was seen of all arguments before: the height is that of the highest.
+pub(crate) fn part_fitted(
+    alloc: Global,
+    part: Part,
+    before: Fitted,
+    seen: &Seen,
+) -> Result<Fitted, CheckError>
+    ensures { Says (part_fitted part before seen.now) result }
+{
+    let Fitted { ty, height } = before;
+    Ok(Fitted {
+        ty: part_type(alloc, part, ty, seen)?,
+        height: height.max(seen.height),
+    })
 }
 
 /// A builtin, behind its arguments.

@@ -121,8 +121,8 @@ fn in_order(_around: &Around<'_>, fields: &[Entry<Member<'_>>], sets: &[FieldSet
     ensures { result ≡ in_order fields.now (map (judge_set _around.now) sets.now) }
 {
     let mut same = true;
-    for (field, set) in fields.iter().zip(sets) {
-        same = same & is_named(field.get(), &set.name);
+    for index in 0..sets.len() {
+        same = same & is_named(fields[index].get(), &sets[index].name);
     }
     same
 }

@@ -3,11 +3,11 @@
 ghost use Rattle.std.specs.Prelude.{◌≡◌, map, length, Some, OnOk};
 ghost use Rattle.std.specs.Option.{option_map};
 ghost use Rattle.dsde_values.specs.declared.types.Ty.TheVariants as own;
-ghost use Rattle.dsde_language.specs.Judge.{judge, links_from, test_of, fit_all, list_of, call_to, builtin_of, row_of, fit_parts, new_of, record_at, record_of, fill, arms_of};
+ghost use Rattle.dsde_language.specs.Judge.{judge, chain, links_from, guarded, test_of, fit, fit_all, all_of, list_of, call_to, builtin_of, row_of, fit_parts, new_of, record_at, record_of, fill, each_of, if_of, arms_of};
 ghost use Rattle.dsde_check_scope.specs.Says.{Says};
-ghost use Rattle.dsde_check_expressions.specs.Parts.{judge_tail, judge_sign_tail, judge_suffix, judge_arm, judge_set};
+ghost use Rattle.dsde_check_expressions.specs.Parts.{judge_tail, judge_sign_tail, judge_suffix, judge_arm, judge_set, or_else_of, not_of, compare_of, neg_of, fit_one, fit_part, fit_arm};
 
-use crate::builtins::{builtin_seen, part_type};
+use crate::builtins::{builtin_seen, part_fitted};
 use crate::declared::{field_seen, variant_of, whole_record};
 use crate::steps::{
     call_seen, compared, compared_seen, elapsed, empty_of, held, item_of, item_seen, list_seen,
@@ -17,8 +17,8 @@ use crate::steps::{
 use dsde_check_scope::given::check_tables::{Local, Member, row_of};
 use dsde_check_scope::{Around, CheckError, bind, close, narrow, seen_as, wanted};
 use dsde_language::{BindingKind, Fitted, Part, Seen, WrongKind};
-use dsde_names::Names;
-use dsde_syntax::{Boxed, Expr, ExprArm, FieldSet, Id, Key, SignTail, Suffix, Tail};
+use dsde_names::{Entry, Names};
+use dsde_syntax::{Boxed, Expr, ExprArm, FieldSet, Id, Key, Sign, SignTail, Suffix, Tail};
 use dsde_values::Ty;
 
 /// What is seen of an expression in a scope, or the first wrong thing in it. The scope is as it was
@@ -33,56 +33,23 @@ pub fn judge<'m>(
     ensures keeps { OnOk result (scope.new ≡ scope.old) }
 {
     match expr {
-        Expr::OrElse { at, left, right } => {
-            let option = judge(around, left.get(), scope)?;
-            let height = option.height;
-            let inner = held(around.alloc(), option)?;
-            let other = judge(around, right.get(), scope)?;
-            other_seen(inner, height, other, *at)
-        }
-        Expr::Or { first, rest } => {
-            let left = judge(around, first.get(), scope)?;
-            tails(around, rest.as_slice(), left, scope)
-        }
-        Expr::And { first, rest } => {
-            let left = judge(around, first.get(), scope)?;
-            tails(around, rest.as_slice(), left, scope)
-        }
-        Expr::Not { at, of } => {
-            let seen = judge(around, of.get(), scope)?;
-            negated(seen, *at)
-        }
+        Expr::OrElse { at, left, right } => or_else(around, *at, left.get(), right.get(), scope),
+        Expr::Or { first, rest } => chain(around, first.get(), rest.as_slice(), scope),
+        Expr::And { first, rest } => chain(around, first.get(), rest.as_slice(), scope),
+        Expr::Not { at, of } => not_of(around, *at, of.get(), scope),
         Expr::Compare {
             sign,
             at,
             left,
             right,
-        } => {
-            let one = judge(around, left.get(), scope)?;
-            let height = one.height;
-            let own = compared(*sign, one)?;
-            let other = judge(around, right.get(), scope)?;
-            compared_seen(own, height, other, *at)
-        }
-        Expr::Sum { first, rest } => {
-            let left = judge(around, first.get(), scope)?;
-            sign_tails(around, rest.as_slice(), left, scope)
-        }
-        Expr::Mul { first, rest } => {
-            let left = judge(around, first.get(), scope)?;
-            sign_tails(around, rest.as_slice(), left, scope)
-        }
-        Expr::Neg { at, of } => {
-            let seen = judge(around, of.get(), scope)?;
-            negative(around, *at, seen)
-        }
+        } => compare(around, *sign, *at, left.get(), right.get(), scope),
+        Expr::Sum { first, rest } => sign_chain(around, first.get(), rest.as_slice(), scope),
+        Expr::Mul { first, rest } => sign_chain(around, first.get(), rest.as_slice(), scope),
+        Expr::Neg { at, of } => neg_of(around, *at, of.get(), scope),
         Expr::Post {
             first,
             suffixes: rest,
-        } => {
-            let left = judge(around, first.get(), scope)?;
-            suffixes(around, rest.as_slice(), left, scope)
-        }
+        } => suffix_chain(around, first.get(), rest.as_slice(), scope),
         Expr::Number { at, .. } => Ok(seen_as(Ty::Int, 0, *at)),
         Expr::Truth { at, .. } => Ok(seen_as(Ty::Bool, 0, *at)),
         Expr::Elapsed(at) => elapsed(around, *at),
@@ -103,28 +70,192 @@ pub fn judge<'m>(
             list,
             cond,
             value,
-        } => {
-            around.fresh(name, scope)?;
-            let items = judge(around, list.get(), scope)?;
-            let height = items.height;
-            let item = item_of(around.alloc(), items)?;
-            let depth = scope.len();
-            bind(scope, name, item, BindingKind::Fixed)?;
-            let tested = test_if(around, cond, height, scope)?;
-            let seen = judge(around, value.get(), scope)?;
-            close(scope, depth);
-            made_list(around, seen.ty, tested.max(seen.height), *at)
-        }
-        Expr::If { at, arms, other } => {
-            let Some((first, rest)) = arms.as_slice().split_first() else {
-                return judge(around, other.get(), scope);
-            };
-            let seen = arm(around, first, 0, scope)?;
-            let height = further_arms(around, rest, &seen, scope)?;
-            let last = judge(around, other.get(), scope)?;
-            other_seen(seen.ty, height, last, *at)
-        }
+        } => each_of(around, *at, name, cond, list.get(), value.get(), scope),
+        Expr::If { at, arms, other } => if_of(around, *at, arms.as_slice(), other.get(), scope),
     }
+}
+
+/// `left ?? right`: an option, and a value of the type that it holds.
+#[cycle(judging)]
+fn or_else<'m>(
+    around: &Around<'m>,
+    at: u32,
+    left: &'m Expr,
+    right: &'m Expr,
+    scope: &mut Names<Local<'m>>,
+) -> Result<Seen, CheckError>
+    ensures says { Says (or_else_of at (judge around.now left.now) (judge around.now right.now) scope.old) result }
+    ensures keeps { OnOk result (scope.new ≡ scope.old) }
+{
+    let option = judge(around, left, scope)?;
+    let height = option.height;
+    let inner = held(around.alloc(), option)?;
+    let other = judge(around, right, scope)?;
+    other_seen(inner, height, other, at)
+}
+
+/// `not of`
+#[cycle(judging)]
+fn not_of<'m>(
+    around: &Around<'m>,
+    at: u32,
+    of: &'m Expr,
+    scope: &mut Names<Local<'m>>,
+) -> Result<Seen, CheckError>
+    ensures says { Says (not_of at (judge around.now of.now) scope.old) result }
+    ensures keeps { OnOk result (scope.new ≡ scope.old) }
+{
+    let seen = judge(around, of, scope)?;
+    negated(seen, at)
+}
+
+/// `-of`
+#[cycle(judging)]
+fn neg_of<'m>(
+    around: &Around<'m>,
+    at: u32,
+    of: &'m Expr,
+    scope: &mut Names<Local<'m>>,
+) -> Result<Seen, CheckError>
+    ensures says { Says (neg_of around.now at (judge around.now of.now) scope.old) result }
+    ensures keeps { OnOk result (scope.new ≡ scope.old) }
+{
+    let seen = judge(around, of, scope)?;
+    negative(around, at, seen)
+}
+
+/// A comparison: both sides are of the type that its sign takes.
+#[cycle(judging)]
+fn compare<'m>(
+    around: &Around<'m>,
+    sign: Sign,
+    at: u32,
+    left: &'m Expr,
+    right: &'m Expr,
+    scope: &mut Names<Local<'m>>,
+) -> Result<Seen, CheckError>
+    ensures says { Says (compare_of sign at (judge around.now left.now) (judge around.now right.now) scope.old) result }
+    ensures keeps { OnOk result (scope.new ≡ scope.old) }
+{
+    let one = judge(around, left, scope)?;
+    let height = one.height;
+    let own = compared(sign, one)?;
+    let other = judge(around, right, scope)?;
+    compared_seen(own, height, other, at)
+}
+
+/// A chain of `or` or of `and`.
+#[cycle(judging)]
+fn chain<'m>(
+    around: &Around<'m>,
+    first: &'m Expr,
+    rest: &'m [Tail],
+    scope: &mut Names<Local<'m>>,
+) -> Result<Seen, CheckError>
+    ensures says { Says (chain (judge around.now first.now) (map (judge_tail around.now) rest.now) scope.old) result }
+    ensures keeps { OnOk result (scope.new ≡ scope.old) }
+{
+    let left = judge(around, first, scope)?;
+    tails(around, rest, left, scope)
+}
+
+/// A chain of signs and their values.
+#[cycle(judging)]
+fn sign_chain<'m>(
+    around: &Around<'m>,
+    first: &'m Expr,
+    rest: &'m [SignTail],
+    scope: &mut Names<Local<'m>>,
+) -> Result<Seen, CheckError>
+    ensures says { Says (chain (judge around.now first.now) (map (judge_sign_tail around.now) rest.now) scope.old) result }
+    ensures keeps { OnOk result (scope.new ≡ scope.old) }
+{
+    let left = judge(around, first, scope)?;
+    sign_tails(around, rest, left, scope)
+}
+
+/// A chain of suffixes.
+#[cycle(judging)]
+fn suffix_chain<'m>(
+    around: &Around<'m>,
+    first: &'m Expr,
+    rest: &'m [Suffix],
+    scope: &mut Names<Local<'m>>,
+) -> Result<Seen, CheckError>
+    ensures says { Says (chain (judge around.now first.now) (map (judge_suffix around.now) rest.now) scope.old) result }
+    ensures keeps { OnOk result (scope.new ≡ scope.old) }
+{
+    let left = judge(around, first, scope)?;
+    suffixes(around, rest, left, scope)
+}
+
+/// `[for name in list if cond: value]`: the name is that of an item of the list, in the condition and
+/// the value alone.
+#[cycle(judging)]
+fn each_of<'m>(
+    around: &Around<'m>,
+    at: u32,
+    name: &'m Id,
+    cond: &'m Option<Boxed<Expr>>,
+    list: &'m Expr,
+    value: &'m Expr,
+    scope: &mut Names<Local<'m>>,
+) -> Result<Seen, CheckError>
+    ensures says { Says (each_of around.now at name.now (judge around.now list.now) (option_map (judge around.now) cond.now) (judge around.now value.now) scope.old) result }
+    ensures keeps { OnOk result (scope.new ≡ scope.old) }
+{
+    around.fresh(name, scope)?;
+    let items = judge(around, list, scope)?;
+    let height = items.height;
+    let item = item_of(around.alloc(), items)?;
+    let depth = scope.len();
+    bind(scope, name, item, BindingKind::Fixed)?;
+    let seen = guarded(around, cond, value, height, scope)?;
+    close(scope, depth);
+    made_list(around, seen.ty, seen.height, at)
+}
+
+/// A value behind a condition that need not be there: as high as the higher of them, and as what came
+/// before them.
+#[cycle(judging)]
+fn guarded<'m>(
+    around: &Around<'m>,
+    cond: &'m Option<Boxed<Expr>>,
+    value: &'m Expr,
+    height: u32,
+    scope: &mut Names<Local<'m>>,
+) -> Result<Seen, CheckError>
+    ensures says { Says (guarded (option_map (judge around.now) cond.now) (judge around.now value.now) height scope.old) result }
+    ensures keeps { OnOk result (scope.new ≡ scope.old) }
+{
+    let tested = test_if(around, cond, height, scope)?;
+    let seen = judge(around, value, scope)?;
+    Ok(Seen {
+        ty: seen.ty,
+        height: tested.max(seen.height),
+        at: seen.at,
+    })
+}
+
+/// `if`: values of one type behind conditions, and another in their place.
+#[cycle(judging)]
+fn if_of<'m>(
+    around: &Around<'m>,
+    at: u32,
+    arms: &'m [ExprArm],
+    other: &'m Expr,
+    scope: &mut Names<Local<'m>>,
+) -> Result<Seen, CheckError>
+    ensures says { Says (if_of at (map (judge_arm around.now) arms.now) (judge around.now other.now) scope.old) result }
+    ensures keeps { OnOk result (scope.new ≡ scope.old) }
+{
+    let Some((first, rest)) = arms.split_first() else {
+        return judge(around, other, scope);
+    };
+    let seen = arm(around, first, 0, scope)?;
+    let height = further_arms(around, rest, &seen, scope)?;
+    let last = judge(around, other, scope)?;
+    other_seen(seen.ty, height, last, at)
 }
 
 /// What `or` and `and` make of what is seen before them.
@@ -272,13 +403,43 @@ pub fn fit_all<'m>(
     if args.len() != params.len() {
         return Err(CheckError::Wrong(WrongKind::WrongType, name.at));
     }
+    fit(around, args, params, scope)
+}
+
+/// The greatest height of arguments, which are as many as there are parameters and of their types.
+#[cycle(judging)]
+fn fit<'m>(
+    around: &Around<'m>,
+    args: &'m [Expr],
+    params: &[Ty],
+    scope: &mut Names<Local<'m>>,
+) -> Result<u32, CheckError>
+    requires { length args.now ≡ length params.now }
+    ensures says { Says (fit (map (judge around.now) args.now) params.now 0 scope.old) result }
+    ensures keeps { OnOk result (scope.new ≡ scope.old) }
+{
     let mut height = 0u32;
-    for (arg, ty) in args.iter().zip(params) {
-        let seen = judge(around, arg, scope)?;
-        wanted(ty, &seen)?;
-        height = height.max(seen.height);
+    for index in 0..args.len() {
+        height = fit_one(around, &args[index], &params[index], height, scope)?;
     }
     Ok(height)
+}
+
+/// A part of this type: the greater of its height and the one that came before it.
+#[cycle(judging)]
+fn fit_one<'m>(
+    around: &Around<'m>,
+    part: &'m Expr,
+    own: &Ty,
+    height: u32,
+    scope: &mut Names<Local<'m>>,
+) -> Result<u32, CheckError>
+    ensures says { Says (fit_one (judge around.now part.now) own.now height scope.old) result }
+    ensures keeps { OnOk result (scope.new ≡ scope.old) }
+{
+    let seen = judge(around, part, scope)?;
+    wanted(own, &seen)?;
+    Ok(height.max(seen.height))
 }
 
 /// A list of items, all of the first one's type: `WrongType` at one of none.
@@ -296,13 +457,26 @@ fn list_of<'m>(
         return Err(CheckError::Wrong(WrongKind::WrongType, at));
     };
     let seen = judge(around, first, scope)?;
-    let mut height = seen.height;
-    for item in rest {
-        let other = judge(around, item, scope)?;
-        wanted(&seen.ty, &other)?;
-        height = height.max(other.height);
-    }
+    let height = further_items(around, rest, &seen, scope)?;
     list_seen(around, seen.ty, height, at)
+}
+
+/// The greatest height of further items of a list, which are of the first one's type.
+#[cycle(judging)]
+fn further_items<'m>(
+    around: &Around<'m>,
+    items: &'m [Expr],
+    first: &Seen,
+    scope: &mut Names<Local<'m>>,
+) -> Result<u32, CheckError>
+    ensures says { Says (all_of first.now.ty (map (judge around.now) items.now) first.now.height scope.old) result }
+    ensures keeps { OnOk result (scope.new ≡ scope.old) }
+{
+    let mut height = first.height;
+    for item in items {
+        height = fit_one(around, item, &first.ty, height, scope)?;
+    }
+    Ok(height)
 }
 
 /// A new record, which is declared before: else `Unknown` at its identifier.
@@ -357,7 +531,7 @@ fn record_of<'m>(
     ensures keeps { OnOk result (scope.new ≡ scope.old) }
 {
     whole_record(around, owner, fields, sets)?;
-    let height = fill(around, sets, fields, scope)?;
+    let height = fill(around, sets, fields.as_slice(), scope)?;
     Ok(seen_as(Ty::Rec(number), height, at))
 }
 
@@ -367,7 +541,7 @@ fn record_of<'m>(
 fn fill<'m>(
     around: &Around<'m>,
     sets: &'m [FieldSet],
-    fields: &Names<Member<'_>>,
+    fields: &[Entry<Member<'_>>],
     scope: &mut Names<Local<'m>>,
 ) -> Result<u32, CheckError>
     requires { length sets.now ≡ length fields.now }
@@ -375,10 +549,14 @@ fn fill<'m>(
     ensures keeps { OnOk result (scope.new ≡ scope.old) }
 {
     let mut height = 0u32;
-    for (set, field) in sets.iter().zip(fields.as_slice()) {
-        let seen = judge(around, &set.value, scope)?;
-        wanted(field.get().ty(), &seen)?;
-        height = height.max(seen.height);
+    for index in 0..sets.len() {
+        height = fit_one(
+            around,
+            &sets[index].value,
+            fields[index].get().ty(),
+            height,
+            scope,
+        )?;
     }
     Ok(height)
 }
@@ -419,15 +597,26 @@ fn fit_parts<'m>(
         ty: Ty::Int,
         height: 0,
     };
-    for (arg, part) in args.iter().zip(parts) {
-        let seen = judge(around, arg, scope)?;
-        let ty = part_type(around.alloc(), *part, fitted.ty, &seen)?;
-        fitted = Fitted {
-            ty,
-            height: fitted.height.max(seen.height),
-        };
+    for index in 0..args.len() {
+        fitted = fit_part(around, &args[index], parts[index], fitted, scope)?;
     }
     Ok(fitted)
+}
+
+/// What an argument of a builtin says `T` is, behind those before it, and the height of the highest.
+#[cycle(judging)]
+fn fit_part<'m>(
+    around: &Around<'m>,
+    arg: &'m Expr,
+    part: Part,
+    before: Fitted,
+    scope: &mut Names<Local<'m>>,
+) -> Result<Fitted, CheckError>
+    ensures says { Says (fit_part (judge around.now arg.now) part before scope.old) result }
+    ensures keeps { OnOk result (scope.new ≡ scope.old) }
+{
+    let seen = judge(around, arg, scope)?;
+    part_fitted(around.alloc(), part, before, &seen)
 }
 
 /// A condition, which is bool: the greater of its height and the one that came before it.
@@ -441,9 +630,7 @@ pub fn test<'m>(
     ensures says { Says (test_of (Some (judge around.now cond.now)) height scope.old) result }
     ensures keeps { OnOk result (scope.new ≡ scope.old) }
 {
-    let seen = judge(around, cond, scope)?;
-    wanted(&Ty::Bool, &seen)?;
-    Ok(height.max(seen.height))
+    fit_one(around, cond, &Ty::Bool, height, scope)
 }
 
 /// The same of a condition that need not be there.
@@ -497,9 +684,24 @@ fn further_arms<'m>(
 {
     let mut height = first.height;
     for own in arms {
-        let seen = arm(around, own, height, scope)?;
-        wanted(&first.ty, &seen)?;
-        height = seen.height;
+        height = fit_arm(around, own, &first.ty, height, scope)?;
     }
     Ok(height)
+}
+
+/// An arm of an `if` whose value is of this type: how high it is.
+#[cycle(judging)]
+fn fit_arm<'m>(
+    around: &Around<'m>,
+    next: &'m ExprArm,
+    own: &Ty,
+    height: u32,
+    scope: &mut Names<Local<'m>>,
+) -> Result<u32, CheckError>
+    ensures says { Says (fit_arm (judge_arm around.now next.now) own.now height scope.old) result }
+    ensures keeps { OnOk result (scope.new ≡ scope.old) }
+{
+    let seen = arm(around, next, height, scope)?;
+    wanted(own, &seen)?;
+    Ok(seen.height)
 }
