@@ -48,11 +48,11 @@ pub fn operated_on(which: Binary, at: u32, left: &Value, right: &Value) -> Resul
         Binary::LessEqual => Ok(Value::Bool(int_of(left) <= int_of(right))),
         Binary::Greater => Ok(Value::Bool(int_of(left) > int_of(right))),
         Binary::GreaterEqual => Ok(Value::Bool(int_of(left) >= int_of(right))),
-        Binary::Add => sum(at, int_of(left), int_of(right)),
-        Binary::Sub => difference(at, int_of(left), int_of(right)),
-        Binary::Mul => product(at, int_of(left), int_of(right)),
-        Binary::Div => quotient(at, int_of(left), int_of(right)),
-        Binary::Rem => remainder(at, int_of(left), int_of(right)),
+        Binary::Add => Ok(Value::Int(sum(at, int_of(left), int_of(right))?)),
+        Binary::Sub => Ok(Value::Int(difference(at, int_of(left), int_of(right))?)),
+        Binary::Mul => Ok(Value::Int(product(at, int_of(left), int_of(right))?)),
+        Binary::Div => Ok(Value::Int(quotient(at, int_of(left), int_of(right))?)),
+        Binary::Rem => Ok(Value::Int(remainder(at, int_of(left), int_of(right))?)),
         Binary::CapAdd => Ok(Value::Int(capped_sum(int_of(left), int_of(right)))),
         Binary::CapSub => Ok(Value::Int(capped_difference(int_of(left), int_of(right)))),
         Binary::CapMul => Ok(Value::Int(capped_product(int_of(left), int_of(right)))),
@@ -72,7 +72,7 @@ pub fn negated(at: u32, value: &Value) -> Result<Value, EvalEnd>
     requires { negated at value.now ≢ Err Stuck }
     ensures { Gives (negated at value.now) result }
 {
-    difference(at, 0, int_of(value))
+    Ok(Value::Int(difference(at, 0, int_of(value))?))
 }
 
 /// `!`: the value of an option; the fault `EmptyOption`, at the sign's place, where it has none.

@@ -4,6 +4,6 @@
 pub mod eval_operators {
     pub use dsde_eval_operators::{
         denied, indexed, int_of, items_of, listed, negated, of_one, of_three, of_two, operated,
-        operated_on, option_of, parts_of, place_in, truth_of,
+        operated_on, option_of, parts_of, place_in, reckoned, reckons, truth_of,
     };
 }
