@@ -1,4 +1,5 @@
 pub mod Assigning
 pub mod Depths
+pub mod Reckoning
 pub mod Standing
 pub mod Steps

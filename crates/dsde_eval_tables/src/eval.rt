@@ -13,7 +13,7 @@ ghost use Rattle.dsde_eval_tables.specs.Evaluating.{coded_of, one_kept, index_at
 ghost use Rattle.dsde_eval_tables.specs.Passing.{PassesIn, ActsPass, ActPasses, ArmsPass, BracedPasses, EachPasses};
 
 use crate::evaluator::Evaluator;
-use crate::slots::set_slot;
+use crate::slots::{set_number, set_slot};
 use crate::spot::{
     Got, Spot, field_in, held_of, inner_of, is_there, item_of, one_of, slot_copy, taken,
 };
@@ -642,7 +642,7 @@ impl Evaluator<'_> {
     }
 
     /// Assigns what an expression comes to. A list that is made anew from the list in the same slot is
-    /// changed where it is.
+    /// changed where it is, and a number that is made of numbers is written there.
     #[cycle(evaluating)]
     fn set(
         &self,
@@ -659,6 +659,9 @@ impl Evaluator<'_> {
         if let Some(change) = own_change(&self.tables.nodes, slot, number) {
             changes_are_assignments();
             return self.change(depth.saturating_sub(1), slot, change, slots, sends);
+        }
+        if let Some(own) = self.reckon(depth, number, slots) {
+            return set_number(slot, own, slots, sends);
         }
         let value = self.eval(depth, number, slots)?;
         set_slot(slot, value, slots, sends)

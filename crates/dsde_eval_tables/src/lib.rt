@@ -5,6 +5,7 @@ mod eval;
 mod evaluator;
 pub mod given;
 mod looks;
+mod numbers;
 mod slots;
 mod spot;
 

@@ -65,7 +65,7 @@ impl Evaluator<'_> {
     }
 
     /// A field of a record, if it is a slot's, where it stands.
-    fn field_standing<'s>(
+    pub(crate) fn field_standing<'s>(
         &self,
         depth: u32,
         field: u32,
