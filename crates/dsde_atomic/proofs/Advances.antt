@@ -1,8 +1,11 @@
 -- Values of the type of an advance.
-use Rattle.std.proofs.Common.{◌≡◌, ◌≢◌, ℕ, ◌+◌, ◌^◌, ℤ, pos, negsuc, Bool, true, false, if◌then◌else◌, Option, Some, None, Ok, Err, nat_lt, refl}
+use Rattle.std.proofs.Common.{◌≡◌, ◌≢◌, ℕ, ◌+◌, ◌^◌, ℤ, pos, negsuc, Bool, true, false, if◌then◌else◌, Option, Some, None, Ok, Err, nat_lt, refl, ◌∙◌, ap}
 use Rattle.dsde_values.specs.declared.types.Ty.TheVariants as ty
 use Rattle.dsde_values.specs.declared.types.Types.{Types}
-use Rattle.dsde_values.specs.declared.value.Value.{Value}
+use Rattle.dsde_values.specs.declared.value.Value.{Value, Value-F}
+use Rattle.dsde_values.specs.declared.value.Value.TheOpen as layer
+use Rattle.dsde_values.specs.declared.value.Value.TheVariants as value
+use Rattle.dsde_values.specs.declared.value.Value.TheViews.{outs-Int, outs-Some}
 use Rattle.dsde_values.specs.declared.when.When.{When}
 use Rattle.dsde_values.specs.Value.{fits_int}
 use Rattle.dsde_values.specs.declared.when.When.TheVariants.{At}
@@ -35,3 +38,15 @@ module _ (types : Types) where
     -- A value of the type of an advance is one.
     pub is-advance : (v : Value) → Typed types (ty.Opt ty.Int) v → due_by at time v ≢ Err Stuck
     is-advance v h = held-stuck (option_of v) (option-sound types true v ty.Int h)
+
+-- An option that holds a number is due behind that number.
+abbrev held_in : Value-F Value → Outcome (Option Value)
+held_in own = elim own [ layer.Nothing ↦ Ok None | layer.Some inner ↦ Ok (Some inner) | _ ↦ Err Stuck ]
+
+abbrev int_in : Value-F Value → Outcome ℤ
+int_in own = elim own [ layer.Int number ↦ Ok number | _ ↦ Err Stuck ]
+
+pub number-due : (at time : ℕ) (number : ℤ) → due_by at time (value.Some (value.Int number)) ≡ after at time number
+number-due at time number =
+    ap (λ (own : Value-F Value). held_in own >>= (λ held. due_after at time held)) (outs-Some (value.Int number))
+    ∙ ap (λ (own : Value-F Value). int_in own >>= (λ n. after at time n)) (outs-Int number)

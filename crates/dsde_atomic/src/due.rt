@@ -2,6 +2,7 @@
 
 ghost use Rattle.std.specs.Prelude.{◌≡◌, ◌≢◌, ◌<◌, ◌++◌, List, length, Ok, Err, IfOk};
 ghost use Rattle.dsde_values.specs.declared.value.Value as values;
+ghost use Rattle.dsde_values.specs.declared.value.Value.TheVariants as value;
 ghost use Rattle.dsde_values.specs.When.{IsMoment};
 ghost use Rattle.dsde_language.specs.NodeModels.{infos_of};
 ghost use Rattle.dsde_language.specs.Outcome as outcome;
@@ -14,7 +15,7 @@ ghost use Rattle.dsde_atomic.specs.Steps.{FitsBody, due_by};
 
 use crate::body::{at_site, code_of};
 use dsde_eval::given::program::Program;
-use dsde_eval::{Env, eval};
+use dsde_eval::{Env, eval, held_number};
 use dsde_faults::{EvalEnd, FaultKind, LeafEnd, Site};
 use dsde_language::ModelId;
 use dsde_values::{LAST_MOMENT, Value, When};
@@ -36,6 +37,12 @@ pub(crate) fn due(
     ensures in_time { IfOk result IsInTime }
 {
     let code = code_of(program, model);
+    if let Some(number) = held_number(alloc, program, code.advance, env) {
+        return match after_number(code.advance_at, time, number) {
+            Ok(next) => Ok(next),
+            Err(end) => Err(at_site(Site::Advance, end)),
+        };
+    }
     let advance = match eval(alloc, program, code.advance, env) {
         Ok(advance) => advance,
         Err(end) => return Err(at_site(Site::Advance, end)),
@@ -58,6 +65,15 @@ fn after_advance(at: u32, time: u64, advance: &Value) -> Result<When, EvalEnd>
         Value::Some(inner) => after(at, time, number_of(inner.get())),
         _ => unreachable!(),
     }
+}
+
+/// The time of the next event, where the advance is an option that holds this number.
+fn after_number(at: u32, time: u64, number: i64) -> Result<When, EvalEnd>
+    requires { IsMoment time }
+    ensures gives { outcome.Gives (due_by at time (value.Some (value.Int number))) result }
+    ensures in_time { IfOk result IsInTime }
+{
+    after(at, time, number)
 }
 
 /// The number that a value is.

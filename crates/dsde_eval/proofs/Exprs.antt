@@ -1,10 +1,11 @@
 -- Any expression of a model in which nothing is wrong.
-use Rattle.std.proofs.Common.{◌≡◌, ◌≢◌, ℕ, Bool, List, Result, Err, sym, ◌∙◌, ap, subst}
+use Rattle.std.proofs.Common.{◌≡◌, ◌≢◌, ℕ, ℤ, Bool, List, Option, Some, None, Result, Ok, Err, sym, ◌∙◌, ap, subst, IfSome}
 use Rattle.dsde_language.specs.given.syntax.expr_Expr.{Expr}
 use Rattle.dsde_language.specs.given.syntax.decl_Model.{Model}
 use Rattle.dsde_values.specs.declared.types.Field.{Field}
 use Rattle.dsde_values.specs.declared.types.Ty.{Ty}
 use Rattle.dsde_values.specs.declared.value.Value.{Value}
+use Rattle.dsde_values.specs.declared.value.Value.TheVariants as value
 use Rattle.dsde_faults.specs.declared.end.EvalEnd.{EvalEnd}
 use Rattle.dsde_language.specs.Judge.{judge}
 use Rattle.dsde_language.specs.Expressions.{resolve, expr_id}
@@ -65,3 +66,9 @@ module _ (model : Model) (right : IsRight model) (agree : ExpressionsAgree) (wit
       gives = part-gives result gives;
       sound = λ total slots expr t vars is fits are. expr-sound total slots number expr t is vars fits;
     }
+
+    -- the number in an option that an expression comes to
+    pub number-came : (result : Option ℤ) → IfSome result (λ found. (means_in coded 512).part (expr_id number) values ≡ Ok (value.Some (value.Int found)))
+        → IfSome result (λ found. Came model number values (Ok (value.Some (value.Int found))))
+    number-came None is = tt
+    number-came (Some found) is = part-came (Ok (value.Some (value.Int found))) is

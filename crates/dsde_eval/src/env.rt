@@ -1,6 +1,7 @@
 //! Expressions and blocks by their numbers.
 
-ghost use Rattle.std.specs.Prelude.{◌≡◌, Err};
+ghost use Rattle.std.specs.Prelude.{◌≡◌, Ok, Err, IfSome};
+ghost use Rattle.dsde_values.specs.declared.value.Value.TheVariants as value;
 ghost use Rattle.dsde_language.specs.MeaningTables.{state_of};
 ghost use Rattle.dsde_sound_expressions.specs.Coded.{coded_of};
 ghost use Rattle.dsde_eval_tables.specs.declared.evaluator.Evaluator.{Evaluator};
@@ -43,6 +44,16 @@ pub fn eval(alloc: Global, program: &Program, expr: ExprId, env: &mut Env) -> Re
     laws();
     program.right();
     evaluator(alloc, program).eval(GREATEST_HEIGHT, expr, &mut env.slots)
+}
+
+/// The whole number in the option that the expression with a number comes to, if it can be told
+/// before the option is made: where it is made of numbers that are spelled or stand in the slots.
+pub fn held_number(alloc: Global, program: &Program, expr: ExprId, env: &Env) -> Option<i64>
+    ensures { IfSome result (λ number. Came program.now expr.0 env.now.slots (Ok (value.Some (value.Int number)))) }
+{
+    laws();
+    program.right();
+    evaluator(alloc, program).held_number(GREATEST_HEIGHT, expr, &env.slots)
 }
 
 /// Runs the block with a number. The slots are then those behind its statements, or where the first

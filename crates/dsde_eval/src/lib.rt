@@ -8,5 +8,5 @@ mod via;
 
 pub use dsde_faults::{EvalEnd, FaultKind};
 pub use dsde_program::Program;
-pub use env::{Env, eval, run_block};
+pub use env::{Env, eval, held_number, run_block};
 pub use via::translate;
