@@ -1,13 +1,10 @@
 -- What items put into a structure, as code answers it.
-use Rattle.std.specs.Prelude.{◌≡◌, true, List, Result, Ok, Err}
+use Rattle.std.specs.Prelude.{◌≡◌, List, Result, Ok, Err}
 use Rattle.dsde_faults.specs.declared.end.EvalEnd.{EvalEnd}
 use Rattle.dsde_faults.specs.declared.end.EvalEnd.TheVariants as end_of
 use Rattle.dsde_language.specs.Outcome.{Fault, Outcome}
 use Rattle.dsde_language.specs.MeaningTables.{Part, means_in}
 use Rattle.dsde_eval_tables.specs.Evaluating.{coded_of}
-use Rattle.dsde_executive_plans.specs.given.structure.plan_Entry.{Entry}
-use Rattle.dsde_executive_plans.specs.given.structure.plan_Link.{Link}
-use Rattle.dsde_executive_plans.specs.Layout.{has_part}
 use Rattle.dsde_executive_planner.specs.declared.planner.Planner.{Planner}
 
 -- The list becomes what is meant, or the answer says why not.
@@ -19,7 +16,3 @@ Becomes meant (Err end_of.Memory) after = Unit {0}
 -- what an expression comes to in the tables of a planner
 abbrev pub part_in : Planner → Part
 part_in planner = (means_in (coded_of planner.evaluator) planner.depth).part
-
--- both ends of a link are there
-abbrev pub IsTied : List Entry → Link → Type 0
-IsTied entries link = (has_part entries link.from.part ≡ true) × (has_part entries link.to.part ≡ true)

@@ -1,16 +1,18 @@
 //! What items have put into a structure so far.
 
-ghost use Rattle.std.specs.Prelude.{◌≡◌, [], map, IsTrue, IfSome, IfOk};
+ghost use Rattle.std.specs.Prelude.{◌≡◌, [], map, IfOk};
 ghost use Rattle.dsde_language.specs.Outcome.{Gives};
-ghost use Rattle.dsde_executive_plans.specs.Layout.{with_entry, with_link, is_there, has_part, tied, plan_of};
-ghost use Rattle.dsde_executive_planner.specs.Drawing.{Becomes, IsTied};
+ghost use Rattle.dsde_executive_plans.specs.Layout.{with_entry, with_link, has_part, tied, plan_of};
+ghost use Rattle.dsde_executive_plans.specs.given.structure.Survival.{IsInOrder};
+ghost use Rattle.dsde_executive_planner.specs.Drawing.{Becomes};
 
 use crate::entries::Entries;
+use crate::found::index_near;
 use dsde_executive_plans::PlacedLink;
 use dsde_executive_plans::given::structure::{Entry, Link, Part, Plan};
 use dsde_faults::{EvalEnd, FaultKind};
 use dsde_lists::Memory;
-use dsde_values::{Name, Seq};
+use dsde_values::Seq;
 use std::alloc::Global;
 
 /// How many components a structure may have, and how many links.
@@ -68,64 +70,49 @@ impl Drawn {
         ensures { Gives (plan_of self.entries self.links) result }
     {
         let Drawn { entries, links } = self;
-        tied(&entries, links.as_slice())?;
+        let entries = entries.into_seq(alloc)?;
+        tied(entries.as_slice(), links.as_slice())?;
         Ok(Plan {
-            entries: entries.into_seq(alloc)?,
+            entries,
             links: bare(alloc, links)?,
         })
     }
 }
 
-/// Whether a part of the network is the component of this name.
-fn is_kid(part: &Part, name: &Name) -> bool
-    ensures { IsTrue result → part.now ≡ Part.Kid name.now }
-{
-    match part {
-        Part::Net => false,
-        Part::Boss => false,
-        Part::Kid(own) => own.is_same(name),
-    }
-}
-
-/// Whether there is a component of this name. One at an end of a link that is tied is there without a
-/// search.
-fn has_kid(entries: &Entries, before: Option<&Link>, name: &Name) -> bool
-    requires { IfSome before (λ link. IsTied entries.now link.now) }
-    ensures { result ≡ is_there name.now entries.now }
-{
-    match before {
-        Some(link) => {
-            is_kid(&link.from.part, name) || is_kid(&link.to.part, name) || entries.has(name)
-        }
-        None => entries.has(name),
-    }
-}
-
-/// Whether a part of the network is there. The link before, if there is one, is tied.
-fn has_part(entries: &Entries, before: Option<&Link>, part: &Part) -> bool
-    requires { IfSome before (λ link. IsTied entries.now link.now) }
+/// Whether a part of the network is there. What is in `last` is where the component of the last such
+/// part was found, if any was.
+fn has_part(entries: &[Entry], last: &mut usize, part: &Part) -> bool
+    requires { IsInOrder entries.now }
     ensures { result ≡ has_part entries.now part.now }
 {
     match part {
         Part::Net => true,
         Part::Boss => true,
-        Part::Kid(name) => has_kid(entries, before, name),
+        Part::Kid(name) => match index_near(entries, *last, name) {
+            None => false,
+            Some(index) => {
+                *last = index;
+                true
+            }
+        },
     }
 }
 
-/// Finds the first link of which an end is not there.
-fn tied(entries: &Entries, links: &[PlacedLink]) -> Result<(), EvalEnd>
+/// Finds the first link of which an end is not there. Sources and targets mostly come in the order of
+/// the components' names, so each is looked for where the last one was found.
+fn tied(entries: &[Entry], links: &[PlacedLink]) -> Result<(), EvalEnd>
+    requires { IsInOrder entries.now }
     ensures { Gives (tied entries.now links.now) result }
 {
-    let mut before = None;
+    let mut last_from = 0;
+    let mut last_to = 0;
     for placed in links {
         let link = &placed.link;
-        if !has_part(entries, before, &link.from.part)
-            || !has_part(entries, before, &link.to.part)
+        if !has_part(entries, &mut last_from, &link.from.part)
+            || !has_part(entries, &mut last_to, &link.to.part)
         {
             return Err(EvalEnd::Fault(FaultKind::DanglingLink, placed.at));
         }
-        before = Some(link);
     }
     Ok(())
 }
@@ -134,7 +121,7 @@ fn tied(entries: &Entries, links: &[PlacedLink]) -> Result<(), EvalEnd>
 fn bare(alloc: Global, placed: Seq<PlacedLink>) -> Result<Seq<Link>, Memory>
     ensures { IfOk result (λ links. links ≡ map (λ own. own.link) placed) }
 {
-    let mut links = Seq::new(alloc);
+    let mut links = Seq::with_room(alloc, placed.len())?;
     for PlacedLink { at: _, link } in placed.into_vec() {
         links.push(link)?;
     }

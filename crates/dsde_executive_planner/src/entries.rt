@@ -2,6 +2,7 @@
 
 ghost use Rattle.std.specs.Prelude.{◌≡◌, [], false, length, Ok, IfOk};
 ghost use Rattle.dsde_executive_plans.specs.Layout.{inserted, is_there};
+ghost use Rattle.dsde_executive_plans.specs.given.structure.Survival.{IsInOrder};
 
 use dsde_executive_plans::given::structure::Entry;
 use dsde_language::ModelId;
@@ -89,9 +90,10 @@ impl Entries {
 
     /// The components in the order of their names.
     pub(crate) fn into_seq(self, alloc: Global) -> Result<Seq<Entry>, Memory>
-        ensures { IfOk result (λ entries. entries ≡ self) }
+        ensures entries { IfOk result (λ entries. entries ≡ self) }
+        ensures order { IfOk result (λ entries. IsInOrder entries) }
     {
-        let mut entries = Seq::new(alloc);
+        let mut entries = Seq::with_room(alloc, self.by_name.len())?;
         for (name, Chosen { model, args, soft }) in self.by_name {
             entries.push(Entry {
                 name,

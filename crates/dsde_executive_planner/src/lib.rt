@@ -3,6 +3,7 @@
 
 mod drawn;
 mod entries;
+mod found;
 pub mod given;
 mod planner;
 
