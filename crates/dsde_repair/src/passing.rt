@@ -48,7 +48,7 @@ fn passing_above(
     ensures { IfOk result (λ ways. ways ≡ map ranked (net_ways (only (passing_kids name.now rest.now (out-Wiring net.now).kids)) (links_of net.now) side port)) }
 {
     let mut ways = Seq::new(alloc);
-    let numbers = net.links.at(side, &Part::Net);
+    let numbers = net.links.at_net(side);
     for number in numbers {
         passing_numbered(alloc, side, net, name, rest, port, *number, &mut ways)?;
     }

@@ -48,7 +48,7 @@ fn past_above(
     ensures { IfOk result (λ ways. ways ≡ map ranked (net_ways (past_around no_ways name.now rest.now net.now) (links_of net.now) side port)) }
 {
     let mut ways = Seq::new(alloc);
-    let numbers = net.links.at(side, &Part::Net);
+    let numbers = net.links.at_net(side);
     for number in numbers {
         past_numbered(alloc, side, net, name, rest, port, *number, &mut ways)?;
     }

@@ -74,8 +74,8 @@ fn out_all(
 {
     let copy = name.copy(alloc)?;
     let own = Part::Kid(copy);
-    let numbers = net.links.at(Side::Into, &own);
-    for number in numbers {
+    let numbers = net.links.at(alloc, Side::Into, &own)?;
+    for number in numbers.as_slice() {
         out_numbered(alloc, net, whole, name, rest, *number, rows)?;
     }
     Ok(())
@@ -136,8 +136,8 @@ fn into_all(
 {
     let copy = name.copy(alloc)?;
     let own = Part::Kid(copy);
-    let numbers = net.links.at(Side::Out, &own);
-    for number in numbers {
+    let numbers = net.links.at(alloc, Side::Out, &own)?;
+    for number in numbers.as_slice() {
         into_numbered(alloc, net, whole, name, rest, *number, rows)?;
     }
     Ok(())

@@ -21,14 +21,24 @@ pub fn take_out(alloc: Global, wiring: &mut Wiring, place: &[Name]) -> Result<Se
 {
     match place.split_first() {
         None => Ok(take_here(alloc, wiring)),
-        Some((name, rest)) => match index_of(wiring.kids.as_slice(), name) {
-            None => Ok(Seq::new(alloc)),
-            Some(index) => match wiring.kids.get_mut(index) {
+        Some((name, rest)) => {
+            index_links(alloc, wiring)?;
+            match index_of(wiring.kids.as_slice(), name) {
                 None => Ok(Seq::new(alloc)),
-                Some(kid) => take_below(alloc, kid, rest),
-            },
-        },
+                Some(index) => match wiring.kids.get_mut(index) {
+                    None => Ok(Seq::new(alloc)),
+                    Some(kid) => take_below(alloc, kid, rest),
+                },
+            }
+        }
     }
+}
+
+/// Has the links of a network in which another one changes found by their components from now on.
+fn index_links(alloc: Global, wiring: &mut Wiring) -> Result<(), Memory>
+    ensures { wiring.new ≡ wiring.old }
+{
+    wiring.links.index(alloc)
 }
 
 fn take_here(alloc: Global, wiring: &mut Wiring) -> Seq<WiredKid>

@@ -27,7 +27,7 @@ pub fn net_ways(alloc: Global, side: Side, net: &Wiring, port: u32) -> Result<Se
     ensures { IfOk result (λ ways. ways ≡ map ranked ((inner_of net.now).ways side port)) }
 {
     let mut ways = Seq::new(alloc);
-    let numbers = net.links.at(side, &Part::Net);
+    let numbers = net.links.at_net(side);
     for number in numbers {
         ways_numbered(alloc, side, net, port, *number, &mut ways)?;
     }

@@ -1,10 +1,10 @@
-//! Numbers of links by the parts at their ends.
+//! Numbers of links by the components at their ends.
 
 ghost use Rattle.std.specs.Prelude.{◌≡◌, [], ◌∷◌, ◌++◌, if◌then◌else◌, IfOk, OnOk};
 ghost use Rattle.dsde_values.specs.declared.name.Name.{Name};
-ghost use Rattle.dsde_structure.specs.declared.plan.Part.{Part};
+ghost use Rattle.dsde_structure.specs.declared.plan.Part.TheVariants.{Kid};
 ghost use Rattle.dsde_structure.specs.Gather.{is_part, is_same_name};
-ghost use Rattle.dsde_routes_wiring.specs.Numbers.{number_if, numbers_at, numbers_named, numbers_of};
+ghost use Rattle.dsde_routes_wiring.specs.Numbers.{IsIndex, numbers_named};
 
 use crate::side::{Side, near};
 use dsde_bank::given::lists::Memory;
@@ -13,57 +13,42 @@ use dsde_values::{Name, Seq, one_name};
 use std::alloc::Global;
 use std::collections::BTreeMap;
 
-/// The numbers of the links of a network by the part at one of their ends.
+/// The numbers of the links of a network by the component at one of their ends.
 #[derive(Debug, Drop)]
 pub struct Index {
-    net: Seq<usize>,
-    boss: Seq<usize>,
     kids: BTreeMap<Name, Seq<usize>>,
 }
 
 impl Index {
-    pub fn new(alloc: Global) -> Index
-        ensures { (part : Part) → numbers_of result part ≡ [] }
-    {
-        Index {
-            net: Seq::new(alloc),
-            boss: Seq::new(alloc),
-            kids: BTreeMap::new(alloc),
-        }
-    }
-
     /// The index of links by their ends on a side.
     pub fn of(alloc: Global, side: Side, links: &[Link]) -> Result<Index, Memory>
-        ensures { IfOk result (λ index. (part : Part) → numbers_of index part ≡ numbers_at side part links.now) }
+        ensures { IfOk result (IsIndex side links.now) }
     {
-        let mut index = Index::new(alloc);
+        let mut index = Index {
+            kids: BTreeMap::new(alloc),
+        };
         for (number, link) in links.iter().enumerate() {
             index.add(alloc, &near(side, link).part, number)?;
         }
         Ok(index)
     }
 
-    /// The numbers at a part.
-    pub fn at(&self, part: &Part) -> &[usize]
-        ensures { result.now ≡ numbers_of self.now part.now }
+    /// The numbers at a component.
+    pub fn at(&self, name: &Name) -> &[usize]
+        ensures { result.now ≡ numbers_named self.now.kids name.now }
     {
-        match part {
-            Part::Net => self.net.as_slice(),
-            Part::Boss => self.boss.as_slice(),
-            Part::Kid(name) => match self.kids.get(name) {
-                Some(numbers) => numbers.as_slice(),
-                None => &[],
-            },
+        match self.kids.get(name) {
+            Some(numbers) => numbers.as_slice(),
+            None => &[],
         }
     }
 
-    /// Adds a number to those at a part.
+    /// Adds a number to those at a part, if it is a component.
     fn add(&mut self, alloc: Global, part: &Part, number: usize) -> Result<(), Memory>
-        ensures { OnOk result ((other : Part) → numbers_of self.new other ≡ numbers_of self.old other ++ (if is_part part.now other then number ∷ [] else [])) }
+        ensures { OnOk result ((other : Name) → numbers_named self.new.kids other ≡ numbers_named self.old.kids other ++ (if is_part part.now (Kid other) then number ∷ [] else [])) }
     {
         match part {
-            Part::Net => self.net.push(number),
-            Part::Boss => self.boss.push(number),
+            Part::Net | Part::Boss => Ok(()),
             Part::Kid(name) => add_kid(alloc, &mut self.kids, name, number),
         }
     }

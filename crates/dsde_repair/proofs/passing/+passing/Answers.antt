@@ -30,8 +30,8 @@ passing_numbered-returns-in-Some t c =
 pub passing_above-returns : goal.passing_above-returns
 passing_above-returns t c =
     let around = only (passing_kids c.args.name.now c.args.rest.now (out-Wiring c.args.net.now).kids) in
-    numbers-done (link_at (over_link c.args.side around (out-Wiring c.args.net.now).me c.args.port) (out-Wiring c.args.net.now).links) c.at-numbers.result.now c.loop-number.number-index c.loop-number.ways [] c.loop-number-test.false c.loop-number.invariant
-    ∙ ap (flat_map (link_at (over_link c.args.side around (out-Wiring c.args.net.now).me c.args.port) (out-Wiring c.args.net.now).links)) c.at-numbers.ensures
+    numbers-done (link_at (over_link c.args.side around (out-Wiring c.args.net.now).me c.args.port) (out-Wiring c.args.net.now).links) c.at_net-numbers.result.now c.loop-number.number-index c.loop-number.ways [] c.loop-number-test.false c.loop-number.invariant
+    ∙ ap (flat_map (link_at (over_link c.args.side around (out-Wiring c.args.net.now).me c.args.port) (out-Wiring c.args.net.now).links)) c.at_net-numbers.ensures
     ∙ few-over c.args.side around c.args.net.now c.args.port
 
 pub passing_over-returns : goal.passing_over-returns

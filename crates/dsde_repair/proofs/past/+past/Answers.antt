@@ -29,8 +29,8 @@ past_numbered-returns-in-Some t c =
 pub past_above-returns : goal.past_above-returns
 past_above-returns t c =
     let around = past_around no_ways c.args.name.now c.args.rest.now c.args.net.now in
-    numbers-done (link_at (over_link c.args.side around (out-Wiring c.args.net.now).me c.args.port) (out-Wiring c.args.net.now).links) c.at-numbers.result.now c.loop-number.number-index c.loop-number.ways [] c.loop-number-test.false c.loop-number.invariant
-    ∙ ap (flat_map (link_at (over_link c.args.side around (out-Wiring c.args.net.now).me c.args.port) (out-Wiring c.args.net.now).links)) c.at-numbers.ensures
+    numbers-done (link_at (over_link c.args.side around (out-Wiring c.args.net.now).me c.args.port) (out-Wiring c.args.net.now).links) c.at_net-numbers.result.now c.loop-number.number-index c.loop-number.ways [] c.loop-number-test.false c.loop-number.invariant
+    ∙ ap (flat_map (link_at (over_link c.args.side around (out-Wiring c.args.net.now).me c.args.port) (out-Wiring c.args.net.now).links)) c.at_net-numbers.ensures
     ∙ few-over c.args.side around c.args.net.now c.args.port
 
 pub past_over-returns : goal.past_over-returns

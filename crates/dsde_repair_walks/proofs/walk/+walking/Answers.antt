@@ -54,6 +54,6 @@ ways_numbered-returns-in-Some t c =
 
 pub net_ways-returns : goal.net_ways-returns
 net_ways-returns t c =
-    numbers-done (link_at (ways_over c.args.side c.args.net.now c.args.port) (out-Wiring c.args.net.now).links) c.at-numbers.result.now c.loop-number.number-index c.loop-number.ways [] c.loop-number-test.false c.loop-number.invariant
-    ∙ ap (flat_map (link_at (ways_over c.args.side c.args.net.now c.args.port) (out-Wiring c.args.net.now).links)) c.at-numbers.ensures
+    numbers-done (link_at (ways_over c.args.side c.args.net.now c.args.port) (out-Wiring c.args.net.now).links) c.at_net-numbers.result.now c.loop-number.number-index c.loop-number.ways [] c.loop-number-test.false c.loop-number.invariant
+    ∙ ap (flat_map (link_at (ways_over c.args.side c.args.net.now c.args.port) (out-Wiring c.args.net.now).links)) c.at_net-numbers.ensures
     ∙ ways-whole c.args.side c.args.net.now c.args.port
