@@ -143,11 +143,52 @@ pub fn move_leaf(
     ensures args { IfOk result (λ moved. moved.args ≡ leaf.now.args) }
     ensures boss { IfOk result (λ moved. moved.boss ≡ leaf.now.boss) }
 {
-    let state = copy_values(alloc, leaf.state.as_slice())?;
+    let copy = copy_leaf(alloc, leaf)?;
+    leaf_moved(alloc, program, copy, kind, time, got)
+}
+
+/// A component equal to this one.
+fn copy_leaf(alloc: Global, leaf: &Leaf) -> Result<Leaf, Memory>
+    ensures { IfOk result (λ copy. copy ≡ leaf.now) }
+{
+    Ok(Leaf {
+        model: leaf.model,
+        boss: leaf.boss,
+        args: copy_values(alloc, leaf.args.as_slice())?,
+        state: copy_values(alloc, leaf.state.as_slice())?,
+        last: leaf.last,
+        next: leaf.next,
+    })
+}
+
+/// The component itself after its move at `time`, with the values that came at each in port: its state
+/// is not copied.
+pub fn leaf_moved(
+    alloc: Global,
+    program: &Program,
+    leaf: Leaf,
+    kind: MoveKind,
+    time: u64,
+    got: Inputs,
+) -> Result<Leaf, LeafEnd>
+    requires moment { IsMoment time }
+    requires leaf { FitsLeaf program.now leaf }
+    requires got { FitsInputs program.now leaf.model.0 got.ports }
+    ensures gives { Gives (move_leaf (system program.now) leaf kind time got.ports) result }
+    ensures fits { IfOk result (λ moved. FitsLeaf program.now moved) }
+    ensures model { IfOk result (λ moved. moved.model ≡ leaf.model) }
+    ensures args { IfOk result (λ moved. moved.args ≡ leaf.args) }
+    ensures boss { IfOk result (λ moved. moved.boss ≡ leaf.boss) }
+{
     let elapsed = time.saturating_sub(leaf.last);
-    let moved = transition(
-        alloc, program, leaf.model, &leaf.args, state, kind, elapsed, got,
-    )?;
-    let args = copy_values(alloc, leaf.args.as_slice())?;
-    settled(alloc, program, leaf.model, leaf.boss, args, moved, time)
+    let Leaf {
+        model,
+        boss,
+        args,
+        state,
+        last: _,
+        next: _,
+    } = leaf;
+    let moved = transition(alloc, program, model, &args, state, kind, elapsed, got)?;
+    settled(alloc, program, model, boss, args, moved, time)
 }

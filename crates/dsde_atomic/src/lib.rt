@@ -14,7 +14,7 @@ mod top;
 
 pub use dsde_faults::{LeafEnd, Site};
 pub use dsde_system::given::formalism::{Inputs, Leaf, MoveKind};
-pub use leaf::{move_leaf, next_event, output_leaf, start_leaf};
+pub use leaf::{leaf_moved, move_leaf, next_event, output_leaf, start_leaf};
 pub use ports::{
     component_at, is_network, network_at, network_in, network_out, ports_in, ports_out,
 };

@@ -3,7 +3,7 @@
 /// Of `dsde_atomic`.
 pub mod atomic {
     pub use dsde_sim_starting::given::atomic::{
-        move_leaf, network_in, network_out, output_leaf, ports_in, ports_out, top_args,
+        leaf_moved, network_in, network_out, output_leaf, ports_in, ports_out, top_args,
     };
 }
 

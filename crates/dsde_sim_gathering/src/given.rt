@@ -3,7 +3,7 @@
 /// Of `dsde_atomic`.
 pub mod atomic {
     pub use dsde_atomic::{
-        component_at, is_network, move_leaf, network_at, network_in, network_out, next_event,
+        component_at, is_network, leaf_moved, network_at, network_in, network_out, next_event,
         output_leaf, ports_in, ports_out, start_leaf, top_args,
     };
 }

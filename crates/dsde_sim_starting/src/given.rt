@@ -3,7 +3,7 @@
 /// Of `dsde_atomic`.
 pub mod atomic {
     pub use dsde_sim_gathering::given::atomic::{
-        is_network, move_leaf, network_in, network_out, next_event, output_leaf, ports_in,
+        is_network, leaf_moved, network_in, network_out, next_event, output_leaf, ports_in,
         ports_out, top_args,
     };
 }
