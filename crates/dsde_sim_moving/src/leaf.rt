@@ -9,7 +9,7 @@ ghost use Rattle.dsde_sim_changing.specs.given.system.Fitting.{FitsInputs, FitsL
 ghost use Rattle.dsde_sim_tree.specs.Move.{take_move, move_leaf_at};
 ghost use Rattle.dsde_sim_changing.specs.given.sim_starting.Fitting.{FitsAtomic, FitsGot};
 
-use dsde_sim_changing::given::atomic::move_leaf;
+use dsde_sim_changing::given::atomic::leaf_moved;
 use dsde_sim_changing::given::program::Program;
 use dsde_sim_changing::given::sim_starting::is_due;
 use dsde_sim_changing::given::sim_telling::{at, boss_of, tell_gets, tell_move};
@@ -42,26 +42,26 @@ pub fn kind_of(leaf: &Leaf, time: u64, got: &[Values]) -> Option<MoveKind>
 fn moved(
     alloc: Global,
     program: &Program,
-    leaf: &Leaf,
+    leaf: Leaf,
     kind: MoveKind,
     path: &Path,
     time: u64,
     got: Seq<Values>,
 ) -> Result<Leaf, TurnEnd>
     requires moment { IsMoment time }
-    requires leaf { FitsLeaf program.now leaf.now }
-    requires got { FitsInputs program.now leaf.now.model.0 got }
-    ensures comes { Comes (at path.now (move_leaf (system program.now) leaf.now kind time got)) result }
+    requires leaf { FitsLeaf program.now leaf }
+    requires got { FitsInputs program.now leaf.model.0 got }
+    ensures comes { Comes (at path.now (move_leaf (system program.now) leaf kind time got)) result }
     ensures fits { IfOk result (FitsLeaf program.now) }
-    ensures model { IfOk result (λ moved. moved.model ≡ leaf.now.model) }
-    ensures args { IfOk result (λ moved. moved.args ≡ leaf.now.args) }
-    ensures boss { IfOk result (λ moved. moved.boss ≡ leaf.now.boss) }
+    ensures model { IfOk result (λ moved. moved.model ≡ leaf.model) }
+    ensures args { IfOk result (λ moved. moved.args ≡ leaf.args) }
+    ensures boss { IfOk result (λ moved. moved.boss ≡ leaf.boss) }
 {
     let got = Inputs { ports: got };
     at(
         alloc,
         path,
-        move_leaf(alloc, program, leaf, kind, time, got),
+        leaf_moved(alloc, program, leaf, kind, time, got),
     )
 }
 
@@ -69,7 +69,7 @@ fn moved(
 pub fn take_move(
     alloc: Global,
     program: &Program,
-    leaf: &Leaf,
+    leaf: Leaf,
     kind: MoveKind,
     path: &Path,
     time: u64,
@@ -77,18 +77,19 @@ pub fn take_move(
     events: &mut Seq<Event>,
 ) -> Result<Leaf, TurnEnd>
     requires moment { IsMoment time }
-    requires leaf { FitsLeaf program.now leaf.now }
-    requires got { FitsInputs program.now leaf.now.model.0 got }
+    requires leaf { FitsLeaf program.now leaf }
+    requires got { FitsInputs program.now leaf.model.0 got }
     requires few { length got < 2 ^ 32 }
-    ensures told { Tells (take_move (system program.now) leaf.now kind path.now time got) events.old events.new result }
+    ensures told { Tells (take_move (system program.now) leaf kind path.now time got) events.old events.new result }
     ensures fits { IfOk result (FitsLeaf program.now) }
-    ensures model { IfOk result (λ moved. moved.model ≡ leaf.now.model) }
-    ensures args { IfOk result (λ moved. moved.args ≡ leaf.now.args) }
-    ensures boss { IfOk result (λ moved. moved.boss ≡ leaf.now.boss) }
+    ensures model { IfOk result (λ moved. moved.model ≡ leaf.model) }
+    ensures args { IfOk result (λ moved. moved.args ≡ leaf.args) }
+    ensures boss { IfOk result (λ moved. moved.boss ≡ leaf.boss) }
 {
-    tell_gets(alloc, path, leaf.model, got.as_slice(), events)?;
+    let model = leaf.model;
+    tell_gets(alloc, path, model, got.as_slice(), events)?;
     let moved = moved(alloc, program, leaf, kind, path, time, got)?;
-    tell_move(alloc, path, leaf.model, kind, &moved, events)?;
+    tell_move(alloc, path, model, kind, &moved, events)?;
     Ok(moved)
 }
 
@@ -111,7 +112,7 @@ pub(crate) fn move_leaf_at(
     ensures args { IfOk result (λ moved. moved.args ≡ leaf.args) }
 {
     match kind_of(&leaf, time, got.as_slice()) {
-        Some(kind) => take_move(alloc, program, &leaf, kind, path, time, got, events),
+        Some(kind) => take_move(alloc, program, leaf, kind, path, time, got, events),
         None => Ok(leaf),
     }
 }
@@ -120,7 +121,7 @@ pub(crate) fn move_leaf_at(
 pub(crate) fn boss_move(
     alloc: Global,
     program: &Program,
-    boss: &Leaf,
+    boss: Leaf,
     kind: MoveKind,
     path: &Path,
     time: u64,
@@ -128,14 +129,14 @@ pub(crate) fn boss_move(
     events: &mut Seq<Event>,
 ) -> Result<Leaf, TurnEnd>
     requires moment { IsMoment time }
-    requires boss { FitsLeaf program.now boss.now }
-    requires got { FitsInputs program.now boss.now.model.0 got }
+    requires boss { FitsLeaf program.now boss }
+    requires got { FitsInputs program.now boss.model.0 got }
     requires few { length got < 2 ^ 32 }
-    ensures told { Tells (take_move (system program.now) boss.now kind (to_boss path.now) time got) events.old events.new result }
+    ensures told { Tells (take_move (system program.now) boss kind (to_boss path.now) time got) events.old events.new result }
     ensures fits { IfOk result (FitsLeaf program.now) }
-    ensures model { IfOk result (λ moved. moved.model ≡ boss.now.model) }
-    ensures args { IfOk result (λ moved. moved.args ≡ boss.now.args) }
-    ensures boss { IfOk result (λ moved. moved.boss ≡ boss.now.boss) }
+    ensures model { IfOk result (λ moved. moved.model ≡ boss.model) }
+    ensures args { IfOk result (λ moved. moved.args ≡ boss.args) }
+    ensures boss { IfOk result (λ moved. moved.boss ≡ boss.boss) }
 {
     let path = boss_of(alloc, path)?;
     take_move(alloc, program, boss, kind, &path, time, got, events)

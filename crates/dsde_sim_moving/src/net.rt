@@ -122,7 +122,7 @@ pub fn boss_moves(
 {
     match kind_of(&boss, time, got.as_slice()) {
         Some(kind) => {
-            let boss = boss_move(alloc, program, &boss, kind, path, time, got, events)?;
+            let boss = boss_move(alloc, program, boss, kind, path, time, got, events)?;
             after_boss(
                 alloc, program, model, args, kids, path, time, room, boss, events,
             )
