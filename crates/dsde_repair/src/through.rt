@@ -74,8 +74,9 @@ fn out_all(
 {
     let copy = name.copy(alloc)?;
     let own = Part::Kid(copy);
-    let numbers = net.links.at(alloc, Side::Into, &own)?;
-    for number in numbers.as_slice() {
+    let found = net.links.at(alloc, Side::Into, &own)?;
+    let numbers = found.as_slice();
+    for number in numbers {
         out_numbered(alloc, net, whole, name, rest, *number, rows)?;
     }
     Ok(())
@@ -136,8 +137,9 @@ fn into_all(
 {
     let copy = name.copy(alloc)?;
     let own = Part::Kid(copy);
-    let numbers = net.links.at(alloc, Side::Out, &own)?;
-    for number in numbers.as_slice() {
+    let found = net.links.at(alloc, Side::Out, &own)?;
+    let numbers = found.as_slice();
+    for number in numbers {
         into_numbered(alloc, net, whole, name, rest, *number, rows)?;
     }
     Ok(())

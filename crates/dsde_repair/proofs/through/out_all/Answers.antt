@@ -14,7 +14,7 @@ use Rattle.dsde_repair.proofs.through.out_all.Goals as goal
 
 pub returns : goal.returns
 returns c =
-    numbers-done (link_at (between_link (only (passing_kids c.args.name.now c.args.rest.now (out-Wiring c.args.net.now).kids)) (open_around c.args.whole c.args.net.now) (out-Wiring c.args.net.now).me) (out-Wiring c.args.net.now).links) c.at-numbers.result.now c.loop-number.number-index c.loop-number.rows c.args.rows.now c.loop-number-test.false c.loop-number.invariant
+    numbers-done (link_at (between_link (only (passing_kids c.args.name.now c.args.rest.now (out-Wiring c.args.net.now).kids)) (open_around c.args.whole c.args.net.now) (out-Wiring c.args.net.now).me) (out-Wiring c.args.net.now).links) c.as_slice-numbers.result.now c.loop-number.number-index c.loop-number.rows c.args.rows.now c.loop-number-test.false c.loop-number.invariant
     ∙ ap (λ more. c.args.rows.now ++ more)
-    (ap (flat_map (link_at (between_link (only (passing_kids c.args.name.now c.args.rest.now (out-Wiring c.args.net.now).kids)) (open_around c.args.whole c.args.net.now) (out-Wiring c.args.net.now).me) (out-Wiring c.args.net.now).links)) (c.at-numbers.ensures ∙ ap (λ (own : Name). numbers_at Into (part.Kid own) (out-Wiring c.args.net.now).links) c.in_ok-copy.ensures)
+    (ap (flat_map (link_at (between_link (only (passing_kids c.args.name.now c.args.rest.now (out-Wiring c.args.net.now).kids)) (open_around c.args.whole c.args.net.now) (out-Wiring c.args.net.now).me) (out-Wiring c.args.net.now).links)) (c.as_slice-numbers.ensures ∙ c.in_ok-found.ensures ∙ ap (λ (own : Name). numbers_at Into (part.Kid own) (out-Wiring c.args.net.now).links) c.in_ok-copy.ensures)
     ∙ few-out c.args.name.now c.args.rest.now (open_around c.args.whole c.args.net.now) c.args.net.now)
