@@ -39,7 +39,7 @@ fn leaf_moves(
     ensures args { IfOk result (λ moved. moved.args ≡ leaf.args) }
 {
     match kind_of(&leaf, time, got.as_slice()) {
-        Some(kind) => take_move(alloc, program, &leaf, kind, path, time, got, events),
+        Some(kind) => take_move(alloc, program, leaf, kind, path, time, got, events),
         None => Ok(leaf),
     }
 }
