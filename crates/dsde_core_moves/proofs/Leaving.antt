@@ -1,7 +1,7 @@
 -- Components leave a network one after another.
-use Rattle.std.proofs.Common.{◌≡◌, ◌≢◌, ◌⊎◌, inl, inr, ℕ, ◌+◌, ◌^◌, ◌<◌, ◌≤◌, Bool, true, false, not, cond, List, [], ◌∷◌, ◌++◌, length, take, map, filter, Option, Some, None, IsSome, refl, sym, ap, subst, ◌∙◌, append_assoc, arith}
+use Rattle.std.proofs.Common.{◌≡◌, ◌≢◌, ◌⊎◌, inl, inr, ℕ, ◌+◌, ◌^◌, ◌<◌, ◌≤◌, Bool, true, false, not, cond, List, [], ◌∷◌, ◌++◌, length, take, map, Option, Some, None, IsSome, refl, sym, ap, subst, ◌∙◌, append_assoc, arith}
 use Rattle.std.specs.Option.{option_map}
-use Rattle.std.specs.List.{flat_map, AllByRecursion}
+use Rattle.std.specs.List.{AllByRecursion}
 use Rattle.std.specs.FinMap as map
 use Rattle.std.proofs.lemmas.List.{append-nil}
 use Rattle.std.proofs.Math.Seq.{take-append_seam}
@@ -15,7 +15,7 @@ use Rattle.dsde_sim_tree.specs.declared.event.Event.TheVariants.{Drop}
 use Rattle.dsde_values.specs.Path.{EXEC}
 use Rattle.dsde_sim_tree.specs.Told.{IsCut, below, to_boss}
 use Rattle.dsde_core_flat.specs.given.grove.Grove as grove
-use Rattle.dsde_core_flat.specs.given.grove.Grove.{Grove, IsTree, DropsSubtree, spot, value_of}
+use Rattle.dsde_core_flat.specs.given.grove.Grove.{Grove, DropsSubtree, spot, value_of}
 use Rattle.dsde_sim_tree.specs.declared.sim.Kid.{Kid}
 use Rattle.dsde_sim_tree.specs.declared.sim.Sim.TheViews.{out-Kid}
 use Rattle.dsde_sim_tree.specs.declared.sim.Sim.{Sim}
@@ -32,11 +32,10 @@ use Rattle.dsde_core_flat.specs.Places.{Place, place, kid_places, part_places}
 use Rattle.dsde_core_flat.specs.lemmas.Opened.{kid-stands}
 use Rattle.dsde_core_flat.specs.lemmas.Frame.{all-left, all-right}
 use Rattle.dsde_core_flat.specs.lemmas.Names.{name-exact, same-itself}
-use Rattle.dsde_core_flat.specs.lemmas.Beneath.{IsBeneath}
 use Rattle.dsde_core_flat.specs.Stands.{StandsAt, HasBirth, Leads, ChangesBeneath}
 use Rattle.dsde_core_flat.specs.lemmas.Keeping.{spot-got, spot-kept}
 use Rattle.dsde_core_flat.specs.lemmas.Groves.{changes-none, changes-twice, changes-above}
-use Rattle.dsde_core_flat.specs.lemmas.Grafting.{flat-join, parts-cons, parts-join}
+use Rattle.dsde_core_flat.specs.lemmas.Grafting.{parts-cons, parts-join}
 use Rattle.dsde_core_flat.specs.Named.{AreToldApart, KidHasOwnNames}
 use Rattle.dsde_core_flat.specs.lemmas.Growing.{among, heads-alike, longer}
 use Rattle.dsde_core_flat.specs.Places.{places_of}

@@ -1,5 +1,5 @@
 -- The step of an atomic component where it lies is its step in the tree.
-use Rattle.std.proofs.Common.{◌≡◌, ◌≢◌, inl, inr, ℕ, ◌^◌, ◌<◌, Bool, true, false, List, [], ◌∷◌, ◌++◌, length, drop, Option, Some, None, Result, Ok, Err, OnOk, IsSome, refl, sym, ap, subst, ◌∙◌}
+use Rattle.std.proofs.Common.{◌≡◌, ◌≢◌, inl, inr, ℕ, true, false, List, [], length, drop, Option, Some, None, Result, Ok, Err, OnOk, IsSome, refl, sym, ap, subst, ◌∙◌}
 use Rattle.std.specs.Option.{option_map}
 use Rattle.std.specs.List.{AllByRecursion}
 use Rattle.std.specs.FinMap as map
@@ -29,7 +29,7 @@ use Rattle.dsde_sim_tree.specs.declared.sim.Sim.TheVariants as sim
 use Rattle.dsde_sim_tree.specs.Move.{take_move, move_leaf_at}
 use Rattle.dsde_sim_tree.specs.Spots.{spots}
 use Rattle.dsde_core_flat.specs.given.sim_movers.lemmas_Opened.{args-Leaf, model-Leaf}
-use Rattle.dsde_sim_changing.specs.given.sim_starting.Fitting.{FitsAtomic, FitsSpot, FitsTree}
+use Rattle.dsde_sim_changing.specs.given.sim_starting.Fitting.{FitsAtomic, FitsSpot}
 use Rattle.dsde_sim_changing.specs.given.sim_starting.lemmas_Fits.{leaf-tree, tree-leaf}
 use Rattle.dsde_core_flat.specs.given.sim_movers.Movers.{leaf_at, move_at, move_one, path_behind, seat_behind, seat_of, Seat}
 use Rattle.dsde_core_flat.specs.given.sim_movers.Names.{IsNamed}
@@ -39,7 +39,7 @@ use Rattle.dsde_core_flat.specs.given.sim_movers.lemmas_Spotting.{spots-at, spot
 use Rattle.dsde_core_flat.specs.declared.spot.Spot.{Spot}
 use Rattle.dsde_core_flat.specs.declared.spot.Spot.TheVariants as variant
 use Rattle.dsde_core_flat.specs.Scheduled.{held_leaf}
-use Rattle.dsde_core_flat.specs.Shown.{leaf_in, part_under}
+use Rattle.dsde_core_flat.specs.Shown.{leaf_in}
 use Rattle.dsde_core_flat.specs.Places.{part_places}
 use Rattle.dsde_core_flat.specs.Stands.{is_net, Leads, StandsFor}
 use Rattle.dsde_core_flat.specs.lemmas.Beneath.{places-beneath, IsNoBoss}
@@ -53,7 +53,7 @@ use Rattle.dsde_core_moves.specs.Moved.{after, put_under, StaysOf}
 use Rattle.dsde_core_moves.specs.lemmas.Meets.{component-meets, put-at, Put}
 use Rattle.dsde_core_moves.specs.declared.flat.Flat.{Flat}
 use Rattle.dsde_core_moves.specs.declared.flat.Mover.{Mover}
-use Rattle.dsde_core_moves.specs.Flat.{delivery_of, leaf_of, rows_of, tree_of, with_tree, IsComponent, IsThere, Stands}
+use Rattle.dsde_core_moves.specs.Flat.{delivery_of, leaf_of, tree_of, with_tree, IsComponent, IsThere, Stands}
 use Rattle.dsde_core_moves.proofs.Sitting.{none-boss, seat-component, sits, Sits}
 use Rattle.dsde_core_moves.proofs.Keeping.{value-other}
 

@@ -49,7 +49,7 @@ fn stays_as<L: Ledger>(
     ensures value { result ≡ stays_as grove.now kid.now entry.now }
     ensures ticks { looks.new ≤ looks.old + 2 }
 {
-    if kid.name == entry.name {
+    if kid.name.is_same(&entry.name) {
         lies_as(grove, kid.handle, entry, looks)
     } else {
         false

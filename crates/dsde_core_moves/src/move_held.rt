@@ -5,14 +5,55 @@ ghost use Rattle.dsde_bank.specs.declared.handle.Handle.{Handle};
 ghost use Rattle.dsde_core_flat.specs.given.grove.Grove.{spot, value_of, with_value, IsTree};
 ghost use Rattle.dsde_core_flat.specs.declared.spot.Spot.TheVariants as variant;
 ghost use Rattle.dsde_core_flat.specs.Scheduled.{held_leaf, IsScheduledBut};
+ghost use Rattle.dsde_core_flat.specs.Shown.{leaf_in, NO_LEAF};
 
 use dsde_bank::Handle;
 use dsde_base::Steps;
 use dsde_core_flat::given::grove::Grove;
 use dsde_core_flat::{Spot, schedule};
+use dsde_language::ModelId;
 use dsde_queue::Queue;
 use dsde_sim_tree::given::formalism::Leaf;
+use dsde_values::{Seq, When};
+use std::alloc::Global;
+use std::mem;
 use std::sync::ledger::Ledger;
+
+/// A component without arguments and state.
+fn no_leaf(alloc: Global) -> Leaf
+    ensures { result ≡ NO_LEAF }
+{
+    Leaf {
+        model: ModelId(0),
+        boss: false,
+        args: Seq::new(alloc),
+        state: Seq::new(alloc),
+        last: 0,
+        next: When::Never,
+    }
+}
+
+/// Takes the component or the executive under a handle out: one without arguments and state lies there then.
+/// Counts at most 2 looks.
+pub(crate) fn take_leaf<L: Ledger>(
+    alloc: Global,
+    grove: &mut Grove<Spot>,
+    handle: Handle,
+    looks: &mut Steps<L>,
+) -> Leaf
+    requires { IsSome (held_leaf (value_of grove.old handle)) }
+    ensures taken { result ≡ leaf_in (value_of grove.old handle) }
+    ensures left { grove.new ≡ with_value grove.old handle (variant.Leaf NO_LEAF) }
+    ensures ticks { looks.new ≤ looks.old + 2 }
+{
+    let Some(held) = grove.get_mut(handle, looks) else {
+        unreachable!();
+    };
+    match mem::replace(held, Spot::Leaf(no_leaf(alloc))) {
+        Spot::Leaf(leaf) => leaf,
+        Spot::Net { model: _, args: _ } => unreachable!(),
+    }
+}
 
 /// Puts a component or an executive under a live handle, in place of what lay there. Counts at most 2
 /// looks.

@@ -13,12 +13,12 @@ ghost use Rattle.dsde_core_flat.specs.Scheduled.{held_leaf, IsScheduledBut};
 ghost use Rattle.dsde_core_flat.specs.Shown.{leaf_in};
 ghost use Rattle.dsde_core_moves.specs.Moved.{after, put_under, StaysOf};
 
-use crate::move_held::put_moved;
+use crate::move_held::{put_moved, take_leaf};
 use dsde_bank::Handle;
 use dsde_base::Steps;
+use dsde_core_flat::Spot;
 use dsde_core_flat::given::grove::Grove;
 use dsde_core_flat::given::sim_movers::steps_tell_their_work;
-use dsde_core_flat::{Spot, leaf_at};
 use dsde_queue::Queue;
 use dsde_sim_changing::given::program::Program;
 use dsde_sim_moving::take_move;
@@ -30,7 +30,7 @@ use std::sync::ledger::Ledger;
 
 /// The component or the executive under a handle, at this path, takes this transition with what came to it,
 /// which is told, and its next event is scheduled: it waits no longer. Counts at most 4 looks. A fault ends
-/// it, or `Memory` where there is none: then it is as it was.
+/// it, or `Memory` where there is none: then one without arguments and state may lie there.
 pub fn component_moves<L: Ledger>(
     alloc: Global,
     program: &Program,
@@ -60,9 +60,7 @@ pub fn component_moves<L: Ledger>(
 {
     steps_tell_their_work();
     queue.reserve(1)?;
-    let Some(leaf) = leaf_at(grove, handle, looks) else {
-        unreachable!();
-    };
+    let leaf = take_leaf(alloc, grove, handle, looks);
     let moved = take_move(alloc, program, leaf, kind, path, time, got, events)?;
     put_moved(grove, queue, handle, moved, looks);
     Ok(())

@@ -1,10 +1,10 @@
-use Rattle.std.proofs.Common.{◌≡◌, ℕ, ◌+◌, ◌^◌, ◌<◌, Bool, true, false, List, [], ◌∷◌, length, map, Result, OnErr, refl, sym, ap, subst, ◌∙◌, arith}
+use Rattle.std.proofs.Common.{◌≡◌, ℕ, true, false, List, ◌∷◌, length, map, Result, OnErr, sym, ap, subst, ◌∙◌, arith}
 use Rattle.std.proofs.lemmas.Result.{err_from_is_err_and}
 use Rattle.dsde_lists.specs.declared.memory.Memory.{Memory}
 use Rattle.dsde_sim_tree.specs.Told.{IsCut}
 use Rattle.dsde_sim_tree.specs.Move.{drop_of}
 use Rattle.dsde_routes_wiring.specs.declared.wiring.WiredKid.{WiredKid}
-use Rattle.dsde_routes_wiring.specs.declared.wiring.WiredKid.TheViews.{out-Wiring, out-WiredKid}
+use Rattle.dsde_routes_wiring.specs.declared.wiring.WiredKid.TheViews.{out-Wiring}
 use Rattle.dsde_core_moves.proofs.Leaving.{Drops, drops-begin, drops-keep, drops-live, drops-room, drops-on, drops-at, drops-cut, counted, some-of-kid, same-length}
 use Rattle.dsde_core_flat.specs.given.grove.Grove.{value_of}
 use Rattle.dsde_core_flat.specs.Shown.{kid_under}

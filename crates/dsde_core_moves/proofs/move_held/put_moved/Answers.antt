@@ -1,4 +1,4 @@
-use Rattle.std.proofs.Common.{◌≡◌, ℕ, ◌+◌, ◌≤◌, length, List, Option, sym, ap, subst, ◌∙◌}
+use Rattle.std.proofs.Common.{ℕ, ◌+◌, ◌≤◌, length, List, Option, sym, ap, subst, ◌∙◌}
 use Rattle.dsde_bank.specs.declared.handle.Handle.{Handle}
 use Rattle.dsde_core_flat.specs.given.grove.Grove.{Grove, spot, value_of}
 use Rattle.dsde_core_flat.specs.declared.spot.Spot.{Spot}
