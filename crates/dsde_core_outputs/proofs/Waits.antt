@@ -1,7 +1,9 @@
 -- Who is due where a component is the whole model is the component.
 use Rattle.std.proofs.Common.{◌≡◌, ℕ, ◌≤◌, ◌||◌, Bool, true, false, if◌then◌else◌, List, [], ◌∷◌, length, map, Option, Some, None, IsNone, Less, Equal, refl, sym, ap, subst, ◌∙◌, inl, inr, arith}
+use Rattle.std.proofs.lemmas.List.Elements.{All-from_recursion}
 use Rattle.std.proofs.lemmas.Map.Keys.{sorted_head}
 use Rattle.std.specs.Cmp.{tied_itself, IsTotalOrder}
+use Rattle.std.specs.List.{All}
 use Rattle.dsde_bank.specs.declared.handle.Handle.{Handle}
 use Rattle.dsde_syntax.specs.declared.decl.Model.{Model}
 use Rattle.dsde_values.specs.declared.arrival.Item.{Item}
@@ -19,7 +21,7 @@ use Rattle.dsde_core_parcels.specs.given.routes_wiring.Sets.{Rows}
 use Rattle.dsde_core_parcels.specs.given.core_flat.Grafts.{path_at}
 use Rattle.dsde_core_parcels.specs.Counted.{CountsRows}
 use Rattle.dsde_core_parcels.specs.Outlets.{turn_outlets}
-use Rattle.dsde_core_parcels.specs.given.routes_pushing.lemmas_Lists.{among-from, contains-from, Among}
+use Rattle.dsde_core_parcels.specs.given.routes_pushing.lemmas_Lists.{all-from, among-from, contains-from, Among}
 use Rattle.dsde_core_parcels.specs.given.core_flat.spot_Spot.{Spot}
 use Rattle.dsde_core_parcels.specs.given.core_flat.spot_Spot_TheVariants as variant
 use Rattle.dsde_core_parcels.specs.given.core_flat.Places.{place, Place}
@@ -27,7 +29,7 @@ use Rattle.dsde_core_parcels.specs.given.core_flat.lemmas_Fitting.{tree-named}
 use Rattle.dsde_core_parcels.specs.given.core_flat.due_Due.{Due}
 use Rattle.dsde_core_parcels.specs.given.core_flat.Due as due
 use Rattle.dsde_core_parcels.specs.given.core_flat.Due.{AreDue}
-use Rattle.dsde_core_parcels.specs.lemmas.Living.{living}
+use Rattle.dsde_core_parcels.specs.lemmas.Living.{living, place-path}
 use Rattle.dsde_core_parcels.specs.given.core_moves.flat_Flat.{Flat}
 use Rattle.dsde_core_parcels.specs.given.core_moves.flat_Mover.{Mover}
 use Rattle.dsde_core_parcels.specs.given.core_moves.Flat.{rows_of, tree_of, Stands}
@@ -67,6 +69,12 @@ module _ (model : Model) (flat : Flat) (stands : Stands model flat) (leaf : Leaf
       let lives = due-held flat.grove time own.handle is.next in
       let its = only own.handle lives.0 lives.1 in
       (is.path ∙ ap (path_at flat.grove) its.0, ap (λ (one : Leaf). is_due one time) (sym its.1) ∙ lives.2)
+
+  -- and has the root's path
+  pub paths : (time : ℕ) (dues : List Due) → AreDue flat.grove time dues → All (λ (own : Due). own.path ≡ root) dues
+  paths time dues are =
+      let here : root ≡ path_at flat.grove flat.root = place-path flat.grove (place flat.root root false) (stands-alone flat leaf alone model stands).live.0 in
+      All-from_recursion (λ (own : Due). own.path ≡ root) dues (all-from (λ (own : Due). own.path ≡ root) dues (λ own among. (due-here time dues are own among).0 ∙ sym here))
 
   many-by : (time : ℕ) (got : Ports) → is_due leaf time ≡ true → length (one_called leaf flat.root root time got) ≡ 1
   many-by time got now =

@@ -2,6 +2,7 @@
 //! nothing.
 
 ghost use Rattle.std.specs.Prelude.{◌≡◌, ◌<◌, ◌≤◌, ◌^◌, ℕ, IsNone, IsSome, length, List};
+ghost use Rattle.std.specs.List.{All};
 ghost use Rattle.dsde_syntax.specs.declared.decl.Model.{Model};
 ghost use Rattle.dsde_values.specs.declared.arrival.Item.{Item};
 ghost use Rattle.dsde_values.specs.Path.{root};
@@ -29,7 +30,8 @@ use dsde_sim_working::given::sound_structures::sent_fits;
 use dsde_values::orders_are_total;
 
 /// Where nothing is wired, an atomic component of the program lies under the root's handle. What it sends is what the
-/// tree sends, and it alone moves in a turn: where it is due, or the items bring something to it.
+/// tree sends, and it alone moves in a turn: where it is due, or the items bring something to it. Each who is due has
+/// the root's path.
 pub(crate) fn lone_components_move()
     ensures lives { (model : Model) (flat : Flat) → Stands model flat → IsNone flat.wiring → IsSome (held_leaf (value_of flat.grove flat.root)) }
     ensures fits { (model : Model) (flat : Flat) (leaf : Leaf) → Stands model flat → IsAlone flat leaf → FitsLeaf model leaf }
@@ -40,6 +42,7 @@ pub(crate) fn lone_components_move()
         Wait dues (one_called leaf flat.root root time got) }
     ensures many { (model : Model) (flat : Flat) (leaf : Leaf) (time : ℕ) (got : Ports) (dues : List Due) → Stands model flat → IsAlone flat leaf → AreDue flat.grove time dues →
         length dues ≤ length (one_called leaf flat.root root time got) }
+    ensures paths { (model : Model) (flat : Flat) (leaf : Leaf) (time : ℕ) (dues : List Due) → Stands model flat → IsAlone flat leaf → AreDue flat.grove time dues → All (λ due. due.path ≡ root) dues }
     ensures rows { (model : Model) (flat : Flat) (leaf : Leaf) (time : ℕ) (items : List Item) (dues : List Due) → Stands model flat → IsAlone flat leaf → AreDue flat.grove time dues → HasRows model flat time items 0 }
 {
     sent_fits();

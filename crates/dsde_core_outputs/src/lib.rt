@@ -22,7 +22,6 @@ pub use order::{few, in_path_order};
 pub use root_laws::{
     full_inboxes_call, outlets_fill_inboxes, outputs_come_of_asking, roots_are_networks,
 };
-pub use single::root_movers;
 pub use taking::take_gets;
 pub use told::told_movers;
 pub use turn::turn_movers;

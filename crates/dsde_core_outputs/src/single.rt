@@ -1,6 +1,7 @@
 //! Who moves in a turn where the whole model is an atomic component.
 
 ghost use Rattle.std.specs.Prelude.{◌≡◌, ◌+◌, ◌<◌, ◌≤◌, ◌^◌, length, IfOk, IsNone, IsSome, List, OnOk, Some};
+ghost use Rattle.std.specs.List.{All};
 ghost use Rattle.dsde_values.specs.Path.{root};
 ghost use Rattle.dsde_sim_working.specs.given.system.Fitting.{FitsLeaf};
 ghost use Rattle.dsde_sim_working.specs.given.system.Program.{system};
@@ -21,7 +22,7 @@ ghost use Rattle.dsde_core_outputs.specs.Rows.{HasRows};
 use crate::alone_laws::lone_components_move;
 use dsde_bank::Handle;
 use dsde_base::Steps;
-use dsde_core_parcels::given::core_flat::leaf_at;
+use dsde_core_parcels::given::core_flat::{Due, leaf_at};
 use dsde_core_parcels::given::core_moves::{Flat, Mover, Phase, kind_of};
 use dsde_core_parcels::sent;
 use dsde_sim_tree::TurnEnd;
@@ -45,6 +46,17 @@ fn root_leaf<'a, L: Ledger>(flat: &'a Flat, looks: &mut Steps<L>) -> &'a Leaf
         unreachable!();
     };
     leaf
+}
+
+/// The root's path: that of the last who is due, each of whom has it, or a new one where nobody is due.
+fn root_path(alloc: Global, mut due: Vec<Due>) -> Result<Path, Memory>
+    requires { All (λ one. one.path ≡ root) due.items }
+    ensures { IfOk result (λ path. path ≡ root) }
+{
+    match due.pop() {
+        Some(last) => Ok(last.path),
+        None => Path::root(alloc),
+    }
 }
 
 /// What the component at a path sends at this time, port by port. A fault comes exactly where its output faults.
@@ -88,20 +100,23 @@ fn called(
     }
 }
 
-/// The output phase of a turn of an atomic component that is the whole model: what it sends, port by port, and who
-/// moves, which is the component where it is due or the items bring something to it, with what it receives. A fault is
-/// that of its output. `Memory` comes where there is none, and where it has more in ports than 32 bits count. Counts
-/// at most 2 looks.
-pub fn root_movers<L: Ledger>(
+/// The output phase of a turn of an atomic component that is the whole model, at a time at which these parts are due:
+/// what it sends, port by port, and who moves, which is the component where it is due or the items bring something to
+/// it, with what it receives. Its path is that of the part that is due, made anew only where none is. A fault is that
+/// of its output. `Memory` comes where there is none, and where it has more in ports than 32 bits count. Counts at most
+/// 2 looks.
+pub(crate) fn root_movers<L: Ledger>(
     alloc: Global,
     program: &Program,
     flat: &Flat,
+    due: Vec<Due>,
     time: u64,
     items: &[Item],
     looks: &mut Steps<L>,
 ) -> Result<Phase, TurnEnd>
     requires component { IsNone flat.now.wiring }
     requires stands { Stands program.now flat.now }
+    requires due { AreDue flat.now.grove time due.items }
     requires items { FitsItems program.now (model_of (tree_of flat.now)).0 items.now }
     ensures comes { Comes (output (system program.now) (tree_of flat.now) root time) (sent_of result) }
     ensures few { IfOk result (λ phase. length phase.sent < 2 ^ 32) }
@@ -113,7 +128,7 @@ pub fn root_movers<L: Ledger>(
 {
     lone_components_move();
     let leaf = root_leaf(flat, looks);
-    let path = Path::root(alloc)?;
+    let path = root_path(alloc, due)?;
     let sent = sends(alloc, program, leaf, &path, time)?;
     let ports = narrow(ports_in(program, leaf.model))?;
     let got = by_port(alloc, ports, items)?;

@@ -16,7 +16,8 @@ ghost use Rattle.dsde_core_parcels.specs.given.core_moves.Flat.{tree_of, Stands}
 ghost use Rattle.dsde_core_outputs.specs.Rows.{HasRows};
 ghost use Rattle.dsde_core_parcels.specs.given.core_moves.Movers.{handle_of, sent_of, with_queue, AreMovers};
 
-use crate::{net_movers, root_movers};
+use crate::net_movers;
+use crate::single::root_movers;
 use dsde_base::Steps;
 use dsde_core_parcels::given::core_flat::turn_due;
 use dsde_core_parcels::given::core_moves::{Flat, Phase};
@@ -59,5 +60,5 @@ pub fn turn_movers<L: Ledger>(
     if flat.wiring.is_some() {
         return net_movers(alloc, program, flat, due, time, items, looks);
     }
-    root_movers(alloc, program, flat, time, items, looks)
+    root_movers(alloc, program, flat, due, time, items, looks)
 }

@@ -1,7 +1,7 @@
 use Rattle.dsde_values.specs.Path.{root}
 use Rattle.dsde_sim_working.specs.given.system.Program.{system}
 use Rattle.dsde_core_outputs.proofs.Moves.{are-movers}
-use Rattle.dsde_core_outputs.proofs.Waits.{many, rows, waits}
+use Rattle.dsde_core_outputs.proofs.Waits.{many, paths, rows, waits}
 use Rattle.dsde_core_outputs.proofs.Whole as whole
 use Rattle.dsde_core_outputs.proofs.alone_laws.lone_components_move.Goals as goal
 
@@ -24,6 +24,9 @@ returns-clause-waits c = λ model flat leaf time got dues stands alone are. wait
 
 pub returns-clause-many : goal.returns-clause-many
 returns-clause-many c = λ model flat leaf time got dues stands alone are. many model flat stands leaf alone c.orders_are_total.ensures.paths time got dues are
+
+pub returns-clause-paths : goal.returns-clause-paths
+returns-clause-paths c = λ model flat leaf time dues stands alone are. paths model flat stands leaf alone time dues are
 
 pub returns-clause-rows : goal.returns-clause-rows
 returns-clause-rows c = λ model flat leaf time items dues stands alone are. rows model flat stands leaf alone time items dues are

@@ -17,6 +17,13 @@ use Rattle.dsde_core_outputs.proofs.single.root_movers.Goals as goal
 pub root_leaf-leaf-requires : goal.root_leaf-leaf-requires
 root_leaf-leaf-requires g c = c.lone_components_move.ensures.lives c.args.program.now c.args.flat.now c.requires.stands c.requires.component
 
+pub root_path-requires : goal.root_path-requires
+root_path-requires g c =
+    let a = c.args in
+    let leaf = c.root_leaf-leaf.result.now in
+    let alone : IsAlone a.flat.now leaf = record { none = c.requires.component; held = c.root_leaf-leaf.ensures.held } in
+    c.lone_components_move.ensures.paths a.program.now a.flat.now leaf a.time a.due.items c.requires.stands alone c.requires.due
+
 pub sends-requires : goal.sends-requires
 sends-requires g c =
     let alone : IsAlone c.args.flat.now c.root_leaf-leaf.result.now = record { none = c.requires.component; held = c.root_leaf-leaf.ensures.held } in
