@@ -1,3 +1,4 @@
+pub mod Form
 pub mod Json
 pub mod Members
 pub mod Text

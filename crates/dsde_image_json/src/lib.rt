@@ -1,6 +1,12 @@
-//! Images of runs as JSON values, as definitions, and the text of an image.
+//! Images of runs as JSON values, as definitions; the text of an image, and images read from their
+//! text.
 #![tactic(auto)]
 
+mod fields;
+mod names;
+mod reading;
+mod rows;
 mod writing;
 
+pub use reading::{ReadImage, read_image};
 pub use writing::write_image;

@@ -1,6 +1,0 @@
-pub mod Keys
-pub mod Each
-pub mod Again
-pub mod Found
-pub mod Values
-pub mod LastNames
