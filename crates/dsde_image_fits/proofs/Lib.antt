@@ -1,8 +1,14 @@
 mod Again
+mod Allowed
 mod Ascii
 mod Called
+mod Choices
+mod Does
 mod Exact
 mod Found
+mod Items
+mod Laid
 mod Leaving
 mod Opens
 mod Scripted
+mod Simple

@@ -1,4 +1,5 @@
 pub mod Fits
+pub mod Named
 pub mod Rows
 pub mod Script
 pub mod Walk

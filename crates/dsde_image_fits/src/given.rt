@@ -1,5 +1,10 @@
 //! What crates below give, for those above: each under the name of its crate.
 
+/// Of `dsde_sound_expressions`.
+pub mod sound_expressions {
+    pub use dsde_sound_expressions::bodies_stand;
+}
+
 /// Of `dsde_sound_structures`.
 pub mod sound_structures {
     pub use dsde_sound_structures::{

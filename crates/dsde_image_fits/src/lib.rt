@@ -7,4 +7,4 @@ pub mod given;
 mod text_laws;
 
 pub use fit_laws::{images_fit, left_are_last, only_images_fit};
-pub use text_laws::{components_are_called, scripts_are_exact, texts_are_ascii};
+pub use text_laws::{components_are_called, names_are_allowed, scripts_are_exact, texts_are_ascii};

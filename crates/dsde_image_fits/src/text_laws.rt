@@ -1,7 +1,11 @@
 //! How a program is written in an image. Each law is a call that does nothing.
 
+ghost use Rattle.dsde_image_fits.specs.Named.{NamesAreAllowed};
 ghost use Rattle.dsde_image_fits.specs.Script.{ArgsReadAgain, ComponentsAreCalled, NamesAreAscii, ScriptsAreExact, StatesReadAgain, TextsAreAscii};
 
+use dsde_sound_expressions::{
+    expressions_agree, functions_agree, known_is_within, structures_stand,
+};
 use dsde_sound_structures::given::input_records::value_is_spelled;
 use dsde_sound_structures::given::sound_names::plans_are_called_so;
 use dsde_sound_structures::{names_are_words, types_are_lawful};
@@ -30,4 +34,15 @@ pub fn components_are_called()
     ensures { ComponentsAreCalled }
 {
     plans_are_called_so();
+}
+
+/// The name of each component of each plan of a program has an identifier that is no word of the
+/// language, and its index, where it has one, is below 2^63.
+pub fn names_are_allowed()
+    ensures { NamesAreAllowed }
+{
+    expressions_agree();
+    functions_agree();
+    known_is_within();
+    structures_stand();
 }

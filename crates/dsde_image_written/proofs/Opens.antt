@@ -2,7 +2,7 @@
 use Rattle.std.proofs.Common.{◌≡◌, List, [], ◌∷◌, ◌++◌, map, refl, sym, ap, ◌∙◌}
 use Rattle.std.specs.List.{flat_map}
 use Rattle.dsde_values.specs.declared.path.Path.{Path}
-use Rattle.dsde_sound_named.specs.given.formalism.leaf_Leaf.{Leaf}
+use Rattle.dsde_sim_movers.specs.given.formalism.leaf_Leaf.{Leaf}
 use Rattle.dsde_sim_starting.specs.given.sim_tree.Told.{below}
 use Rattle.dsde_sim_starting.specs.given.sim_tree.sim_Kid.{Kid}
 use Rattle.dsde_sim_starting.specs.given.sim_tree.sim_Net.{Net}

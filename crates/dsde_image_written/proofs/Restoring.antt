@@ -5,9 +5,9 @@ use Rattle.std.specs.List.{AllByRecursion}
 use Rattle.dsde_syntax.specs.declared.decl.Model.{Model}
 use Rattle.dsde_values.specs.Path.{root}
 use Rattle.dsde_language.specs.Right.{IsRight}
-use Rattle.dsde_sound_named.specs.given.formalism.leaf_Leaf.{Leaf}
-use Rattle.dsde_sound_named.specs.given.system.Program.{system}
-use Rattle.dsde_sound_named.specs.given.system.Fitting.{FitsLeaf}
+use Rattle.dsde_sim_movers.specs.given.formalism.leaf_Leaf.{Leaf}
+use Rattle.dsde_image_fits.specs.given.system.Program.{system}
+use Rattle.dsde_image_fits.specs.given.system.Fitting.{FitsLeaf}
 use Rattle.dsde_sim_starting.specs.Fitting.{FitsSpot, FitsTree}
 use Rattle.dsde_image_fits.specs.given.sim_movers.Stands.{Stands}
 use Rattle.dsde_sim_starting.specs.given.sim_tree.Spots.{Spot, spots}

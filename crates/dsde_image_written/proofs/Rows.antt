@@ -11,10 +11,10 @@ use Rattle.dsde_values.specs.declared.when.When.TheVariants.{At, Never}
 use Rattle.dsde_values.specs.Path.{EXEC, IsPath, are_below, is_component, is_index, is_path, is_plain, root}
 use Rattle.dsde_language.specs.Right.{IsRight}
 use Rattle.dsde_language.specs.declared.ids.ModelId.{ModelId}
-use Rattle.dsde_sound_named.specs.given.formalism.leaf_Leaf.{Leaf}
-use Rattle.dsde_sound_named.specs.given.structure.plan_Entry.{Entry}
-use Rattle.dsde_sound_named.specs.given.system.Program.{system}
-use Rattle.dsde_sound_named.specs.given.system.Fitting.{FitsLeaf, FitsState, IsInTime}
+use Rattle.dsde_sim_movers.specs.given.formalism.leaf_Leaf.{Leaf}
+use Rattle.dsde_sim_movers.specs.given.structure.plan_Entry.{Entry}
+use Rattle.dsde_image_fits.specs.given.system.Program.{system}
+use Rattle.dsde_image_fits.specs.given.system.Fitting.{FitsLeaf, FitsState, IsInTime}
 use Rattle.dsde_sim_starting.specs.given.sim_tree.Told.{below, to_boss}
 use Rattle.dsde_sim_starting.specs.given.sim_tree.sim_Kid.{Kid}
 use Rattle.dsde_sim_starting.specs.given.sim_tree.sim_Net.{Net}
@@ -35,7 +35,7 @@ use Rattle.dsde_image.specs.declared.image.Version.{Version}
 use Rattle.dsde_image.specs.declared.image.Version.TheVariants.{One, Two}
 use Rattle.dsde_image_fits.specs.Rows.{Script, rows, rows_of_kid, atomic_row, boss_row, standing_of}
 use Rattle.dsde_image_fits.specs.Script.{script, ComponentsAreCalled}
-use Rattle.dsde_sound_named.specs.Named.{AreAllowed, NamesAreAllowed}
+use Rattle.dsde_image_fits.specs.Named.{AreAllowed, NamesAreAllowed}
 use Rattle.dsde_image_written.proofs.Opens.{rows-Leaf, rows-Net, rows-kid}
 use Rattle.dsde_image_written.proofs.Writing.{all-append, all-parts}
 

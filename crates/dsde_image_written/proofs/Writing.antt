@@ -14,10 +14,10 @@ use Rattle.dsde_values.specs.Path.{EXEC, name_text, index_text, root}
 use Rattle.dsde_language.specs.Right.{IsRight}
 use Rattle.dsde_language.specs.DeclaredModels.{types_of, param_slots, state_slots}
 use Rattle.dsde_language.specs.declared.ids.ModelId.{ModelId}
-use Rattle.dsde_sound_named.specs.given.formalism.leaf_Leaf.{Leaf}
-use Rattle.dsde_sound_named.specs.given.structure.plan_Entry.{Entry}
-use Rattle.dsde_sound_named.specs.given.system.Program.{system}
-use Rattle.dsde_sound_named.specs.given.system.Fitting.{Fill, FitsLeaf}
+use Rattle.dsde_sim_movers.specs.given.formalism.leaf_Leaf.{Leaf}
+use Rattle.dsde_sim_movers.specs.given.structure.plan_Entry.{Entry}
+use Rattle.dsde_image_fits.specs.given.system.Program.{system}
+use Rattle.dsde_image_fits.specs.given.system.Fitting.{Fill, FitsLeaf}
 use Rattle.dsde_sim_starting.specs.given.sim_tree.Told.{below}
 use Rattle.dsde_sim_starting.specs.given.sim_tree.sim_Kid.{Kid}
 use Rattle.dsde_sim_starting.specs.given.sim_tree.sim_Net.{Net}

@@ -2,5 +2,5 @@
 
 /// Of `dsde_sound_expressions`.
 pub mod sound_expressions {
-    pub use dsde_sound_named::given::sound_expressions::bodies_stand;
+    pub use dsde_image_fits::given::sound_expressions::bodies_stand;
 }

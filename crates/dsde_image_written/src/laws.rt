@@ -2,8 +2,9 @@
 
 ghost use Rattle.dsde_image_written.specs.Plain.{ImagesAreRestored, ImagesAreWritten, RowsAreRight};
 
-use dsde_image_fits::{components_are_called, images_fit, scripts_are_exact, texts_are_ascii};
-use dsde_sound_named::names_are_allowed;
+use dsde_image_fits::{
+    components_are_called, images_fit, names_are_allowed, scripts_are_exact, texts_are_ascii,
+};
 
 /// The texts of the image of a tree of a program are UTF-8.
 pub fn images_are_written()

@@ -1,1 +1,1 @@
-pub use Rattle.dsde_sound_named.specs.given.sound_expressions.Laws
+pub use Rattle.dsde_image_fits.specs.given.sound_expressions.Laws

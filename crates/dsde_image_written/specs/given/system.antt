@@ -1,3 +1,3 @@
-pub use Rattle.dsde_sound_named.specs.given.system.Fitting
-pub use Rattle.dsde_sound_named.specs.given.system.Plans
-pub use Rattle.dsde_sound_named.specs.given.system.Program
+pub use Rattle.dsde_image_fits.specs.given.system.Fitting
+pub use Rattle.dsde_image_fits.specs.given.system.Plans
+pub use Rattle.dsde_image_fits.specs.given.system.Program

@@ -14,14 +14,14 @@ use Rattle.dsde_language.specs.declared.ids.ModelId.{ModelId}
 use Rattle.dsde_language.specs.DeclaredModels.{whole_of, types_of, Own, owns_of, param_slots, state_slots}
 use Rattle.dsde_language.specs.DeclaredStructures.{place_of_items, structures_of, first_via}
 use Rattle.dsde_language.specs.declared.make.Make.{Make}
-use Rattle.dsde_system.specs.given.structure.plan_Plan.{Plan}
+use Rattle.dsde_sim_movers.specs.given.structure.plan_Plan.{Plan}
 use Rattle.dsde_language.specs.Agreement.{ExpressionsAgree}
 use Rattle.dsde_language.specs.Functions.{functions_of}
 use Rattle.dsde_language.specs.Meaning.{Vars, mean}
 use Rattle.dsde_language.specs.Outcome.{Fault, Stuck, Outcome}
 use Rattle.dsde_language.specs.Typed.{Typed, Fits}
-use Rattle.dsde_system.specs.given.executive_plans.Layout.{Layout, lay, lay_all, tied, structure}
-use Rattle.dsde_system.specs.given.formalism.System.{State}
+use Rattle.dsde_sound_structures.specs.given.executive_plans.Layout.{Layout, lay, lay_all, tied, structure}
+use Rattle.dsde_sim_movers.specs.given.formalism.System.{State}
 use Rattle.dsde_sound_expressions.specs.Coded.{FunctionsAgree, coded_of}
 use Rattle.dsde_sound_expressions.specs.Items.{is_proper_item}
 use Rattle.dsde_sound_expressions.specs.Bodies.{body_slots}
@@ -29,12 +29,12 @@ use Rattle.dsde_sound_expressions.specs.Laws.{KnownIsWithin}
 use Rattle.dsde_sound_expressions.specs.Structures.{HasStructure, IsStructure, StructuresStand}
 use Rattle.dsde_sound_expressions.specs.lemmas.Outcomes.{sound-given}
 use Rattle.dsde_sound_expressions.specs.lemmas.Steps.{went}
-use Rattle.dsde_system.specs.Body.{at_site, vars_of, body_vars}
-use Rattle.dsde_system.specs.Program.{system, network_at, plan_at}
-use Rattle.dsde_system.specs.Fitting.{Fill}
-use Rattle.dsde_sound_named.specs.Named.{AreAllowed, NamesAreAllowed}
-use Rattle.dsde_sound_named.proofs.Laid.{Ground, bound}
-use Rattle.dsde_sound_named.proofs.Items.{items-do}
+use Rattle.dsde_sound_structures.specs.given.system.Body.{at_site, vars_of, body_vars}
+use Rattle.dsde_sound_structures.specs.given.system.Program.{system, network_at, plan_at}
+use Rattle.dsde_sound_structures.specs.given.system.Fitting.{Fill}
+use Rattle.dsde_image_fits.specs.Named.{AreAllowed, NamesAreAllowed}
+use Rattle.dsde_image_fits.proofs.Laid.{Ground, bound}
+use Rattle.dsde_image_fits.proofs.Items.{items-do}
 
 -- ---- the variables of a structure
 

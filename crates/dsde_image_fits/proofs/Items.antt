@@ -11,12 +11,12 @@ use Rattle.dsde_language.specs.RuleStructures.{item_walk}
 use Rattle.dsde_language.specs.Proper.{all_so}
 use Rattle.dsde_sound_expressions.specs.Items as proper
 use Rattle.dsde_sound_expressions.specs.Items.{is_proper_item}
-use Rattle.dsde_system.specs.given.executive_plans.Layout as layouts
-use Rattle.dsde_system.specs.given.executive_plans.Layout.{Lay, ArmLay, lay, lay_all}
-use Rattle.dsde_sound_named.proofs.Laid.{Ground}
-use Rattle.dsde_sound_named.proofs.Does.{Does, AllDo, all-do}
-use Rattle.dsde_sound_named.proofs.Simple.{comp-does, link-does, let-does, for-does}
-use Rattle.dsde_sound_named.proofs.Choices.{ArmDoes, arm-does, if-none, if-some}
+use Rattle.dsde_sound_structures.specs.given.executive_plans.Layout as layouts
+use Rattle.dsde_sound_structures.specs.given.executive_plans.Layout.{Lay, ArmLay, lay, lay_all}
+use Rattle.dsde_image_fits.proofs.Laid.{Ground}
+use Rattle.dsde_image_fits.proofs.Does.{Does, AllDo, all-do}
+use Rattle.dsde_image_fits.proofs.Simple.{comp-does, link-does, let-does, for-does}
+use Rattle.dsde_image_fits.proofs.Choices.{ArmDoes, arm-does, if-none, if-some}
 
 map-same : {X : Type 0} (l : List X) → map (λ (x : X). x) l ≡ l
 map-same [] = refl

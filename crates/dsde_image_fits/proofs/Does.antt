@@ -9,12 +9,12 @@ use Rattle.dsde_language.specs.Meaning.{with_var}
 use Rattle.dsde_language.specs.Proper.{all_so}
 use Rattle.dsde_language.specs.Scopes.{Sees}
 use Rattle.dsde_language.specs.Typed.{Typed}
-use Rattle.dsde_system.specs.given.executive_plans.Layout.{Layout, Lay, lay_all, braced, for_one, for_lay}
+use Rattle.dsde_sound_structures.specs.given.executive_plans.Layout.{Layout, Lay, lay_all, braced, for_one, for_lay}
 use Rattle.dsde_sound_expressions.specs.lemmas.Values.{AllHave, all-cons}
 use Rattle.dsde_sound_expressions.specs.lemmas.Steps.{went, ok-is}
 use Rattle.dsde_sound_expressions.specs.lemmas.Truths.{and-left, and-right}
 use Rattle.dsde_sound_expressions.specs.lemmas.Fitting.{field_of, fits-snoc}
-use Rattle.dsde_sound_named.proofs.Laid.{Ground, Kept, bound, as-in, cut-kept}
+use Rattle.dsde_image_fits.proofs.Laid.{Ground, Kept, bound, as-in, cut-kept}
 
 module _ (g : Ground) where
   abbrev pub E : Bool

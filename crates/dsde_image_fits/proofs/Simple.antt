@@ -22,7 +22,7 @@ use Rattle.dsde_language.specs.Blocks.{Passed, Walk, walk_all, inner, var_kind}
 use Rattle.dsde_language.specs.RuleStructures as rule_structures
 use Rattle.dsde_language.specs.RuleStructures.{args_of, through}
 use Rattle.dsde_language.specs.DeclaredModels.{model_id}
-use Rattle.dsde_system.specs.given.structure.plan_Entry.{Entry}
+use Rattle.dsde_sim_movers.specs.given.structure.plan_Entry.{Entry}
 use Rattle.dsde_language.specs.Outcome.{Outcome, int_of, items_of}
 use Rattle.dsde_language.specs.Meaning.{Vars, mean, values_of, with_var}
 use Rattle.dsde_language.specs.Proper.{is_plain, is_proper, all_so}
@@ -30,7 +30,7 @@ use Rattle.dsde_language.specs.Scopes.{Sees}
 use Rattle.dsde_language.specs.Typed.{Typed, Fits}
 use Rattle.dsde_sound_expressions.specs.Items as proper
 use Rattle.dsde_sound_expressions.specs.Items.{is_proper_index}
-use Rattle.dsde_system.specs.given.executive_plans.Layout.{Lay, lay_all, item_step, natural, index_of, end_of, via_of, with_entry, with_link}
+use Rattle.dsde_sound_structures.specs.given.executive_plans.Layout.{Lay, lay_all, item_step, natural, index_of, end_of, via_of, with_entry, with_link}
 use Rattle.dsde_sound_expressions.specs.lemmas.Outcomes.{sound-given}
 use Rattle.dsde_sound_expressions.specs.lemmas.Values.{IsList, int-sound, items-sound}
 use Rattle.dsde_sound_expressions.specs.lemmas.Types.{wanted-is, item-is}
@@ -38,8 +38,8 @@ use Rattle.dsde_sound_expressions.specs.lemmas.Steps.{went, ok-is}
 use Rattle.dsde_sound_expressions.specs.lemmas.Truths.{and-left, and-right}
 use Rattle.dsde_sound_expressions.specs.lemmas.Fitting.{field_of, fits-snoc}
 use Rattle.dsde_sound_expressions.specs.lemmas.Seeing.{sees-snoc, fresh-new}
-use Rattle.dsde_sound_named.proofs.Laid.{Ground, Kept, bound, as-in, entry-keeps}
-use Rattle.dsde_sound_named.proofs.Does.{E, Done, Does, AllDo, same-done, for-keeps}
+use Rattle.dsde_image_fits.proofs.Laid.{Ground, Kept, bound, as-in, entry-keeps}
+use Rattle.dsde_image_fits.proofs.Does.{E, Done, Does, AllDo, same-done, for-keeps}
 
 abbrev index_ok : Option ℕ → Outcome (Option ℕ)
 index_ok own = Ok own

@@ -11,15 +11,15 @@ use Rattle.dsde_language.specs.declared.seen.Seen.{Seen}
 use Rattle.dsde_language.specs.Judge.{judge}
 use Rattle.dsde_language.specs.Judge as rules
 use Rattle.dsde_language.specs.DeclaredStructures.{Place}
-use Rattle.dsde_system.specs.given.structure.plan_Entry.{Entry}
+use Rattle.dsde_sim_movers.specs.given.structure.plan_Entry.{Entry}
 use Rattle.dsde_language.specs.Outcome.{Fault, Outcome, ◌>>=◌}
 use Rattle.dsde_language.specs.Meaning.{Function, Vars, mean}
 use Rattle.dsde_language.specs.Proper.{is_proper}
 use Rattle.dsde_language.specs.Scopes.{Sees}
 use Rattle.dsde_language.specs.Typed.{Typed, Fits}
-use Rattle.dsde_system.specs.given.executive_plans.Layout.{Layout, most, inserted, is_there, with_entry}
+use Rattle.dsde_sound_structures.specs.given.executive_plans.Layout.{Layout, most, inserted, is_there, with_entry}
 use Rattle.dsde_sound_expressions.specs.lemmas.Fitting.{fits-take, fits-length}
-use Rattle.dsde_sound_named.specs.Named.{AreAllowed, IsAllowed}
+use Rattle.dsde_image_fits.specs.Named.{AreAllowed, IsAllowed}
 
 -- What came to an end behind a step came behind what that step came to.
 pub bound : {A B : Type 0} (P : Type 0) (found : Outcome A) (next : A → Outcome B) (last : B) → (found >>= next) ≡ Ok last → ((value : A) → found ≡ Ok value → next value ≡ Ok last → P) → P

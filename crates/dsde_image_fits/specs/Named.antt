@@ -8,11 +8,11 @@ use Rattle.dsde_values.specs.declared.value.Value.{Value}
 use Rattle.dsde_values.specs.Path.{is_index}
 use Rattle.dsde_language.specs.Right.{IsRight}
 use Rattle.dsde_language.specs.declared.ids.ModelId.{ModelId}
-use Rattle.dsde_system.specs.given.structure.plan_Entry.{Entry}
-use Rattle.dsde_system.specs.given.structure.plan_Plan.{Plan}
-use Rattle.dsde_system.specs.given.formalism.System.{State}
-use Rattle.dsde_system.specs.Program.{system}
-use Rattle.dsde_system.specs.Fitting.{FitsArgs, FitsState}
+use Rattle.dsde_sim_movers.specs.given.structure.plan_Entry.{Entry}
+use Rattle.dsde_sim_movers.specs.given.structure.plan_Plan.{Plan}
+use Rattle.dsde_sim_movers.specs.given.formalism.System.{State}
+use Rattle.dsde_sound_structures.specs.given.system.Program.{system}
+use Rattle.dsde_sound_structures.specs.given.system.Fitting.{FitsArgs, FitsState}
 
 -- The identifier of a name is no word of the language, and its index, if it has one, is below 2^63.
 pub record IsAllowed (name : Name) : Type 0 where

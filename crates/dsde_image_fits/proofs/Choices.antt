@@ -12,11 +12,11 @@ use Rattle.dsde_language.specs.Outcome.{truth_of}
 use Rattle.dsde_language.specs.Proper.{is_proper, all_so}
 use Rattle.dsde_language.specs.Scopes.{Sees}
 use Rattle.dsde_sound_expressions.specs.Items as proper
-use Rattle.dsde_system.specs.given.executive_plans.Layout.{Layout, Lay, ArmLay, lay_all, braced, last_lay, arms_lay, item_step, item_arm_step}
+use Rattle.dsde_sound_structures.specs.given.executive_plans.Layout.{Layout, Lay, ArmLay, lay_all, braced, last_lay, arms_lay, item_step, item_arm_step}
 use Rattle.dsde_sound_expressions.specs.lemmas.Steps.{went, ok-is}
 use Rattle.dsde_sound_expressions.specs.lemmas.Truths.{and-left, and-right}
-use Rattle.dsde_sound_named.proofs.Laid.{Ground, Kept, bound, as-in}
-use Rattle.dsde_sound_named.proofs.Does.{E, Keeps, Done, Does, AllDo, same-done, braced-keeps}
+use Rattle.dsde_image_fits.proofs.Laid.{Ground, Kept, bound, as-in}
+use Rattle.dsde_image_fits.proofs.Does.{E, Keeps, Done, Does, AllDo, same-done, braced-keeps}
 
 module _ (g : Ground) where
   -- the braces of an arm

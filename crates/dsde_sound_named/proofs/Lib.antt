@@ -1,6 +1,0 @@
-mod Laid
-mod Does
-mod Items
-mod Simple
-mod Choices
-mod Whole

@@ -1,1 +1,0 @@
-pub use Rattle.dsde_system.specs.given.formalism.leaf_Leaf
