@@ -1,10 +1,10 @@
--- The text of a value is ASCII where the names of its types are words.
+-- Words and numbers are ASCII, and the text of a value is where the names of its types are words.
 use Rattle.std.proofs.Common.{◌≡◌, ℕ, zero, suc, ◌+◌, ◌<◌, ◌^◌, ◌==◌, ◌&&◌, ◌||◌, not, ◌⊎◌, inl, inr, nat_lt, nat_le, Bool, true, false, ℤ, pos, negsuc, List, [], ◌∷◌, ◌++◌, length, map, Option, Some, None, refl, sym, ap, subst, ◌∙◌, arith}
-use Rattle.std.specs.Prelude.{codes, unwrap_or, option_and_then, slice_get, slice_index, slice_index_or}
+use Rattle.std.specs.Prelude.{if◌then◌else◌, ◌/◌, ◌%◌, codes, decimal, unwrap_or, option_and_then, slice_get, slice_index_or}
 use Rattle.std.specs.List.{AllByRecursion, list_all, flat_map}
 use Rattle.std.specs.Option.{option_map_or}
 use Rattle.std.specs.Str.{IsAscii}
-use Rattle.std.specs.Fmt.{signed_decimal}
+use Rattle.std.specs.Fmt.{digits, digits_onto, digit_glyph, signed_decimal}
 use Rattle.std.proofs.lemmas.Str.{IsAscii-append}
 use Rattle.std.proofs.lemmas.Fmt.{IsAscii-decimal}
 use Rattle.std.proofs.lemmas.Bool.{ltb-true, leb-true, eqb-true}
@@ -19,7 +19,7 @@ use Rattle.dsde_values.specs.declared.types.Ty.TheOpen as open_ty
 use Rattle.dsde_values.specs.declared.types.Types.{Types}
 use Rattle.dsde_values.specs.declared.value.Value.{Value, Value-F, roll-Value, fold-roll-Value, map-Value, ind-Value}
 use Rattle.dsde_values.specs.declared.value.Value.TheOpen as layer
-use Rattle.dsde_values.specs.Value.{name_at, variants, variants_at, fields, fields_at, joined, field_texts, spelling_step, spelling, fits_int, is_variant, fill, type_step, has_type}
+use Rattle.dsde_values.specs.Value.{name_at, variants, variants_at, fields, fields_at, joined, field_texts, spelling_step, spelling, fits_int, fill, type_step, has_type}
 use Rattle.dsde_words.specs.Words.{is_word_byte, is_word}
 use Rattle.dsde_sound_structures.specs.Lawful.{is_named_shape, is_named_def}
 
@@ -49,7 +49,7 @@ pub no-ascii : IsAscii []
 no-ascii zero = omega arith
 no-ascii (suc i) = omega arith
 
-by-test : (bytes : List ℕ) → list_all (λ byte. nat_lt byte 128) bytes ≡ true → IsAscii bytes
+pub by-test : (bytes : List ℕ) → list_all (λ byte. nat_lt byte 128) bytes ≡ true → IsAscii bytes
 by-test [] is = no-ascii
 by-test (byte ∷ bytes) is =
     let parts = both (nat_lt byte 128) (list_all (λ byte. nat_lt byte 128) bytes) is in
@@ -83,6 +83,28 @@ bytes-ascii (byte ∷ bytes) is =
 pub word-ascii : (bytes : List ℕ) → is_word bytes ≡ true → IsAscii bytes
 word-ascii [] is = no-ascii
 word-ascii (byte ∷ bytes) is = bytes-ascii (byte ∷ bytes) (both (not (is_ascii_digit byte)) (list_all is_word_byte (byte ∷ bytes)) is).1
+
+-- a digit, in either range of letters
+glyph-ascii : (small : Bool) (digit : ℕ) → digit < 10 → (if small then 48 + digit else (if false then 55 + digit else 87 + digit)) < 128
+glyph-ascii true digit within = omega (arith, within)
+glyph-ascii false digit within = omega (arith, within)
+
+longer : (n : ℕ) (behind : List ℕ) → IsAscii behind → IsAscii (digit_glyph false (n % 10) ∷ behind)
+longer n behind ascii = ascii-byte (digit_glyph false (n % 10)) behind (glyph-ascii (nat_lt (n % 10) 10) (n % 10) (omega arith)) ascii
+
+either : (last : Bool) (first second : List ℕ) → IsAscii first → IsAscii second → IsAscii (if last then first else second)
+either true first second one other = one
+either false first second one other = other
+
+digits-ascii : (most n : ℕ) (behind : List ℕ) → IsAscii behind → IsAscii (digits_onto most 10 false n behind)
+digits-ascii zero n behind ascii = ascii
+digits-ascii (suc most) n behind ascii =
+    let next = longer n behind ascii in
+    either (n / 10 == 0) (digit_glyph false (n % 10) ∷ behind) (digits_onto most 10 false (n / 10) (digit_glyph false (n % 10) ∷ behind)) next (digits-ascii most (n / 10) (digit_glyph false (n % 10) ∷ behind) next)
+
+pub decimal-ascii : (n : ℕ) → IsAscii (decimal n)
+unfolding digits
+decimal-ascii n = digits-ascii 64 n [] no-ascii
 
 names-ascii : (names : List (List ℕ)) → list_all is_word names ≡ true → AllByRecursion IsAscii names
 names-ascii [] is = tt

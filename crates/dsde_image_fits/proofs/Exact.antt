@@ -1,10 +1,10 @@
 -- Values and their texts.
-use Rattle.std.proofs.Common.{◌≡◌, ◌↔◌, ℕ, true, false, ◌&&◌, Bool, List, [], ◌∷◌, ◌++◌, map, Option, Some, None, refl, sym, ap, subst, ◌∙◌, append-nil}
+use Rattle.std.proofs.Common.{◌≡◌, ◌↔◌, ℕ, true, false, ◌&&◌, Bool, List, [], ◌∷◌, ◌++◌, map, Option, Some, None, refl, sym, ap, ◌∙◌, append-nil}
 use Rattle.dsde_values.specs.declared.types.Field.{Field}
 use Rattle.dsde_values.specs.declared.types.Ty.{Ty}
 use Rattle.dsde_values.specs.declared.types.Types.{Types}
 use Rattle.dsde_values.specs.declared.value.Value.{Value}
-use Rattle.dsde_values.specs.Value.{HasType, IsLawful, spelling}
+use Rattle.dsde_values.specs.Value.{HasType, spelling}
 use Rattle.dsde_values.proofs.Typed.{HasType-is}
 use Rattle.dsde_values.specs.Word.{goes_on, ends_word}
 use Rattle.dsde_sound_structures.specs.given.system.Fitting.{Fill}

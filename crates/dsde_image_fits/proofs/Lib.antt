@@ -10,5 +10,8 @@ mod Items
 mod Laid
 mod Leaving
 mod Opens
+mod Restoring
+mod Rows
 mod Scripted
 mod Simple
+mod Writing

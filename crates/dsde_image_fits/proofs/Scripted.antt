@@ -1,24 +1,23 @@
 -- The script of a program: exact, read again, and ASCII.
-use Rattle.std.proofs.Common.{◌≡◌, ◌↔◌, ℕ, zero, suc, Bool, true, false, ◌&&◌, List, [], ◌∷◌, ◌++◌, map, Option, Some, None, refl, sym, ap, subst, ◌∙◌}
+use Rattle.std.proofs.Common.{◌≡◌, ◌↔◌, ℕ, zero, suc, Bool, true, false, ◌&&◌, List, [], ◌∷◌, ◌++◌, map, Option, Some, None, refl, ap, ◌∙◌}
 use Rattle.std.specs.Prelude.{slice_get}
 use Rattle.std.specs.List.{AllByRecursion, list_all}
 use Rattle.std.specs.Str.{IsAscii}
-use Rattle.dsde_words.specs.Words.{is_word}
 use Rattle.dsde_syntax.specs.declared.decl.Model.{Model}
 use Rattle.dsde_values.specs.declared.types.Field.{Field}
 use Rattle.dsde_values.specs.declared.types.Ty.{Ty}
 use Rattle.dsde_values.specs.declared.types.Types.{Types}
 use Rattle.dsde_values.specs.declared.value.Value.{Value}
-use Rattle.dsde_values.specs.Value.{HasType, IsLawful, spelling}
+use Rattle.dsde_values.specs.Value.{HasType, spelling}
 use Rattle.dsde_values.specs.Word.{goes_on}
 use Rattle.dsde_sim_movers.specs.given.language.ids_ModelId.{ModelId}
 use Rattle.dsde_sim_movers.specs.given.language.DeclaredModels.{Own, owns_of, param_slots, state_slots, types_of}
 use Rattle.dsde_sound_structures.specs.given.input_records.Reading.{value_of}
 use Rattle.dsde_sound_structures.specs.Lawful.{is_named_def, is_named_own}
 use Rattle.dsde_sound_structures.specs.given.system.Fitting.{Fill, FitsArgs, FitsState}
-use Rattle.dsde_image_fits.specs.Rows.{Script, texts}
+use Rattle.dsde_image_fits.specs.Rows.{texts}
 use Rattle.dsde_image_fits.specs.Fits.{IsExact}
-use Rattle.dsde_image_fits.specs.Script.{values_of, name_in, args_by, state_by, script}
+use Rattle.dsde_image_fits.specs.Script.{name_in, args_by, state_by, script}
 use Rattle.dsde_image_fits.proofs.Exact.{values-are, values-again}
 use Rattle.dsde_image_fits.proofs.Ascii.{no-ascii, word-ascii, typed-ascii}
 

@@ -1,5 +1,6 @@
 pub mod Fits
 pub mod Named
+pub mod Plain
 pub mod Rows
 pub mod Script
 pub mod Walk

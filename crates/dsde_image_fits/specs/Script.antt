@@ -7,7 +7,7 @@ use Rattle.dsde_values.specs.declared.types.Field.{Field}
 use Rattle.dsde_values.specs.declared.types.Ty.{Ty}
 use Rattle.dsde_values.specs.declared.types.Types.{Types}
 use Rattle.dsde_values.specs.declared.value.Value.{Value}
-use Rattle.dsde_values.specs.Value.{IsLawful, spelling}
+use Rattle.dsde_values.specs.Value.{spelling}
 use Rattle.dsde_sim_movers.specs.given.language.ids_ModelId.{ModelId}
 use Rattle.dsde_sim_movers.specs.given.language.DeclaredModels.{Own, owns_of, param_slots, state_slots, types_of}
 use Rattle.dsde_sound_structures.specs.given.input_records.Reading.{value_of}

@@ -4,13 +4,13 @@ use Rattle.dsde_syntax.specs.declared.decl.Model.{Model}
 use Rattle.dsde_values.specs.Path.{root, path_text}
 use Rattle.dsde_sim_tree.specs.declared.sim.Sim.{Sim}
 use Rattle.dsde_sim_tree.specs.Engine.{Engine}
-use Rattle.dsde_image_written.specs.given.system.Program.{system}
+use Rattle.dsde_image_fits.specs.given.system.Program.{system}
 use Rattle.dsde_image.specs.declared.image.Image.{Image}
 use Rattle.dsde_image.specs.declared.image.Version.{Version}
 use Rattle.dsde_image.specs.Image.{IsImage}
-use Rattle.dsde_image_walk.specs.given.image_fits.Rows.{rows}
-use Rattle.dsde_image_walk.specs.given.image_fits.Walk.{Walked, tree_of}
-use Rattle.dsde_image_walk.specs.given.image_fits.Script.{script}
+use Rattle.dsde_image_fits.specs.Rows.{rows}
+use Rattle.dsde_image_fits.specs.Walk.{Walked, tree_of}
+use Rattle.dsde_image_fits.specs.Script.{script}
 use Rattle.dsde_image_json.specs.Json.{image_data}
 use Rattle.dsde_image_json.specs.Text.{IsReading}
 use Rattle.dsde_image_walk.specs.declared.ends.RestoreEnd.{RestoreEnd}

@@ -5,9 +5,9 @@ pub mod core_engine {
     pub use dsde_core::Core;
 }
 
-/// Of `dsde_image_written`.
-pub mod image_written {
-    pub use dsde_image_written::{images_are_restored, images_are_written, rows_are_right};
+/// Of `dsde_image_fits`.
+pub mod image_fits {
+    pub use dsde_image_fits::{images_are_restored, images_are_written, rows_are_right};
 }
 
 /// Of `dsde_program`.

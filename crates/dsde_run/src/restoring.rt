@@ -10,9 +10,9 @@ ghost use Rattle.dsde_run.specs.Saved.{at_work, Answers, GivesAgain, IsMisfit, I
 
 use dsde_core::Core;
 use dsde_image::Image;
+use dsde_image_fits::images_are_restored;
 use dsde_image_json::{ReadImage, read_image};
 use dsde_image_walk::{RestoreEnd, restored_tree};
-use dsde_image_written::images_are_restored;
 use dsde_trace::given::program::Program;
 use dsde_values::{Memory, Path};
 use std::alloc::Global;

@@ -10,7 +10,7 @@ ghost use Rattle.dsde_run.specs.Resuming.{ComesBack, stopped_as, taken_up};
 
 use crate::{Cut, RunEnd, Running, run_turns};
 use dsde_core::Core;
-use dsde_image_walk::given::sound_structures::top_is_sure;
+use dsde_image_fits::given::sound_structures::top_is_sure;
 use dsde_input_skip::given::input::InputEnd;
 use dsde_input_skip::{SkipEnd, skip};
 use dsde_io::{Sink, Source};

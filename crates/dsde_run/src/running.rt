@@ -8,10 +8,10 @@ ghost use Rattle.dsde_run_meaning.specs.Run.{spot_at};
 ghost use Rattle.dsde_run.specs.Run.{running, event_text};
 ghost use Rattle.dsde_run.specs.Steps.{ItemsCome};
 
-use dsde_image_walk::given::sound_structures::{
+use dsde_image_fits::given::sound_expressions::bodies_stand;
+use dsde_image_fits::given::sound_structures::{
     ports_are_lawful, top_is_declared, types_are_lawful,
 };
-use dsde_image_written::given::sound_expressions::bodies_stand;
 use dsde_lexer::Places;
 use dsde_program_layout::infos_are_declared;
 use dsde_sim_tree::Event;

@@ -9,9 +9,9 @@ ghost use Rattle.dsde_run.specs.Saved.{Says, image_of};
 
 use dsde_core::Core;
 use dsde_image::{Image, Version};
+use dsde_image_fits::{images_are_written, rows_are_right};
 use dsde_image_json::write_image;
 use dsde_image_walk::list;
-use dsde_image_written::{images_are_written, rows_are_right};
 use dsde_values::{Memory, Path, Seq, Text};
 use std::alloc::Global;
 

@@ -5,9 +5,9 @@ pub mod core_engine {
     pub use dsde_run::given::core_engine::Core;
 }
 
-/// Of `dsde_image_written`.
-pub mod image_written {
-    pub use dsde_run::given::image_written::{
+/// Of `dsde_image_fits`.
+pub mod image_fits {
+    pub use dsde_run::given::image_fits::{
         images_are_restored, images_are_written, rows_are_right,
     };
 }

@@ -1,1 +1,2 @@
-pub use Rattle.dsde_image_walk.specs.given.image_fits.Walk
+pub use Rattle.dsde_image_fits.specs.Plain
+pub use Rattle.dsde_image_fits.specs.Walk

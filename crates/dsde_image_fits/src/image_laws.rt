@@ -1,9 +1,10 @@
 //! The images of the trees of a program. Each law is a call that does nothing.
 
-ghost use Rattle.dsde_image_written.specs.Plain.{ImagesAreRestored, ImagesAreWritten, RowsAreRight};
+ghost use Rattle.dsde_image_fits.specs.Plain.{ImagesAreRestored, ImagesAreWritten, RowsAreRight};
 
-use dsde_image_fits::{
-    components_are_called, images_fit, names_are_allowed, scripts_are_exact, texts_are_ascii,
+use crate::fit_laws::images_fit;
+use crate::text_laws::{
+    components_are_called, names_are_allowed, scripts_are_exact, texts_are_ascii,
 };
 
 /// The texts of the image of a tree of a program are UTF-8.

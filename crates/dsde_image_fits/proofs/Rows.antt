@@ -13,31 +13,31 @@ use Rattle.dsde_language.specs.Right.{IsRight}
 use Rattle.dsde_language.specs.declared.ids.ModelId.{ModelId}
 use Rattle.dsde_sim_movers.specs.given.formalism.leaf_Leaf.{Leaf}
 use Rattle.dsde_sim_movers.specs.given.structure.plan_Entry.{Entry}
-use Rattle.dsde_image_fits.specs.given.system.Program.{system}
-use Rattle.dsde_image_fits.specs.given.system.Fitting.{FitsLeaf, FitsState, IsInTime}
-use Rattle.dsde_sim_starting.specs.given.sim_tree.Told.{below, to_boss}
-use Rattle.dsde_sim_starting.specs.given.sim_tree.sim_Kid.{Kid}
-use Rattle.dsde_sim_starting.specs.given.sim_tree.sim_Net.{Net}
-use Rattle.dsde_sim_starting.specs.given.sim_tree.sim_Sim.{Sim}
-use Rattle.dsde_sim_starting.specs.given.sim_tree.sim_Sim_TheVariants as sim
-use Rattle.dsde_sim_starting.specs.given.sim_tree.sim_Sim_TheViews.{out-Kid, out-Net}
-use Rattle.dsde_sim_starting.specs.given.sim_tree.Opened.{shape_in, spots-Leaf, spots-Net, spots-net, spots-kid}
-use Rattle.dsde_sim_starting.specs.given.sim_tree.Spots.{Shape, spots, spots_of_kid}
-use Rattle.dsde_sim_starting.specs.given.sim_tree.Tree.{entry_of}
-use Rattle.dsde_sim_starting.specs.given.sim_tree.lemmas_Trees.{each_tree}
+use Rattle.dsde_sound_structures.specs.given.system.Program.{system}
+use Rattle.dsde_sound_structures.specs.given.system.Fitting.{FitsLeaf, FitsState, IsInTime}
+use Rattle.dsde_sim_movers.specs.given.sim_tree.Told.{below, to_boss}
+use Rattle.dsde_sim_movers.specs.given.sim_tree.sim_Kid.{Kid}
+use Rattle.dsde_sim_movers.specs.given.sim_tree.sim_Net.{Net}
+use Rattle.dsde_sim_movers.specs.given.sim_tree.sim_Sim.{Sim}
+use Rattle.dsde_sim_movers.specs.given.sim_tree.sim_Sim_TheVariants as sim
+use Rattle.dsde_sim_movers.specs.given.sim_tree.sim_Sim_TheViews.{out-Kid, out-Net}
+use Rattle.dsde_sim_movers.specs.given.sim_tree.Opened.{shape_in, spots-Leaf, spots-Net, spots-net, spots-kid}
+use Rattle.dsde_sim_movers.specs.given.sim_tree.Spots.{Shape, spots, spots_of_kid}
+use Rattle.dsde_sim_movers.specs.given.sim_tree.Tree.{entry_of}
+use Rattle.dsde_sim_movers.specs.given.sim_tree.lemmas_Trees.{each_tree}
 use Rattle.dsde_sim_starting.specs.Fitting.{FitsShape, FitsSpot, FitsTree}
-use Rattle.dsde_image_fits.specs.given.sim_movers.Stands.{StandsShape, StandsSpot, StandsTree, StayAs, deepest, depth, depth_of_kid}
-use Rattle.dsde_image_fits.specs.given.sim_movers.lemmas_Opened.{depth-Leaf, depth-Net, depth-kid}
+use Rattle.dsde_sim_movers.specs.Stands.{StandsShape, StandsSpot, StandsTree, StayAs, deepest, depth, depth_of_kid}
+use Rattle.dsde_sim_movers.specs.lemmas.Opened.{depth-Leaf, depth-Net, depth-kid}
 use Rattle.dsde_image.specs.Image as image
-use Rattle.dsde_image.specs.Image.{IsLocation, IsRow, IsStanding, last_text, location_of}
+use Rattle.dsde_image.specs.Image.{IsLocation, IsRow, IsStanding, location_of}
 use Rattle.dsde_image.specs.declared.image.Row.{Row}
 use Rattle.dsde_image.specs.declared.image.Version.{Version}
 use Rattle.dsde_image.specs.declared.image.Version.TheVariants.{One, Two}
 use Rattle.dsde_image_fits.specs.Rows.{Script, rows, rows_of_kid, atomic_row, boss_row, standing_of}
 use Rattle.dsde_image_fits.specs.Script.{script, ComponentsAreCalled}
 use Rattle.dsde_image_fits.specs.Named.{AreAllowed, NamesAreAllowed}
-use Rattle.dsde_image_written.proofs.Opens.{rows-Leaf, rows-Net, rows-kid}
-use Rattle.dsde_image_written.proofs.Writing.{all-append, all-parts}
+use Rattle.dsde_image_fits.proofs.Opens.{rows-Leaf, rows-Net, rows-kid}
+use Rattle.dsde_image_fits.proofs.Writing.{all-append, all-parts}
 
 -- ---- paths of a model
 

@@ -4,10 +4,10 @@ use Rattle.std.specs.List.{AllByRecursion}
 use Rattle.dsde_syntax.specs.declared.decl.Model.{Model}
 use Rattle.dsde_values.specs.Path.{root}
 use Rattle.dsde_language.specs.Right.{IsRight}
-use Rattle.dsde_image_fits.specs.given.system.Program.{system}
+use Rattle.dsde_sound_structures.specs.given.system.Program.{system}
 use Rattle.dsde_sim_starting.specs.Fitting.{FitsTree}
-use Rattle.dsde_image_fits.specs.given.sim_movers.Stands.{Stands, StandsTree}
-use Rattle.dsde_sim_starting.specs.given.sim_tree.sim_Sim.{Sim}
+use Rattle.dsde_sim_movers.specs.Stands.{Stands, StandsTree}
+use Rattle.dsde_sim_movers.specs.given.sim_tree.sim_Sim.{Sim}
 use Rattle.dsde_image.specs.Image.{IsRow}
 use Rattle.dsde_image.specs.Written.{IsWrittenRow}
 use Rattle.dsde_image.specs.declared.image.Version.{Version}

@@ -16,28 +16,28 @@ use Rattle.dsde_language.specs.DeclaredModels.{types_of, param_slots, state_slot
 use Rattle.dsde_language.specs.declared.ids.ModelId.{ModelId}
 use Rattle.dsde_sim_movers.specs.given.formalism.leaf_Leaf.{Leaf}
 use Rattle.dsde_sim_movers.specs.given.structure.plan_Entry.{Entry}
-use Rattle.dsde_image_fits.specs.given.system.Program.{system}
-use Rattle.dsde_image_fits.specs.given.system.Fitting.{Fill, FitsLeaf}
-use Rattle.dsde_sim_starting.specs.given.sim_tree.Told.{below}
-use Rattle.dsde_sim_starting.specs.given.sim_tree.sim_Kid.{Kid}
-use Rattle.dsde_sim_starting.specs.given.sim_tree.sim_Net.{Net}
-use Rattle.dsde_sim_starting.specs.given.sim_tree.sim_Sim.{Sim}
-use Rattle.dsde_sim_starting.specs.given.sim_tree.sim_Sim_TheVariants as sim
-use Rattle.dsde_sim_starting.specs.given.sim_tree.sim_Sim_TheViews.{out-Kid, out-Net}
-use Rattle.dsde_sim_starting.specs.given.sim_tree.Opened.{spots-Leaf, spots-Net, spots-net, spots-kid}
-use Rattle.dsde_sim_starting.specs.given.sim_tree.Spots.{spots, spots_of_kid}
-use Rattle.dsde_sim_starting.specs.given.sim_tree.Tree.{entry_of}
-use Rattle.dsde_sim_starting.specs.given.sim_tree.lemmas_Trees.{each_tree}
+use Rattle.dsde_sound_structures.specs.given.system.Program.{system}
+use Rattle.dsde_sound_structures.specs.given.system.Fitting.{Fill, FitsLeaf}
+use Rattle.dsde_sim_movers.specs.given.sim_tree.Told.{below}
+use Rattle.dsde_sim_movers.specs.given.sim_tree.sim_Kid.{Kid}
+use Rattle.dsde_sim_movers.specs.given.sim_tree.sim_Net.{Net}
+use Rattle.dsde_sim_movers.specs.given.sim_tree.sim_Sim.{Sim}
+use Rattle.dsde_sim_movers.specs.given.sim_tree.sim_Sim_TheVariants as sim
+use Rattle.dsde_sim_movers.specs.given.sim_tree.sim_Sim_TheViews.{out-Kid, out-Net}
+use Rattle.dsde_sim_movers.specs.given.sim_tree.Opened.{spots-Leaf, spots-Net, spots-net, spots-kid}
+use Rattle.dsde_sim_movers.specs.given.sim_tree.Spots.{spots, spots_of_kid}
+use Rattle.dsde_sim_movers.specs.given.sim_tree.Tree.{entry_of}
+use Rattle.dsde_sim_movers.specs.given.sim_tree.lemmas_Trees.{each_tree}
 use Rattle.dsde_sim_starting.specs.Fitting.{FitsSpot, FitsTree}
-use Rattle.dsde_image_fits.specs.given.sim_movers.Stands.{StandsSpot, StandsTree, StayAs}
+use Rattle.dsde_sim_movers.specs.Stands.{StandsSpot, StandsTree, StayAs}
 use Rattle.dsde_image.specs.Image.{last_text}
 use Rattle.dsde_image.specs.Written.{AreUtf8, IsWrittenRow}
 use Rattle.dsde_image.specs.declared.image.Row.{Row}
 use Rattle.dsde_image.specs.declared.image.Version.TheVariants.{Two}
 use Rattle.dsde_image_fits.specs.Rows.{texts, rows, rows_of_kid, atomic_row, boss_row}
 use Rattle.dsde_image_fits.specs.Script.{script, ComponentsAreCalled, NamesAreAscii, TextsAreAscii}
-use Rattle.dsde_image_written.proofs.Ascii.{decimal-ascii, word-ascii, by-test}
-use Rattle.dsde_image_written.proofs.Opens.{rows-Leaf, rows-Net, rows-kid}
+use Rattle.dsde_image_fits.proofs.Ascii.{decimal-ascii, word-ascii, by-test}
+use Rattle.dsde_image_fits.proofs.Opens.{rows-Leaf, rows-Net, rows-kid}
 
 index-ascii : (index : Option ℕ) → IsAscii (index_text index)
 index-ascii None = by-test [] refl

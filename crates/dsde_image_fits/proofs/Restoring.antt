@@ -6,12 +6,12 @@ use Rattle.dsde_syntax.specs.declared.decl.Model.{Model}
 use Rattle.dsde_values.specs.Path.{root}
 use Rattle.dsde_language.specs.Right.{IsRight}
 use Rattle.dsde_sim_movers.specs.given.formalism.leaf_Leaf.{Leaf}
-use Rattle.dsde_image_fits.specs.given.system.Program.{system}
-use Rattle.dsde_image_fits.specs.given.system.Fitting.{FitsLeaf}
+use Rattle.dsde_sound_structures.specs.given.system.Program.{system}
+use Rattle.dsde_sound_structures.specs.given.system.Fitting.{FitsLeaf}
 use Rattle.dsde_sim_starting.specs.Fitting.{FitsSpot, FitsTree}
-use Rattle.dsde_image_fits.specs.given.sim_movers.Stands.{Stands}
-use Rattle.dsde_sim_starting.specs.given.sim_tree.Spots.{Spot, spots}
-use Rattle.dsde_sim_starting.specs.given.sim_tree.sim_Sim.{Sim}
+use Rattle.dsde_sim_movers.specs.Stands.{Stands}
+use Rattle.dsde_sim_movers.specs.given.sim_tree.Spots.{Spot, spots}
+use Rattle.dsde_sim_movers.specs.given.sim_tree.sim_Sim.{Sim}
 use Rattle.dsde_image.specs.declared.image.Version.{Version}
 use Rattle.dsde_image_fits.specs.Fits.{ImagesFit, SpotIsReadAgain, StateIsReadAgain}
 use Rattle.dsde_image_fits.specs.Rows.{rows}

@@ -1,5 +1,0 @@
-mod Opens
-mod Ascii
-mod Writing
-mod Restoring
-mod Rows

@@ -1,1 +1,0 @@
-pub use Rattle.dsde_image_fits.specs.given.sound_expressions.Laws

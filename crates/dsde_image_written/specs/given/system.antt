@@ -1,3 +1,0 @@
-pub use Rattle.dsde_image_fits.specs.given.system.Fitting
-pub use Rattle.dsde_image_fits.specs.given.system.Plans
-pub use Rattle.dsde_image_fits.specs.given.system.Program

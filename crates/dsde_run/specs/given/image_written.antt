@@ -1,1 +1,0 @@
-pub use Rattle.dsde_image_written.specs.Plain

@@ -1,1 +1,0 @@
-pub use Rattle.dsde_run.specs.given.image_written.Plain
