@@ -5,7 +5,8 @@ use Rattle.dsde_values.specs.declared.value.Value.TheVariants as value
 use Rattle.dsde_language.specs.declared.operator.Binary.{Binary}
 use Rattle.dsde_language.specs.declared.operator.Binary.TheVariants as binary
 use Rattle.dsde_faults.specs.declared.end.EvalEnd.{EvalEnd}
-use Rattle.dsde_language.specs.Outcome.{Outcome, Gives}
+use Rattle.dsde_faults.specs.declared.end.EvalEnd.TheVariants as end_of
+use Rattle.dsde_language.specs.Outcome.{Outcome, Fault}
 
 -- whether an operator makes a whole number of two whole numbers
 abbrev pub reckons : Binary → Bool
@@ -19,7 +20,8 @@ reckons binary.CapSub = true
 reckons binary.CapMul = true
 reckons _ = false
 
--- The answer is the whole number that is meant, or it is the fault that is meant, or memory ran out.
+-- The answer is the whole number that is meant, or it is the fault that is meant: memory never runs out.
 abbrev pub Reckons : Outcome Value → Result ℤ EvalEnd → Type 0
 Reckons meant (Ok number) = meant ≡ Ok (value.Int number)
-Reckons meant (Err end) = Gives {A = Value} meant (Err end)
+Reckons meant (Err (end_of.Fault kind at)) = meant ≡ Err (Fault kind at)
+Reckons meant (Err end_of.Memory) = ⊥
