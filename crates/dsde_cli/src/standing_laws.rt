@@ -4,7 +4,7 @@ ghost use Rattle.dsde_cli.specs.Standing.{RunsBegin, RunsStand};
 
 use crate::{models_name_parts, turns_are_in_time, turns_are_taken};
 use dsde_input_records::records_come_in_order;
-use dsde_run_free::given::sound_forward::programs_lead_on;
+use dsde_run_free::given::sim_working::programs_lead_on;
 use dsde_sim_movers::{room_is_kept, trees_are_named, trees_stand, turns_move_one_by_one};
 use dsde_sound_runs::{engines_fit, inputs_arrive};
 

@@ -20,7 +20,7 @@ use Rattle.dsde_sim_tree.specs.Engine.{next_of, turned, Engine}
 use Rattle.dsde_sim_tree.specs.Turn.{advance, is_taken, items_at, turn as turn_of, turn_time}
 use Rattle.dsde_core_moving.specs.given.sim_movers.Places.{IsInOrder}
 use Rattle.dsde_core_moving.specs.given.sim_movers.Work.{turn_entries}
-use Rattle.dsde_core_outputs.specs.given.sound_forward.Forward.{ProgramsLeadOn}
+use Rattle.dsde_core_outputs.specs.given.sim_working.Forward.{ProgramsLeadOn}
 use Rattle.dsde_core_outputs.specs.given.sim_working.Working.{working, Comes, FitsItems, HeadComes, IsRoot, StandsAt}
 use Rattle.dsde_core_outputs.specs.given.sim_working.lemmas_Advancing.{advance-err, advance-ok, head-early, items-fit, turn-moment}
 use Rattle.dsde_core_outputs.specs.given.sim_working.lemmas_Delivering.{in-order}

@@ -22,8 +22,9 @@ use dsde_core_moving::given::core_flat::paths_are_short;
 use dsde_core_moving::given::core_moves::Flat;
 use dsde_core_moving::given::program::Program;
 use dsde_core_moving::given::sim_movers::{advances_are_delivered, trees_stand};
-use dsde_core_outputs::given::sim_working::{chosen, is_taken, items_at, started, turn_time};
-use dsde_core_outputs::given::sound_forward::programs_lead_on;
+use dsde_core_outputs::given::sim_working::{
+    chosen, is_taken, items_at, programs_lead_on, started, turn_time,
+};
 use dsde_sim_tree::{Event, Sim, Step, TurnEnd};
 use dsde_values::{Arrival, Memory, Seq, When};
 use std::alloc::Global;

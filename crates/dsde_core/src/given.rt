@@ -8,12 +8,7 @@ pub mod sim_moving {
 /// Of `dsde_sim_working`.
 pub mod sim_working {
     pub use dsde_core_outputs::given::sim_working::{
-        chosen, fitting_trees_are_named, is_taken, items_at, received, sent_by_root, started,
-        turn_time,
+        chosen, fitting_trees_are_named, is_taken, items_at, programs_lead_on, received,
+        sent_by_root, started, turn_time,
     };
-}
-
-/// Of `dsde_sound_forward`.
-pub mod sound_forward {
-    pub use dsde_core_outputs::given::sound_forward::programs_lead_on;
 }

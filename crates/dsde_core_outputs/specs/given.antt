@@ -1,4 +1,3 @@
 -- What crates below declare, for those above: each file under the name of its crate.
 pub mod sim_working
-pub mod sound_forward
 pub mod system

@@ -16,8 +16,9 @@ ghost use Rattle.dsde_run.specs.given.sim_working.Working.{HeadComes, IsRoot, St
 use crate::turn::turn;
 use dsde_run::given::program::Program;
 use dsde_run::given::sim_moving::next_time;
-use dsde_run::given::sim_working::{chosen, is_taken, items_at, started, turn_time};
-use dsde_run::given::sound_forward::programs_lead_on;
+use dsde_run::given::sim_working::{
+    chosen, is_taken, items_at, programs_lead_on, started, turn_time,
+};
 use dsde_sim_movers::{advances_are_delivered, trees_stand};
 use dsde_sim_tree::{Event, Sim, Step, TurnEnd};
 use dsde_values::{Arrival, Memory, Seq};

@@ -20,7 +20,7 @@ pub mod run {
     };
 }
 
-/// Of `dsde_sound_forward`.
-pub mod sound_forward {
-    pub use dsde_run::given::sound_forward::programs_lead_on;
+/// Of `dsde_sim_working`.
+pub mod sim_working {
+    pub use dsde_run::given::sim_working::programs_lead_on;
 }

@@ -1,3 +1,4 @@
+pub mod Forward
 pub mod Working
 pub mod lemmas
 pub mod given

@@ -8,16 +8,16 @@ use Rattle.dsde_values.specs.declared.value.Value.{Value}
 use Rattle.dsde_language.specs.declared.ids.ModelId.{ModelId}
 use Rattle.dsde_language.specs.DeclaredModels.{types_of, Own, owns_of}
 use Rattle.dsde_language.specs.Typed.{AllSent}
-use Rattle.dsde_sound_forward.specs.given.system.Plans.{ways}
+use Rattle.dsde_system.specs.Plans.{ways}
 use Rattle.dsde_sim_tree.specs.given.formalism.System.{Chosen}
 use Rattle.dsde_sim_tree.specs.declared.fault.TurnEnd.{TurnEnd}
 use Rattle.dsde_sim_tree.specs.declared.sim.Sim.{Sim}
 use Rattle.dsde_sim_tree.specs.Tree.{parts, model_of}
 use Rattle.dsde_sim_tree.specs.declared.step.TheConstants.{MOST_PARTS}
 use Rattle.dsde_sim_tree.specs.Engine.{Engine}
-use Rattle.dsde_sound_forward.specs.given.system.Program.{system}
+use Rattle.dsde_system.specs.Program.{system}
 use Rattle.dsde_sim_moving.specs.Fitting.{FitsTree}
-use Rattle.dsde_sound_forward.specs.given.sim_movers.Stands.{StandsEngine}
+use Rattle.dsde_sim_movers.specs.Stands.{StandsEngine}
 
 -- a program, and the engine that runs it
 pub record Working : Type 0 where

@@ -2,6 +2,5 @@
 pub mod sim_gathering
 pub mod sim_movers
 pub mod sim_starting
-pub mod sound_forward
 pub mod sound_structures
 pub mod system

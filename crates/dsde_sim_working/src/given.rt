@@ -17,7 +17,7 @@ pub mod program {
 
 /// Of `dsde_sim_movers`.
 pub mod sim_movers {
-    pub use dsde_sound_forward::given::sim_movers::{leaves_have_paths, movers_are_walked};
+    pub use dsde_sim_movers::{leaves_have_paths, movers_are_walked};
 }
 
 /// Of `dsde_sim_starting`.
@@ -28,11 +28,6 @@ pub mod sim_starting {
 /// Of `dsde_sim_telling`.
 pub mod sim_telling {
     pub use dsde_sim_moving::given::sim_telling::at;
-}
-
-/// Of `dsde_sound_forward`.
-pub mod sound_forward {
-    pub use dsde_sound_forward::programs_lead_on;
 }
 
 /// Of `dsde_sound_structures`.

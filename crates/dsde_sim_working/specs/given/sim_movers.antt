@@ -1,6 +1,6 @@
-pub use Rattle.dsde_sound_forward.specs.given.sim_movers.Asking
-pub use Rattle.dsde_sound_forward.specs.given.sim_movers.Deliveries
-pub use Rattle.dsde_sound_forward.specs.given.sim_movers.Movers
-pub use Rattle.dsde_sound_forward.specs.given.sim_movers.Places
-pub use Rattle.dsde_sound_forward.specs.given.sim_movers.Turns
-pub use Rattle.dsde_sound_forward.specs.given.sim_movers.Walk
+pub use Rattle.dsde_sim_movers.specs.Asking
+pub use Rattle.dsde_sim_movers.specs.Deliveries
+pub use Rattle.dsde_sim_movers.specs.Movers
+pub use Rattle.dsde_sim_movers.specs.Places
+pub use Rattle.dsde_sim_movers.specs.Turns
+pub use Rattle.dsde_sim_movers.specs.Walk

@@ -1,3 +1,3 @@
-pub use Rattle.dsde_sound_forward.specs.given.system.Fitting
-pub use Rattle.dsde_sound_forward.specs.given.system.Plans
-pub use Rattle.dsde_sound_forward.specs.given.system.Program
+pub use Rattle.dsde_system.specs.Fitting
+pub use Rattle.dsde_system.specs.Plans
+pub use Rattle.dsde_system.specs.Program

@@ -9,7 +9,7 @@ use Rattle.dsde_sim_tree.specs.given.formalism.System.{System}
 use Rattle.dsde_sim_tree.specs.declared.event.Event.{Event}
 use Rattle.dsde_sim_tree.specs.declared.fault.TurnEnd.{TurnEnd}
 use Rattle.dsde_sim_tree.specs.Told.{Told, Tells, ◌then◌}
-use Rattle.dsde_sound_forward.specs.given.system.Fitting.{IsInTime}
+use Rattle.dsde_system.specs.Fitting.{IsInTime}
 use Rattle.dsde_sim_tree.specs.declared.sim.Sim.{Sim}
 use Rattle.dsde_sim_tree.specs.Tree.{next_time, model_of}
 use Rattle.dsde_sim_tree.specs.declared.step.Step.{Step}

@@ -5,10 +5,10 @@ use Rattle.std.specs.List.{AllByRecursion}
 use Rattle.dsde_syntax.specs.declared.decl.Model.{Model}
 use Rattle.dsde_sim_tree.specs.declared.sim.Sim.{Sim}
 use Rattle.dsde_sim_tree.specs.Spots.{Spot, spots}
-use Rattle.dsde_sound_forward.specs.given.sim_movers.Places.{HasOrder, IsInOrder}
+use Rattle.dsde_sim_movers.specs.Places.{HasOrder, IsInOrder}
 use Rattle.dsde_sim_moving.specs.Fitting.{FitsSpot, FitsTree}
-use Rattle.dsde_sound_forward.specs.given.sim_movers.Names.{HasNames, IsNamed}
-use Rattle.dsde_sound_forward.specs.given.sim_movers.lemmas_Named.{entries-named}
+use Rattle.dsde_sim_movers.specs.Names.{HasNames, IsNamed}
+use Rattle.dsde_sim_movers.specs.lemmas.Named.{entries-named}
 use Rattle.dsde_sim_working.specs.Working.{StandsIf}
 
 all-in-order : (model : Model) (own : List Spot) → AllByRecursion (FitsSpot model) own → AllByRecursion HasOrder own

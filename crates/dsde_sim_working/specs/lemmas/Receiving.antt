@@ -5,9 +5,9 @@ use Rattle.dsde_syntax.specs.declared.decl.Model.{Model}
 use Rattle.dsde_values.specs.declared.arrival.Item.{Item}
 use Rattle.dsde_language.specs.DeclaredModels.{types_of, Own, owns_of}
 use Rattle.dsde_sim_tree.specs.given.formalism.System.{Ports}
-use Rattle.dsde_sound_forward.specs.given.system.Fitting.{Reach}
-use Rattle.dsde_sound_forward.specs.given.system.Plans.{ways}
-use Rattle.dsde_sound_forward.specs.given.system.Program.{system}
+use Rattle.dsde_system.specs.Fitting.{Reach}
+use Rattle.dsde_system.specs.Plans.{ways}
+use Rattle.dsde_system.specs.Program.{system}
 use Rattle.dsde_sim_moving.specs.given.sound_structures.Carrying.{SentFit}
 use Rattle.dsde_sim_tree.specs.declared.sim.Sim.{Sim}
 use Rattle.dsde_sim_tree.specs.Tree.{model_of}

@@ -10,13 +10,13 @@ use Rattle.dsde_language.specs.declared.ids.ModelId.{ModelId}
 use Rattle.dsde_sim_tree.specs.given.formalism.System.{System, Chosen}
 use Rattle.dsde_sim_tree.specs.declared.fault.TurnEnd.{TurnEnd}
 use Rattle.dsde_sim_tree.specs.Told.{Told, at, told, quietly, ◌then◌}
-use Rattle.dsde_sound_forward.specs.given.system.Program.{system}
+use Rattle.dsde_system.specs.Program.{system}
 use Rattle.dsde_sim_tree.specs.declared.sim.Sim.{Sim}
 use Rattle.dsde_sim_tree.specs.declared.step.Step.{Step}
 use Rattle.dsde_sim_tree.specs.Engine.{Engine, begun}
 use Rattle.dsde_sim_tree.specs.Turn.{start, started_tree, advance}
-use Rattle.dsde_sound_forward.specs.given.sim_movers.Stands.{StartStands, AdvanceStands}
-use Rattle.dsde_sound_forward.specs.Forward.{ProgramsLeadOn}
+use Rattle.dsde_sim_movers.specs.Stands.{StartStands, AdvanceStands}
+use Rattle.dsde_sim_working.specs.Forward.{ProgramsLeadOn}
 use Rattle.dsde_sim_working.specs.Working.{StandsAt}
 
 -- a start whose tree has started

@@ -5,7 +5,7 @@ use Rattle.dsde_syntax.specs.declared.decl.Model.{Model}
 use Rattle.dsde_values.specs.declared.when.When.{When}
 use Rattle.dsde_values.specs.declared.when.When.TheVariants.{At, Never}
 use Rattle.dsde_sim_tree.specs.given.formalism.leaf_Leaf.{Leaf}
-use Rattle.dsde_sound_forward.specs.given.system.Fitting.{IsInTime}
+use Rattle.dsde_system.specs.Fitting.{IsInTime}
 use Rattle.dsde_sim_tree.specs.declared.sim.Kid.{Kid}
 use Rattle.dsde_sim_tree.specs.declared.sim.Net.{Net}
 use Rattle.dsde_sim_tree.specs.declared.sim.Sim.{Sim}

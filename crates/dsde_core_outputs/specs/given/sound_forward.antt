@@ -1,1 +1,0 @@
-pub use Rattle.dsde_sim_working.specs.given.sound_forward.Forward

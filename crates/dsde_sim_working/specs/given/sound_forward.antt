@@ -1,1 +1,0 @@
-pub use Rattle.dsde_sound_forward.specs.Forward

@@ -1,9 +1,0 @@
-pub use Rattle.dsde_sim_movers.specs.Asking
-pub use Rattle.dsde_sim_movers.specs.Deliveries
-pub use Rattle.dsde_sim_movers.specs.Movers
-pub use Rattle.dsde_sim_movers.specs.Names
-pub use Rattle.dsde_sim_movers.specs.Places
-pub use Rattle.dsde_sim_movers.specs.Stands
-pub use Rattle.dsde_sim_movers.specs.Turns
-pub use Rattle.dsde_sim_movers.specs.Walk
-pub use Rattle.dsde_sim_movers.specs.lemmas.Named as lemmas_Named
