@@ -20,8 +20,8 @@ use Rattle.dsde_run_free.specs.given.run.SavedRuns.{image_at, image_left, is_sto
 use Rattle.dsde_run_free.specs.given.run.Saved.{Says, image_of}
 use Rattle.dsde_image.specs.declared.image.Image.{Image}
 use Rattle.dsde_image.specs.declared.image.Version.TheVariants.{Two}
-use Rattle.dsde_image_json.specs.Json.{image_data}
-use Rattle.dsde_image_json.specs.Text.{IsReading}
+use Rattle.dsde_image.specs.Json.{image_data}
+use Rattle.dsde_image.specs.Text.{IsReading}
 use Rattle.dsde_io.specs.Held.{Bytes, ChangesOnly}
 use Rattle.dsde_io.specs.declared.shelf.ShelfEnd.{ShelfEnd}
 use Rattle.dsde_io.specs.declared.shelf.ShelfEnd.TheVariants as shelf_end

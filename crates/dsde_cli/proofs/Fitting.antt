@@ -9,9 +9,9 @@ use Rattle.dsde_run_free.specs.given.sim_working.Working.{Working, working}
 use Rattle.dsde_run_free.specs.given.core_engine.Standing.{Standing}
 use Rattle.dsde_image.specs.Image.{IsImage}
 use Rattle.dsde_image.specs.declared.image.Image.{Image}
-use Rattle.dsde_run_free.specs.given.image_fits.Walk.{Walked}
-use Rattle.dsde_image_json.specs.Json.{image_data}
-use Rattle.dsde_image_json.specs.Text.{IsReading}
+use Rattle.dsde_run_free.specs.given.image_rows.Walk.{Walked}
+use Rattle.dsde_image.specs.Json.{image_data}
+use Rattle.dsde_image.specs.Text.{IsReading}
 use Rattle.dsde_run_free.specs.given.run.Saved.{at_work, IsMisfit, IsMisfitOf, IsOf, IsRestored, Says, engine_of, fitting}
 use Rattle.dsde_run_free.specs.given.run.restoring_RestoreError.{RestoreError}
 use Rattle.dsde_run_free.specs.given.run.restoring_RestoreError_TheVariants as restore_error

@@ -17,7 +17,7 @@ use Rattle.dsde_image.specs.declared.image.Row.{Row}
 use Rattle.dsde_image.specs.declared.image.Standing.{Standing}
 use Rattle.dsde_image.specs.declared.image.Version.{Version}
 use Rattle.dsde_image.specs.declared.image.Version.TheVariants.{One, Two}
-use Rattle.dsde_image_json.specs.Json.{atomic_data, executive_data, image_data, items_data, located_data, net_data, row_data, texts_data, version_number, when_data}
+use Rattle.dsde_image.specs.Json.{atomic_data, executive_data, image_data, items_data, located_data, net_data, row_data, texts_data, version_number, when_data}
 use Rattle.dsde_cli.proofs.Said.{AreSaid, IsSaid, said-array, said-null, said-number, said-object, said-string}
 
 -- the members of a value

@@ -6,7 +6,7 @@ use Rattle.std.proofs.lemmas.List.{append-nil}
 use Rattle.std.proofs.lemmas.List.Concat.{flat_map-append}
 use Rattle.dsde_language.specs.DeclaredModels.{top_ins, types_of}
 use Rattle.dsde_input_records.specs.Records.{Records}
-use Rattle.dsde_input_skip.specs.Skipped.{Unskipped}
+use Rattle.dsde_input.specs.Skipped.{Unskipped}
 use Rattle.dsde_sound_runs.specs.given.system.Program.{system}
 use Rattle.dsde_sim_tree.specs.declared.event.Event.{Event}
 use Rattle.dsde_sim_tree.specs.declared.event.Event.TheVariants as event

@@ -12,10 +12,10 @@ use Rattle.dsde_image.specs.Image.{IsImage}
 use Rattle.dsde_image.specs.Written.{IsWritten}
 use Rattle.dsde_image.specs.declared.image.Image.{Image}
 use Rattle.dsde_image.specs.declared.image.Version.TheVariants.{Two}
-use Rattle.dsde_image_json.specs.Json.{image_data}
-use Rattle.dsde_image_json.specs.Text.{IsReading}
+use Rattle.dsde_image.specs.Json.{image_data}
+use Rattle.dsde_image.specs.Text.{IsReading}
 use Rattle.dsde_cli.specs.Said.{ImagesAreSaid}
-use Rattle.dsde_run_free.specs.given.image_fits.Plain.{ImagesAreRestored, ImagesAreWritten, RowsAreRight}
+use Rattle.dsde_run_free.specs.given.image_rows.Plain.{ImagesAreRestored, ImagesAreWritten, RowsAreRight}
 use Rattle.dsde_run_free.specs.given.run.Saved.{IsRestored, Says, image_of}
 use Rattle.dsde_sound_runs.specs.given.run_meaning.Run.{Run}
 use Rattle.dsde_cli.specs.LawCut.{CanGoOn}

@@ -10,7 +10,7 @@ use Rattle.dsde_sim_movers.specs.Stands.{Stands}
 use Rattle.dsde_sound_runs.specs.given.sim_starting.Fitting.{FitsTree}
 use Rattle.dsde_run_free.specs.given.sim_working.Working.{working}
 use Rattle.dsde_image.specs.declared.image.Version.{Version}
-use Rattle.dsde_run_free.specs.given.image_fits.Plain.{ImagesAreRestored}
+use Rattle.dsde_run_free.specs.given.image_rows.Plain.{ImagesAreRestored}
 use Rattle.dsde_run_free.specs.given.run.Saved.{IsOf, image_of}
 use Rattle.dsde_cli_status.specs.given.trace.pick_Pick.{Pick}
 use Rattle.dsde_sound_runs.specs.given.run_meaning.Run.{Run}

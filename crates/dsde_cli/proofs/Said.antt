@@ -17,7 +17,7 @@ use Rattle.serde_json.specs.Read.{max_depth, of_items, of_json, of_members}
 use Rattle.serde_json.specs.Written.{comma_if, compact_text, items_outline, items_text, members_outline, members_text, outline}
 use Rattle.serde_json.proofs.Numbers.{number_of-decimal}
 use Rattle.serde_json.proofs.Texts.{print-outline}
-use Rattle.dsde_image_json.specs.Text.{IsReading}
+use Rattle.dsde_image.specs.Text.{IsReading}
 
 -- A value that nests at most so deep, and is read of its text.
 pub record IsSaid (most : ℕ) (seen : Data) : Type 0 where

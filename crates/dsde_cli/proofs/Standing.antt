@@ -17,7 +17,7 @@ use Rattle.dsde_sound_runs.specs.given.run_meaning.Run.{records_in}
 use Rattle.dsde_cli.specs.LawCut.{Standing, standing, reached, records_behind}
 use Rattle.dsde_cli.specs.CutTurns.{Turns}
 use Rattle.dsde_cli.proofs.CutTurning.{Answer, took_turn, turn-is}
-use Rattle.dsde_input_skip.specs.lemmas.Flooring.{no-end, passed, opened, floored, unfloored, passed-skipped, passed-more}
+use Rattle.dsde_input.specs.lemmas.Flooring.{no-end, passed, opened, floored, unfloored, passed-skipped, passed-more}
 
 module _ (system : System) (ports : List Field) (types : Types) (bytes : List ℕ) where
   -- These records are what is left behind those that the engine has taken, also with the floor at its time.

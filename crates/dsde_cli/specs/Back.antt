@@ -10,8 +10,8 @@ use Rattle.dsde_run_free.specs.given.core_engine.Standing.{Standing}
 use Rattle.dsde_cli_status.specs.given.trace.pick_Pick.{Pick}
 use Rattle.dsde_image.specs.Image.{IsImage}
 use Rattle.dsde_image.specs.declared.image.Image.{Image}
-use Rattle.dsde_image_json.specs.Json.{image_data}
-use Rattle.dsde_image_json.specs.Text.{IsReading}
+use Rattle.dsde_image.specs.Json.{image_data}
+use Rattle.dsde_image.specs.Text.{IsReading}
 use Rattle.dsde_run_free.specs.given.run.Saved.{IsRestored, Misfits}
 use Rattle.dsde_run_free.specs.given.run.restoring_RestoreError.{RestoreError}
 use Rattle.dsde_run_free.specs.given.run.restoring_RestoreError_TheVariants as restore_error

@@ -4,7 +4,7 @@ use Rattle.dsde_values.specs.declared.arrival.Arrival.{Arrival}
 use Rattle.dsde_values.specs.declared.types.Field.{Field}
 use Rattle.dsde_values.specs.declared.types.Types.{Types}
 use Rattle.dsde_input_records.specs.Records.{Records, end, bad, one}
-use Rattle.dsde_input_skip.specs.Skipped.{Unskipped, floored_in, skipped}
+use Rattle.dsde_input.specs.Skipped.{Unskipped, floored_in, skipped}
 use Rattle.dsde_formalism.specs.System.{System}
 use Rattle.dsde_sim_tree.specs.declared.event.Event.{Event}
 use Rattle.dsde_sim_tree.specs.declared.event.Event.TheVariants as event

@@ -4,8 +4,8 @@ use Rattle.std.specs.Option.{option_map}
 use Rattle.std.specs.Borrow.{Bor}
 use Rattle.serde_json.specs.Written.{compact_text}
 use Rattle.dsde_image.specs.declared.image.Image.{Image}
-use Rattle.dsde_image_json.specs.Json.{image_data}
-use Rattle.dsde_image_json.specs.Text.{IsReading}
+use Rattle.dsde_image.specs.Json.{image_data}
+use Rattle.dsde_image.specs.Text.{IsReading}
 use Rattle.dsde_run_free.specs.given.run.Saved.{Says}
 use Rattle.dsde_io.specs.Held.{Bytes, ChangesOnly}
 use Rattle.dsde_io.specs.declared.shelf.ShelfEnd.{ShelfEnd}

@@ -3,7 +3,7 @@
 ghost use Rattle.dsde_cli.specs.Joined.{RunsAreTakenUp, StoredRunsAreTakenUp};
 
 use crate::{images_are_said, runs_begin, runs_can_be_cut, runs_stand};
-use dsde_run_free::given::image_fits::{images_are_restored, images_are_written, rows_are_right};
+use dsde_run_free::given::image_rows::{images_are_restored, images_are_written, rows_are_right};
 
 /// A law: where a run of an accepted model ends by its bound, or falls quiet and goes on for some turns, the
 /// image of its last engine, of either version, is restored to that engine; and what that engine tells where it

@@ -3,16 +3,16 @@ use Rattle.std.proofs.Common.{◌≡◌, ℕ, List, Option, Some, sym, ap, subst
 use Rattle.std.specs.Prelude.{Result, Ok, Err, IfSome}
 use Rattle.dsde_syntax.specs.declared.decl.Model.{Model}
 use Rattle.dsde_language.specs.Right.{IsRight}
-use Rattle.dsde_image_fits.specs.given.system.Program.{system}
+use Rattle.dsde_image_rows.specs.given.system.Program.{system}
 use Rattle.dsde_sim_tree.specs.declared.sim.Sim.{Sim}
 use Rattle.dsde_sim_tree.specs.Engine.{Engine}
-use Rattle.dsde_image_fits.specs.given.sim_movers.Stands.{StandsTree}
+use Rattle.dsde_image_rows.specs.given.sim_movers.Stands.{StandsTree}
 use Rattle.dsde_core.specs.given.sim_working.Working.{StandsIf, working}
 use Rattle.dsde_core.specs.Standing.{Standing}
 use Rattle.dsde_image.specs.declared.image.Image.{Image}
 use Rattle.dsde_image.specs.declared.image.Version.{Version}
-use Rattle.dsde_image_fits.specs.Walk.{Walked}
-use Rattle.dsde_image_fits.specs.Plain.{ImagesAreRestored}
+use Rattle.dsde_image_rows.specs.Walk.{Walked}
+use Rattle.dsde_image_rows.specs.Plain.{ImagesAreRestored}
 use Rattle.dsde_run.specs.Saved.{Answers, GivesAgain, IsAgain, Says, engine_of, fitting, image_of}
 use Rattle.dsde_run.specs.declared.restoring.RestoreError.{RestoreError}
 use Rattle.dsde_run.specs.declared.restoring.RestoreError.TheVariants as restore_error

@@ -8,8 +8,8 @@ use Rattle.dsde_values.specs.declared.types.Types.{Types}
 use Rattle.dsde_input_records.specs.declared.end.InputEnd.{InputEnd}
 use Rattle.dsde_input_records.specs.declared.end.InputEnd.TheVariants as input_end
 use Rattle.dsde_input_records.specs.Records.{Records, bad}
-use Rattle.dsde_input_skip.specs.given.input.Reader.{Reader, to_come, records, has_line, IsOffence, Moves, TakesOfLine, TakesLine, SeesEnd}
-use Rattle.dsde_input_skip.specs.given.input.Reader as input
+use Rattle.dsde_input.specs.Reader.{Reader, to_come, records, has_line, IsOffence, Moves, TakesOfLine, TakesLine, SeesEnd}
+use Rattle.dsde_input.specs.Reader as input
 use Rattle.dsde_run.specs.declared.run.Head.TheVariants.{Over, Is}
 use Rattle.dsde_language.specs.DeclaredModels.{top_ins, types_of}
 use Rattle.dsde_run.specs.Run.{Running}

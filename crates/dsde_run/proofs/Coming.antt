@@ -8,14 +8,14 @@ use Rattle.dsde_values.specs.declared.types.Field.{Field}
 use Rattle.dsde_values.specs.declared.types.Types.{Types}
 use Rattle.dsde_values.proofs.Typed.{HasType-is}
 use Rattle.dsde_input_records.specs.Record.{IsItem}
-use Rattle.dsde_image_fits.specs.given.sound_structures.Lawful.{TopIsDeclared}
+use Rattle.dsde_image_rows.specs.given.sound_structures.Lawful.{TopIsDeclared}
 use Rattle.dsde_language.specs.Typed.{AllSent}
 use Rattle.dsde_language.specs.declared.ids.ModelId.{ModelId}
 use Rattle.dsde_language.specs.DeclaredModels.{top_ins, Own, own_ins, owns_of, top_number, types_of}
 use Rattle.dsde_language.specs.Right.{IsRight}
 use Rattle.dsde_core.specs.given.sim_working.Working as sim
-use Rattle.dsde_image_fits.specs.given.sound_expressions.Laws.{BodiesStand}
-use Rattle.dsde_image_fits.specs.given.system.Plans.{ways}
+use Rattle.dsde_image_rows.specs.given.sound_expressions.Laws.{BodiesStand}
+use Rattle.dsde_image_rows.specs.given.system.Plans.{ways}
 use Rattle.dsde_sim_tree.specs.declared.sim.Sim.{Sim}
 use Rattle.dsde_sim_tree.specs.Tree.{model_of}
 use Rattle.dsde_run.specs.Run.{Running}

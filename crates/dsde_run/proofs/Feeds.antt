@@ -4,8 +4,8 @@ use Rattle.std.specs.Prelude.{is_some}
 use Rattle.std.specs.List.{position}
 use Rattle.std.proofs.lemmas.Bool.Decides.{nat_tests}
 use Rattle.dsde_input_records.specs.Lines.{Lacks}
-use Rattle.dsde_input_skip.specs.given.input.Reader.{Reader, has_feed, has_line}
-use Rattle.dsde_input_skip.specs.given.input_parser.lemmas_Cuts.{lacks_from_position}
+use Rattle.dsde_input.specs.Reader.{Reader, has_feed, has_line}
+use Rattle.dsde_input.specs.given.input_parser.lemmas_Cuts.{lacks_from_position}
 use Rattle.dsde_run.specs.Reading.{feeds}
 
 pub feeds-append : (one other : List ℕ) → feeds (one ++ other) ≡ feeds one + feeds other

@@ -8,12 +8,12 @@ use Rattle.dsde_language.specs.DeclaredModels.{top_ins, types_of}
 use Rattle.dsde_input_records.specs.declared.end.InputEnd.{InputEnd}
 use Rattle.dsde_input_records.specs.declared.end.InputEnd.TheVariants as input_end
 use Rattle.dsde_input_records.specs.Records.{Records, end, bad, one}
-use Rattle.dsde_input_skip.specs.given.input.Reader.{Reader}
-use Rattle.dsde_input_skip.specs.declared.skipping.SkipEnd.{SkipEnd}
-use Rattle.dsde_input_skip.specs.declared.skipping.SkipEnd.TheVariants as skip_end
-use Rattle.dsde_input_skip.specs.Skipped.{Unskipped, floored_in, offence, skipped}
-use Rattle.dsde_input_skip.specs.Skipping.{HoldsLines, IsBehind, IsStopped, IsUnread, IsWanting, TakesSkipped}
-use Rattle.dsde_input_skip.specs.Skipping as skipping
+use Rattle.dsde_input.specs.Reader.{Reader}
+use Rattle.dsde_input.specs.declared.skipping.SkipEnd.{SkipEnd}
+use Rattle.dsde_input.specs.declared.skipping.SkipEnd.TheVariants as skip_end
+use Rattle.dsde_input.specs.Skipped.{Unskipped, floored_in, offence, skipped}
+use Rattle.dsde_input.specs.Skipping.{HoldsLines, IsBehind, IsStopped, IsUnread, IsWanting, TakesSkipped}
+use Rattle.dsde_input.specs.Skipping as skipping
 use Rattle.dsde_io.specs.Bytes.{Gains}
 use Rattle.dsde_sim_tree.specs.declared.event.Finish.{Finish}
 use Rattle.dsde_sim_tree.specs.Engine.{Engine}

@@ -5,21 +5,21 @@ use Rattle.std.specs.List.{AllByRecursion}
 use Rattle.dsde_syntax.specs.declared.decl.Model.{Model}
 use Rattle.dsde_values.specs.Path.{root}
 use Rattle.dsde_language.specs.Right.{IsRight}
-use Rattle.dsde_image_fits.specs.given.system.Program.{system}
+use Rattle.dsde_image_rows.specs.given.system.Program.{system}
 use Rattle.dsde_sim_tree.specs.declared.sim.Sim.{Sim}
 use Rattle.dsde_sim_tree.specs.Engine.{Engine}
-use Rattle.dsde_image_fits.specs.given.sim_movers.Stands.{StandsTree}
+use Rattle.dsde_image_rows.specs.given.sim_movers.Stands.{StandsTree}
 use Rattle.dsde_core.specs.given.sim_working.Working.{StandsAt, StandsIf}
 use Rattle.dsde_image.specs.Image.{IsImage}
 use Rattle.dsde_image.specs.Written.{IsWrittenRow}
 use Rattle.dsde_image.specs.declared.image.Image.{Image}
 use Rattle.dsde_image.specs.declared.image.Row.{Row}
 use Rattle.dsde_image.specs.declared.image.Version.TheVariants.{Two}
-use Rattle.dsde_image_fits.specs.Rows.{rows}
-use Rattle.dsde_image_fits.specs.Script.{script}
-use Rattle.dsde_image_fits.specs.Plain.{ImagesAreWritten, RowsAreRight}
-use Rattle.dsde_image_json.specs.Json.{image_data}
-use Rattle.dsde_image_json.specs.Text.{IsReading}
+use Rattle.dsde_image_rows.specs.Rows.{rows}
+use Rattle.dsde_image_rows.specs.Script.{script}
+use Rattle.dsde_image_rows.specs.Plain.{ImagesAreWritten, RowsAreRight}
+use Rattle.dsde_image.specs.Json.{image_data}
+use Rattle.dsde_image.specs.Text.{IsReading}
 use Rattle.dsde_run.specs.Saved.{Says, image_of}
 
 pub parts-written : ImagesAreWritten → (model : Model) → IsRight model → (engine : Engine) (tree : Sim) (parts : List Row) → Some tree ≡ engine.tree → StandsIf model engine.tree → StandsAt model engine

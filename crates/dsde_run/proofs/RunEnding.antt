@@ -14,7 +14,7 @@ use Rattle.dsde_sim_tree.specs.Told.{Told}
 use Rattle.dsde_sim_tree.specs.declared.step.Step.{Step}
 use Rattle.dsde_sim_tree.specs.Engine.{Engine}
 use Rattle.dsde_values.specs.declared.arrival.Arrival.{Arrival}
-use Rattle.dsde_input_skip.specs.given.input.Reader.{Reader}
+use Rattle.dsde_input.specs.Reader.{Reader}
 use Rattle.dsde_trace.specs.declared.pick.Pick.{Pick}
 use Rattle.dsde_run.specs.declared.run.Cut.{Cut}
 use Rattle.dsde_run.specs.declared.run.Cut.TheVariants as cut

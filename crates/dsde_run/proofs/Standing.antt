@@ -14,7 +14,7 @@ use Rattle.dsde_sim_tree.specs.declared.event.Finish.TheVariants as how
 use Rattle.dsde_sim_tree.specs.Told.{Told}
 use Rattle.dsde_sim_tree.specs.declared.step.Step.{Step}
 use Rattle.dsde_sim_tree.specs.Engine.{Engine}
-use Rattle.dsde_input_skip.specs.given.input.Reader.{Reader, IsOffence, has_line, with_more, TakesOfLine}
+use Rattle.dsde_input.specs.Reader.{Reader, IsOffence, has_line, with_more, TakesOfLine}
 use Rattle.dsde_trace.specs.declared.pick.Pick.{Pick}
 use Rattle.dsde_run.specs.declared.run.Head.{Head}
 use Rattle.dsde_run.specs.declared.run.Head.TheVariants.{Wanted, Over, Is}

@@ -1,7 +1,7 @@
 -- The head behind a turn, and the next record, are not before its time.
 use Rattle.std.proofs.Common.{◌≡◌, ◌≢◌, ℕ, ◌≤◌, Bool, true, false, refl, arith}
 use Rattle.std.specs.Prelude.{Some, IfSome}
-use Rattle.dsde_input_skip.specs.given.input.Reader.{Reader, least_time}
+use Rattle.dsde_input.specs.Reader.{Reader, least_time}
 use Rattle.dsde_sim_tree.specs.Engine.{Engine}
 use Rattle.dsde_run.specs.declared.run.Head.{Head}
 use Rattle.dsde_run.specs.declared.run.Head.TheVariants.{Wanted, Over, Is}

@@ -3,7 +3,7 @@
 use Rattle.std.specs.Prelude.{ℕ, ◌≡◌, List, [], Ok, Err}
 use Rattle.dsde_language.specs.DeclaredModels.{top_ins, types_of}
 use Rattle.dsde_input_records.specs.Records.{Records}
-use Rattle.dsde_input_skip.specs.Skipped.{Unskipped, few, offence, floored_in, skipped}
+use Rattle.dsde_input.specs.Skipped.{Unskipped, few, offence, floored_in, skipped}
 use Rattle.dsde_sim_tree.specs.Engine.{Engine}
 use Rattle.dsde_run_meaning.specs.Run.{Run, cut, offended}
 use Rattle.dsde_run.specs.Run.{Running, go}

@@ -1,8 +1,8 @@
 -- What a run comes to that is taken up again.
 use Rattle.std.specs.Prelude.{ℕ, List, [], Option, Result, Ok, Err}
 use Rattle.dsde_input_records.specs.declared.end.InputEnd.TheVariants as input_end
-use Rattle.dsde_input_skip.specs.declared.skipping.SkipEnd.{SkipEnd}
-use Rattle.dsde_input_skip.specs.declared.skipping.SkipEnd.TheVariants.{Few, Refused}
+use Rattle.dsde_input.specs.declared.skipping.SkipEnd.{SkipEnd}
+use Rattle.dsde_input.specs.declared.skipping.SkipEnd.TheVariants.{Few, Refused}
 use Rattle.dsde_io.specs.Bytes.{Gains}
 use Rattle.dsde_sim_tree.specs.declared.event.Finish.{Finish}
 use Rattle.dsde_sim_tree.specs.declared.event.Finish.TheVariants as how

@@ -4,7 +4,7 @@ use Rattle.dsde_syntax.specs.declared.decl.Model.{Model}
 use Rattle.dsde_values.specs.declared.arrival.Arrival.{Arrival}
 use Rattle.dsde_input_records.specs.Records.{Records}
 use Rattle.dsde_language.specs.DeclaredModels.{top_ins, types_of}
-use Rattle.dsde_image_fits.specs.given.system.Program.{system}
+use Rattle.dsde_image_rows.specs.given.system.Program.{system}
 use Rattle.dsde_sim_tree.specs.declared.event.Event.{Event}
 use Rattle.dsde_sim_tree.specs.declared.fault.TurnEnd.{TurnEnd}
 use Rattle.dsde_sim_tree.specs.declared.step.Step.{Step}

@@ -4,17 +4,17 @@ use Rattle.dsde_syntax.specs.declared.decl.Model.{Model}
 use Rattle.dsde_values.specs.Path.{root, path_text}
 use Rattle.dsde_sim_tree.specs.declared.sim.Sim.{Sim}
 use Rattle.dsde_sim_tree.specs.Engine.{Engine}
-use Rattle.dsde_image_fits.specs.given.system.Program.{system}
+use Rattle.dsde_image_rows.specs.given.system.Program.{system}
 use Rattle.dsde_image.specs.declared.image.Image.{Image}
 use Rattle.dsde_image.specs.declared.image.Version.{Version}
 use Rattle.dsde_image.specs.Image.{IsImage}
-use Rattle.dsde_image_fits.specs.Rows.{rows}
-use Rattle.dsde_image_fits.specs.Walk.{Walked, tree_of}
-use Rattle.dsde_image_fits.specs.Script.{script}
-use Rattle.dsde_image_json.specs.Json.{image_data}
-use Rattle.dsde_image_json.specs.Text.{IsReading}
-use Rattle.dsde_image_walk.specs.declared.ends.RestoreEnd.{RestoreEnd}
-use Rattle.dsde_image_walk.specs.declared.ends.RestoreEnd.TheVariants as restore_end
+use Rattle.dsde_image_rows.specs.Rows.{rows}
+use Rattle.dsde_image_rows.specs.Walk.{Walked, tree_of}
+use Rattle.dsde_image_rows.specs.Script.{script}
+use Rattle.dsde_image.specs.Json.{image_data}
+use Rattle.dsde_image.specs.Text.{IsReading}
+use Rattle.dsde_image_rows.specs.declared.ends.RestoreEnd.{RestoreEnd}
+use Rattle.dsde_image_rows.specs.declared.ends.RestoreEnd.TheVariants as restore_end
 use Rattle.dsde_core.specs.given.sim_working.Working.{StandsAt, StandsIf, Working, working}
 use Rattle.dsde_core.specs.Standing.{Standing}
 use Rattle.dsde_run.specs.declared.restoring.RestoreError.{RestoreError}

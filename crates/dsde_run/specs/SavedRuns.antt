@@ -5,7 +5,7 @@ use Rattle.serde_json.specs.Written.{compact_text}
 use Rattle.dsde_syntax.specs.declared.decl.Model.{Model}
 use Rattle.dsde_image.specs.declared.image.Image.{Image}
 use Rattle.dsde_image.specs.declared.image.Version.TheVariants.{Two}
-use Rattle.dsde_image_json.specs.Json.{image_data}
+use Rattle.dsde_image.specs.Json.{image_data}
 use Rattle.dsde_sim_tree.specs.declared.event.Finish.{Finish}
 use Rattle.dsde_sim_tree.specs.declared.event.Finish.TheVariants as how
 use Rattle.dsde_sim_tree.specs.Engine.{Engine}

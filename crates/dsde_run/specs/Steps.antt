@@ -19,7 +19,7 @@ use Rattle.dsde_sim_tree.specs.declared.step.Step.{Step}
 use Rattle.dsde_syntax.specs.declared.decl.Model.{Model}
 use Rattle.dsde_sim_tree.specs.declared.event.Finish.{Finish}
 use Rattle.dsde_sim_tree.specs.Engine.{Engine}
-use Rattle.dsde_input_skip.specs.given.input.Reader.{Reader, IsOffence, least_time, to_come, records, TakesOfLine}
+use Rattle.dsde_input.specs.Reader.{Reader, IsOffence, least_time, to_come, records, TakesOfLine}
 use Rattle.dsde_trace.specs.declared.pick.Pick.{Pick}
 use Rattle.dsde_trace.specs.declared.pick.Pick.TheVariants.{Outputs}
 use Rattle.dsde_run.specs.declared.run.Head.{Head}

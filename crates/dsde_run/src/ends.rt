@@ -4,13 +4,13 @@ ghost use Rattle.std.specs.Prelude.{◌≡◌, ◌+◌, ◌<◌, ◌≤◌, ◌^
 ghost use Rattle.dsde_io.specs.Fault.{Rose};
 ghost use Rattle.dsde_run.specs.Run.{go_by};
 ghost use Rattle.dsde_run.specs.Reading.{Told, IsWhole, TakesWanted, Comes};
-ghost use Rattle.dsde_input_skip.specs.given.input.Reader.{least_time};
+ghost use Rattle.dsde_input.specs.Reader.{least_time};
 ghost use Rattle.dsde_run.specs.Steps.{IsRoot, to_give};
 ghost use Rattle.dsde_run.specs.Ends.{answer_of};
 
 use crate::run::{Cut, go};
 use crate::{Advance, Running};
-use dsde_input_skip::given::input::InputReader;
+use dsde_input::InputReader;
 use dsde_io::{Sink, Source};
 use dsde_sim_tree::{Fault, Finish, InputKind};
 use dsde_trace::Pick;

@@ -5,9 +5,9 @@ pub mod core_engine {
     pub use dsde_core::Core;
 }
 
-/// Of `dsde_image_fits`.
-pub mod image_fits {
-    pub use dsde_image_fits::{images_are_restored, images_are_written, rows_are_right};
+/// Of `dsde_image_rows`.
+pub mod image_rows {
+    pub use dsde_image_rows::{images_are_restored, images_are_written, rows_are_right};
 }
 
 /// Of `dsde_program`.
@@ -22,7 +22,7 @@ pub mod sim_moving {
 
 /// Of `dsde_sim_telling`.
 pub mod sim_telling {
-    pub use dsde_image_walk::given::sim_telling::tell_outs;
+    pub use dsde_image_rows::given::sim_telling::tell_outs;
 }
 
 /// Of `dsde_sim_working`.

@@ -4,7 +4,7 @@ ghost use Rattle.std.specs.Prelude.{◌≡◌, ◌+◌, ◌<◌, ◌≤◌, ◌^
 ghost use Rattle.std.specs.Option.{option_copied};
 ghost use Rattle.dsde_language.specs.declared.ids.ModelId.{ModelId};
 ghost use Rattle.dsde_sim_tree.specs.Told.{Tells};
-ghost use Rattle.dsde_image_fits.specs.given.system.Program.{system};
+ghost use Rattle.dsde_image_rows.specs.given.system.Program.{system};
 ghost use Rattle.dsde_sim_tree.specs.Turn.{advance};
 ghost use Rattle.dsde_core.specs.given.sim_working.Working.{HeadComes, IsRoot, working};
 
@@ -48,7 +48,7 @@ fn advance_counted<L: Ledger, M: Ledger>(
 }
 
 impl<'p> Advance for Core<'p> {
-    ghost use Rattle.dsde_image_fits.specs.given.system.Program.{system};
+    ghost use Rattle.dsde_image_rows.specs.given.system.Program.{system};
     ghost use Rattle.dsde_sim_tree.specs.Engine.{Engine};
     ghost use Rattle.dsde_sim_tree.specs.Turn as turn;
     ghost use Rattle.dsde_run_meaning.specs.Run.{alone};

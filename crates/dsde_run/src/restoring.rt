@@ -4,15 +4,13 @@ ghost use Rattle.std.specs.Prelude.{◌≡◌, ◌≢◌, ◌≤◌, IfOk, IfErr
 ghost use Rattle.serde_json.specs.Data.{Data};
 ghost use Rattle.dsde_image.specs.Image.{IsImage};
 ghost use Rattle.dsde_image.specs.declared.image.Image.{Image};
-ghost use Rattle.dsde_image_json.specs.Json.{image_data};
-ghost use Rattle.dsde_image_json.specs.Text.{IsReading};
+ghost use Rattle.dsde_image.specs.Json.{image_data};
+ghost use Rattle.dsde_image.specs.Text.{IsReading};
 ghost use Rattle.dsde_run.specs.Saved.{at_work, Answers, GivesAgain, IsMisfit, IsMisfitOf, IsOf, IsRestored, Says};
 
 use dsde_core::Core;
-use dsde_image::Image;
-use dsde_image_fits::images_are_restored;
-use dsde_image_json::{ReadImage, read_image};
-use dsde_image_walk::{RestoreEnd, restored_tree};
+use dsde_image::{Image, ReadImage, read_image};
+use dsde_image_rows::{RestoreEnd, images_are_restored, restored_tree};
 use dsde_trace::given::program::Program;
 use dsde_values::{Memory, Path};
 use std::alloc::Global;

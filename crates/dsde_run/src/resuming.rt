@@ -10,9 +10,8 @@ ghost use Rattle.dsde_run.specs.Resuming.{ComesBack, stopped_as, taken_up};
 
 use crate::{Cut, RunEnd, Running, run_turns};
 use dsde_core::Core;
-use dsde_image_fits::given::sound_structures::top_is_sure;
-use dsde_input_skip::given::input::InputEnd;
-use dsde_input_skip::{SkipEnd, skip};
+use dsde_image_rows::given::sound_structures::top_is_sure;
+use dsde_input::{InputEnd, SkipEnd, skip};
 use dsde_io::{Sink, Source};
 use dsde_sim_tree::{Finish, InputKind};
 use dsde_trace::Pick;

@@ -6,14 +6,14 @@ ghost use Rattle.dsde_io.specs.Fault.{Rose};
 ghost use Rattle.dsde_io.specs.Bytes.{Gains, GainsFront};
 ghost use Rattle.dsde_sim_tree.specs.declared.event.Event.TheVariants as event;
 ghost use Rattle.dsde_sim_tree.specs.Engine.{Engine};
-ghost use Rattle.dsde_input_skip.specs.given.input.Reader.{IsOffence, least_time};
+ghost use Rattle.dsde_input.specs.Reader.{IsOffence, least_time};
 ghost use Rattle.dsde_run_meaning.specs.Run.{ended, offended};
 ghost use Rattle.dsde_run.specs.Run.{go_by, faulted, kept_text, event_text};
 ghost use Rattle.dsde_run.specs.Reading.{Told, IsWhole, TakesWanted, Comes, IsFront};
 ghost use Rattle.dsde_run.specs.Steps.{HandsOn, Turns, Readies, Bears, IsRoot, IsUnspent, Stops, line_of, IsReady, IsUnready, Halts, Asked, Refused, ComesBy, Waits, passed, record_of, to_give};
 
 use crate::{Advance, Running};
-use dsde_input_skip::given::input::{InputEnd, InputReader};
+use dsde_input::{InputEnd, InputReader};
 use dsde_io::{Sink, SinkEnd, Source, write_all};
 use dsde_sim_tree::{Event, Fault, Finish, InputKind, Step, TurnEnd};
 use dsde_trace::{Pick, picked, write_end};

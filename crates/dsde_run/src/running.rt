@@ -8,8 +8,8 @@ ghost use Rattle.dsde_run_meaning.specs.Run.{spot_at};
 ghost use Rattle.dsde_run.specs.Run.{running, event_text};
 ghost use Rattle.dsde_run.specs.Steps.{ItemsCome};
 
-use dsde_image_fits::given::sound_expressions::bodies_stand;
-use dsde_image_fits::given::sound_structures::{
+use dsde_image_rows::given::sound_expressions::bodies_stand;
+use dsde_image_rows::given::sound_structures::{
     ports_are_lawful, top_is_declared, types_are_lawful,
 };
 use dsde_lexer::Places;

@@ -3,15 +3,13 @@
 ghost use Rattle.std.specs.Prelude.{◌≡◌, ◌≤◌, ◌^◌, is_some, true, IfOk, IfSome};
 ghost use Rattle.serde_json.specs.Written.{compact_text};
 ghost use Rattle.dsde_image.specs.declared.image.Version.TheVariants as version;
-ghost use Rattle.dsde_image_json.specs.Json.{image_data};
-ghost use Rattle.dsde_image_json.specs.Text.{IsReading};
+ghost use Rattle.dsde_image.specs.Json.{image_data};
+ghost use Rattle.dsde_image.specs.Text.{IsReading};
 ghost use Rattle.dsde_run.specs.Saved.{Says, image_of};
 
 use dsde_core::Core;
-use dsde_image::{Image, Version};
-use dsde_image_fits::{images_are_written, rows_are_right};
-use dsde_image_json::write_image;
-use dsde_image_walk::list;
+use dsde_image::{Image, Version, write_image};
+use dsde_image_rows::{images_are_written, list, rows_are_right};
 use dsde_values::{Memory, Path, Seq, Text};
 use std::alloc::Global;
 

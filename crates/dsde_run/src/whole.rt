@@ -11,7 +11,7 @@ ghost use Rattle.dsde_run.specs.Steps.{Begins, Starts};
 use crate::run::{Cut, finish, finish_of, go, hand_on, write_events};
 use crate::{Advance, Running};
 use dsde_core::Core;
-use dsde_input_skip::given::input::InputReader;
+use dsde_input::InputReader;
 use dsde_io::{Sink, Source};
 use dsde_sim_tree::{Event, Finish, TurnEnd};
 use dsde_trace::Pick;

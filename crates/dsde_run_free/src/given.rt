@@ -5,9 +5,9 @@ pub mod core_engine {
     pub use dsde_run::given::core_engine::Core;
 }
 
-/// Of `dsde_image_fits`.
-pub mod image_fits {
-    pub use dsde_run::given::image_fits::{
+/// Of `dsde_image_rows`.
+pub mod image_rows {
+    pub use dsde_run::given::image_rows::{
         images_are_restored, images_are_written, rows_are_right,
     };
 }

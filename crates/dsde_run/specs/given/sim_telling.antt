@@ -1,1 +1,1 @@
-pub use Rattle.dsde_image_walk.specs.given.sim_telling.lemmas_GoingOn
+pub use Rattle.dsde_image_rows.specs.given.sim_telling.lemmas_GoingOn

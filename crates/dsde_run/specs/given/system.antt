@@ -1,2 +1,2 @@
-pub use Rattle.dsde_image_fits.specs.given.system.Fitting
-pub use Rattle.dsde_image_fits.specs.given.system.Program
+pub use Rattle.dsde_image_rows.specs.given.system.Fitting
+pub use Rattle.dsde_image_rows.specs.given.system.Program

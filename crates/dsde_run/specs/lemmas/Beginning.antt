@@ -9,7 +9,7 @@ use Rattle.dsde_sim_tree.specs.Told.{Told, Tells, at, told, quietly, ◌then◌}
 use Rattle.dsde_sim_tree.specs.Engine.{Engine, begun}
 use Rattle.dsde_sim_tree.specs.Turn as turning
 use Rattle.dsde_sim_tree.specs.Turn.{started_tree}
-use Rattle.dsde_image_fits.specs.given.system.Program.{system}
+use Rattle.dsde_image_rows.specs.given.system.Program.{system}
 use Rattle.dsde_syntax.specs.declared.decl.Model.{Model}
 use Rattle.dsde_run.specs.Run.{Running}
 use Rattle.dsde_run.specs.Steps.{Begins, IsBegun, IsRoot, Starts}

@@ -1,5 +1,5 @@
 use Rattle.std.proofs.Common.{arith}
-use Rattle.dsde_image_json.specs.Json.{image_data}
+use Rattle.dsde_image.specs.Json.{image_data}
 use Rattle.dsde_cli.proofs.Images.{image-said}
 use Rattle.dsde_cli.proofs.Said.{read-said}
 use Rattle.dsde_cli.proofs.said_laws.images_are_said.Goals as goal

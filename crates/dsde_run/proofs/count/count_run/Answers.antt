@@ -1,6 +1,6 @@
 use Rattle.std.proofs.Common.{Ok, Err, refl, ap, subst, ◌∙◌}
 use Rattle.dsde_syntax.specs.declared.decl.Model.{Model}
-use Rattle.dsde_image_fits.specs.given.system.Program.{system}
+use Rattle.dsde_image_rows.specs.given.system.Program.{system}
 use Rattle.dsde_sim_tree.specs.Told as turn
 use Rattle.dsde_sim_tree.specs.Turn as turning
 use Rattle.dsde_trace.specs.declared.count.Summary.{Summary}

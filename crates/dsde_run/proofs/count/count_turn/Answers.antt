@@ -1,7 +1,7 @@
 use Rattle.std.proofs.Common.{◌+◌, Err, ap, subst, ◌∙◌}
 use Rattle.std.specs.Prelude.{None, unwrap_or}
 use Rattle.dsde_syntax.specs.declared.decl.Model.{Model}
-use Rattle.dsde_image_fits.specs.given.system.Program.{system}
+use Rattle.dsde_image_rows.specs.given.system.Program.{system}
 use Rattle.dsde_sim_tree.specs.Told as turn
 use Rattle.dsde_sim_tree.specs.Engine.{next_of}
 use Rattle.dsde_sim_tree.specs.Turn as turning

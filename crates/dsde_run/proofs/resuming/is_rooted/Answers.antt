@@ -1,8 +1,8 @@
 use Rattle.std.proofs.Common.{subst}
 use Rattle.dsde_language.specs.Right.{IsRight}
 use Rattle.dsde_syntax.specs.declared.decl.Model.{Model}
-use Rattle.dsde_image_fits.specs.given.system.Program.{system}
-use Rattle.dsde_image_fits.specs.given.sim_movers.Stands.{StandsEngine}
+use Rattle.dsde_image_rows.specs.given.system.Program.{system}
+use Rattle.dsde_image_rows.specs.given.sim_movers.Stands.{StandsEngine}
 use Rattle.dsde_run.proofs.Rooted.{rooted}
 use Rattle.dsde_run.proofs.resuming.is_rooted.Goals as goal
 

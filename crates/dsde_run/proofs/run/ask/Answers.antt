@@ -1,5 +1,5 @@
 use Rattle.std.proofs.Common.{Ok, Err, Some, None, ap}
-use Rattle.dsde_input_skip.specs.given.input.Reader.{Reader}
+use Rattle.dsde_input.specs.Reader.{Reader}
 use Rattle.dsde_run.proofs.Asking.{of_model, asked-one, asked-over, refused}
 use Rattle.dsde_run.proofs.run.ask.Goals as goal
 

@@ -3,7 +3,7 @@ use Rattle.std.proofs.lemmas.Result.{IfOk-weaker}
 use Rattle.std.specs.Prelude.{IfOk, IfErr}
 use Rattle.dsde_syntax.specs.declared.decl.Model.{Model}
 use Rattle.dsde_language.specs.DeclaredModels.{top_number}
-use Rattle.dsde_image_fits.specs.given.system.Program.{system}
+use Rattle.dsde_image_rows.specs.given.system.Program.{system}
 use Rattle.dsde_core.specs.given.sim_working.Working as sim
 use Rattle.dsde_core.specs.Standing.{Standing}
 use Rattle.dsde_sim_tree.specs.declared.event.Event.{Event}

@@ -1,6 +1,6 @@
 use Rattle.std.proofs.lemmas.Result.{IfOk-weaker}
 use Rattle.std.proofs.Common.{[], Err, subst, ◌∙◌}
-use Rattle.dsde_input_skip.specs.given.input.Reader.{Reader}
+use Rattle.dsde_input.specs.Reader.{Reader}
 use Rattle.dsde_run.specs.declared.run.Cut.TheVariants as cut
 use Rattle.dsde_run_meaning.specs.Run.{unstarted}
 use Rattle.dsde_run.specs.Run.{run_by, go_by, records_in, kept_text}

@@ -1,6 +1,6 @@
 use Rattle.std.specs.Option.{option_copied}
 use Rattle.std.proofs.lemmas.Result.{IfOk-weaker}
-use Rattle.dsde_image_fits.specs.given.system.Program.{system}
+use Rattle.dsde_image_rows.specs.given.system.Program.{system}
 use Rattle.dsde_run.specs.lemmas.Steps.{steps-on}
 use Rattle.dsde_run.proofs.path_order.CoreAdvance.advance.Goals as goal
 

@@ -1,5 +1,0 @@
-use Rattle.dsde_image_fits.proofs.Again.{tree-again}
-use Rattle.dsde_image_fits.proofs.fit_laws.images_fit.Goals as goal
-
-pub returns : goal.returns
-returns c = tree-again

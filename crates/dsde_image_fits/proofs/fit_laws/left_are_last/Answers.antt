@@ -1,5 +1,0 @@
-use Rattle.dsde_image_fits.proofs.Leaving.{part-leaves}
-use Rattle.dsde_image_fits.proofs.fit_laws.left_are_last.Goals as goal
-
-pub returns : goal.returns
-returns c = part-leaves

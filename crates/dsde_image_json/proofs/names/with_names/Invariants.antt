@@ -1,6 +1,0 @@
-use Rattle.dsde_image_json.specs.Form.{SpellsRow}
-use Rattle.dsde_image_json.proofs.Each.{Owes}
-use Rattle.dsde_image_json.proofs.names.with_names.Given as goal
-
-abbrev pub invariant-loop-row : goal.invariant-loop-row
-invariant-loop-row l = Owes SpellsRow l.row-items l.row-index

@@ -1,4 +1,0 @@
-pub mod Form
-pub mod Json
-pub mod Members
-pub mod Text

@@ -1,0 +1,27 @@
+mod Again
+mod Allowed
+mod Ascii
+mod Called
+mod Choices
+mod Declaring
+mod Does
+mod Exact
+mod Fitting
+mod Found
+mod Items
+mod Kids
+mod Laid
+mod LastNames
+mod Lasting
+mod Leaving
+mod NetRows
+mod Opening
+mod Opens
+mod Restoring
+mod RowsOfTrees
+mod Scripted
+mod Simple
+mod Whole
+mod WholeTexts
+mod Written
+pub mod Rows

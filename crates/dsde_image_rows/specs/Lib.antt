@@ -1,0 +1,10 @@
+pub mod Fits
+pub mod Listed
+pub mod Named
+pub mod Plain
+pub mod Rows
+pub mod Script
+pub mod Values
+pub mod Walk
+pub mod Walks
+pub mod given

@@ -1,5 +1,0 @@
-use Rattle.dsde_sim_starting.specs.lemmas.Fits.{kid-tree}
-use Rattle.dsde_image_walk.proofs.listing.kid_fits.Goals as goal
-
-pub returns : goal.returns
-returns c = kid-tree c.args._program.now c.args._kid.now c.requires

@@ -1,7 +1,0 @@
-use Rattle.std.proofs.Common.{◌≡◌, take}
-use Rattle.dsde_image_fits.specs.Rows.{texts}
-use Rattle.dsde_image_fits.specs.Script.{script}
-use Rattle.dsde_image_walk.proofs.writing.texts.Given as goal
-
-abbrev pub invariant-loop-value : goal.invariant-loop-value
-invariant-loop-value l = l.own ≡ texts (script l.program) (take l.value-index l.value-items)

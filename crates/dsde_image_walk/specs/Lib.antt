@@ -1,4 +1,0 @@
-pub mod Listed
-pub mod Values
-pub mod Walks
-pub mod given

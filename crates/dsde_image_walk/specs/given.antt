@@ -1,2 +1,0 @@
--- What crates below declare, for those above: each file under the name of its crate.
-pub mod sim_telling

@@ -1,4 +1,0 @@
-pub mod Skipped
-pub mod Skipping
-pub mod lemmas
-pub mod given

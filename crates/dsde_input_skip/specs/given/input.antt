@@ -1,1 +1,0 @@
-pub use Rattle.dsde_input.specs.Reader
