@@ -70,7 +70,7 @@ pub fn component_steps<L: Ledger>(
         &mut flat.queue,
         handle,
         kind,
-        &path,
+        path,
         time,
         got,
         events,

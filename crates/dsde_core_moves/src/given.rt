@@ -40,7 +40,7 @@ pub mod routes_table {
 
 /// Of `dsde_sim_moving`.
 pub mod sim_moving {
-    pub use dsde_sim_moving::{move_sim, next_time, parts};
+    pub use dsde_sim_moving::{copy_path, move_sim, next_time, parts};
 }
 
 /// Of `dsde_sim_starting`.

@@ -29,8 +29,9 @@ use std::alloc::Global;
 use std::sync::ledger::Ledger;
 
 /// The component or the executive under a handle, at this path, takes this transition with what came to it,
-/// which is told, and its next event is scheduled: it waits no longer. Counts at most 4 looks. A fault ends
-/// it, or `Memory` where there is none: then one without arguments and state may lie there.
+/// which is told in an event that takes the path, and its next event is scheduled: it waits no longer. Counts
+/// at most 4 looks. A fault ends it, or `Memory` where there is none: then one without arguments and state may
+/// lie there.
 pub fn component_moves<L: Ledger>(
     alloc: Global,
     program: &Program,
@@ -38,7 +39,7 @@ pub fn component_moves<L: Ledger>(
     queue: &mut Queue,
     handle: Handle,
     kind: MoveKind,
-    path: &Path,
+    path: Path,
     time: u64,
     got: Seq<Values>,
     events: &mut Seq<Event>,
@@ -49,7 +50,7 @@ pub fn component_moves<L: Ledger>(
     requires fits { FitsLeaf program.now (leaf_in (value_of grove.old handle)) }
     requires got { FitsInputs program.now (leaf_in (value_of grove.old handle)).model.0 got }
     requires few { length got < 2 ^ 32 }
-    ensures told { Tells (take_move (system program.now) (leaf_in (value_of grove.old handle)) kind path.now time got then put_under grove.old handle) events.old events.new (after result grove.new) }
+    ensures told { Tells (take_move (system program.now) (leaf_in (value_of grove.old handle)) kind path time got then put_under grove.old handle) events.old events.new (after result grove.new) }
     ensures fits { OnOk result (FitsLeaf program.now (leaf_in (value_of grove.new handle))) }
     ensures stays { OnOk result (StaysOf (leaf_in (value_of grove.old handle)) (leaf_in (value_of grove.new handle))) }
     ensures waits { (rest : List Handle) → IsScheduledBut grove.old (handle ∷ rest) queue.old.pairs → OnOk result (IsScheduledBut grove.new rest queue.new.pairs) }

@@ -36,6 +36,7 @@ ghost use Rattle.dsde_core_moving.specs.Executive.{place_of, IsExecutive};
 use crate::following::structure_follows;
 use crate::place::network_of;
 use dsde_base::Steps;
+use dsde_core_moves::given::sim_moving::copy_path;
 use dsde_core_moves::{Flat, Mover, component_moves};
 use dsde_sim_movers::movers_take_their_steps;
 use dsde_sim_starting::given::program::Program;
@@ -95,6 +96,7 @@ pub fn executive_steps<L: Ledger, M: Ledger>(
         model: _,
         got,
     } = mover;
+    let network = network_of(copy_path(alloc, &path)?);
     component_moves(
         alloc,
         program,
@@ -102,14 +104,13 @@ pub fn executive_steps<L: Ledger, M: Ledger>(
         &mut flat.queue,
         handle,
         kind,
-        &path,
+        path,
         time,
         got,
         events,
         looks,
     )?;
-    let path = network_of(path);
     structure_follows(
-        alloc, program, flat, handle, &path, time, room, events, looks, changes,
+        alloc, program, flat, handle, &network, time, room, events, looks, changes,
     )
 }

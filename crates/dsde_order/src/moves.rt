@@ -13,7 +13,7 @@ ghost use Rattle.dsde_sim_movers.specs.Movers.{moves};
 ghost use Rattle.dsde_order.specs.Seating.{FitsSeat};
 
 use dsde_sim_moving::given::program::Program;
-use dsde_sim_moving::{boss_moves, kind_of, take_move};
+use dsde_sim_moving::{boss_moves, copy_path, kind_of, take_move};
 use dsde_sim_tree::given::formalism::Leaf;
 use dsde_sim_tree::{Event, Net, Sim, TurnEnd};
 use dsde_values::{Path, Seq, Values};
@@ -39,7 +39,10 @@ fn leaf_moves(
     ensures args { IfOk result (λ moved. moved.args ≡ leaf.args) }
 {
     match kind_of(&leaf, time, got.as_slice()) {
-        Some(kind) => take_move(alloc, program, leaf, kind, path, time, got, events),
+        Some(kind) => {
+            let path = copy_path(alloc, path)?;
+            take_move(alloc, program, leaf, kind, path, time, got, events)
+        }
         None => Ok(leaf),
     }
 }

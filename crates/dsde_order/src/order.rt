@@ -8,6 +8,7 @@ ghost use Rattle.dsde_sim_movers.specs.Orders.{is_over};
 
 use crate::seat::is_over;
 use dsde_drawing::{Waits, draw};
+use dsde_sim_moving::copy_path;
 use dsde_values::{Memory, Path, Seq};
 use rand_pcg::Lcg64Xsh32;
 use std::alloc::Global;
@@ -68,7 +69,7 @@ fn copies_of(alloc: Global, paths: &[Path]) -> Result<Vec<Waiting>, Memory>
     let mut list = Vec::new(alloc);
     for path in paths {
         list.push(Waiting {
-            path: copy_of(alloc, path)?,
+            path: copy_path(alloc, path)?,
         })?;
     }
     Ok(list)
@@ -84,15 +85,4 @@ fn paths_of(alloc: Global, order: Seq<Waiting>) -> Result<Seq<Path>, Memory>
         paths.push(path)?;
     }
     Ok(paths)
-}
-
-/// A path equal to this one.
-fn copy_of(alloc: Global, path: &Path) -> Result<Path, Memory>
-    ensures { IfOk result (λ copy. copy ≡ path.now) }
-{
-    let mut names = Seq::new(alloc);
-    for name in path.names.as_slice() {
-        names.push(name.copy(alloc)?)?;
-    }
-    Ok(Path { names })
 }

@@ -1,21 +1,24 @@
 //! Moves of components and of executives.
 
-ghost use Rattle.std.specs.Prelude.{◌≡◌, ◌<◌, ◌^◌, length, IfOk};
+ghost use Rattle.std.specs.Prelude.{◌≡◌, ◌<◌, ◌^◌, ◌++◌, ◌∷◌, [], length, IfOk, OnOk, OnErr};
 ghost use Rattle.dsde_values.specs.When.{IsMoment};
 ghost use Rattle.dsde_sim_tree.specs.given.formalism.Leaf.{has_come, kind_of, move_leaf};
+ghost use Rattle.dsde_sim_tree.specs.declared.event.Event.TheVariants.{Move};
 ghost use Rattle.dsde_sim_tree.specs.Told.{at, to_boss, Comes, Tells};
 ghost use Rattle.dsde_sim_changing.specs.given.system.Program.{system};
 ghost use Rattle.dsde_sim_changing.specs.given.system.Fitting.{FitsInputs, FitsLeaf};
 ghost use Rattle.dsde_sim_tree.specs.Move.{take_move, move_leaf_at};
 ghost use Rattle.dsde_sim_changing.specs.given.sim_starting.Fitting.{FitsAtomic, FitsGot};
 
+use crate::paths::copy_path;
+use dsde_language::ModelId;
 use dsde_sim_changing::given::atomic::leaf_moved;
 use dsde_sim_changing::given::program::Program;
 use dsde_sim_changing::given::sim_starting::is_due;
-use dsde_sim_changing::given::sim_telling::{at, boss_of, tell_gets, tell_move};
+use dsde_sim_changing::given::sim_telling::{at, boss_of, tell_gets};
 use dsde_sim_tree::given::formalism::{Inputs, Leaf, MoveKind};
 use dsde_sim_tree::{Event, TurnEnd};
-use dsde_values::{Path, Seq, Values};
+use dsde_values::{Memory, Path, Seq, Values, copy_values};
 use std::alloc::Global;
 
 /// Whether some value came.
@@ -65,13 +68,35 @@ fn moved(
     )
 }
 
-/// Tells what a component or an executive receives, takes its transition, and tells its move.
+/// Tells that the component or the executive at a path, which the event takes, has moved.
+fn tell_move(
+    alloc: Global,
+    path: Path,
+    model: ModelId,
+    kind: MoveKind,
+    leaf: &Leaf,
+    events: &mut Seq<Event>,
+) -> Result<(), Memory>
+    ensures ok { OnOk result (events.new ≡ events.old ++ Move path model kind leaf.now.state leaf.now.next ∷ []) }
+    ensures err { OnErr result (events.new ≡ events.old) }
+{
+    events.push(Event::Move {
+        path,
+        model,
+        kind,
+        state: copy_values(alloc, leaf.state.as_slice())?,
+        next: leaf.next,
+    })
+}
+
+/// Tells what a component or an executive receives, takes its transition, and tells its move, in an
+/// event that takes its path.
 pub fn take_move(
     alloc: Global,
     program: &Program,
     leaf: Leaf,
     kind: MoveKind,
-    path: &Path,
+    path: Path,
     time: u64,
     got: Seq<Values>,
     events: &mut Seq<Event>,
@@ -80,15 +105,15 @@ pub fn take_move(
     requires leaf { FitsLeaf program.now leaf }
     requires got { FitsInputs program.now leaf.model.0 got }
     requires few { length got < 2 ^ 32 }
-    ensures told { Tells (take_move (system program.now) leaf kind path.now time got) events.old events.new result }
+    ensures told { Tells (take_move (system program.now) leaf kind path time got) events.old events.new result }
     ensures fits { IfOk result (FitsLeaf program.now) }
     ensures model { IfOk result (λ moved. moved.model ≡ leaf.model) }
     ensures args { IfOk result (λ moved. moved.args ≡ leaf.args) }
     ensures boss { IfOk result (λ moved. moved.boss ≡ leaf.boss) }
 {
     let model = leaf.model;
-    tell_gets(alloc, path, model, got.as_slice(), events)?;
-    let moved = moved(alloc, program, leaf, kind, path, time, got)?;
+    tell_gets(alloc, &path, model, got.as_slice(), events)?;
+    let moved = moved(alloc, program, leaf, kind, &path, time, got)?;
     tell_move(alloc, path, model, kind, &moved, events)?;
     Ok(moved)
 }
@@ -112,7 +137,10 @@ pub(crate) fn move_leaf_at(
     ensures args { IfOk result (λ moved. moved.args ≡ leaf.args) }
 {
     match kind_of(&leaf, time, got.as_slice()) {
-        Some(kind) => take_move(alloc, program, leaf, kind, path, time, got, events),
+        Some(kind) => {
+            let path = copy_path(alloc, path)?;
+            take_move(alloc, program, leaf, kind, path, time, got, events)
+        }
         None => Ok(leaf),
     }
 }
@@ -139,5 +167,5 @@ pub(crate) fn boss_move(
     ensures boss { IfOk result (λ moved. moved.boss ≡ boss.boss) }
 {
     let path = boss_of(alloc, path)?;
-    take_move(alloc, program, boss, kind, &path, time, got, events)
+    take_move(alloc, program, boss, kind, path, time, got, events)
 }

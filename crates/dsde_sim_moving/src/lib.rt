@@ -7,6 +7,7 @@ mod boxes;
 pub mod given;
 mod leaf;
 mod net;
+mod paths;
 mod walk;
 
 pub use boxes::{boxes_in, sources_in};
@@ -15,4 +16,5 @@ pub use dsde_sim_changing::given::sim_starting::{by_port, output, start};
 pub use dsde_sim_changing::{next_time, parts};
 pub use leaf::{kind_of, take_move};
 pub use net::boss_moves;
+pub use paths::copy_path;
 pub use walk::move_sim;

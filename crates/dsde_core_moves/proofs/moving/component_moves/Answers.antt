@@ -28,8 +28,8 @@ pub returns-clause-told : goal.returns-clause-told
 returns-clause-told g c =
     let a = c.args in
     let back = put-back a.grove.now c.take_leaf-leaf.new.grove a.handle c.requires.live c.take_leaf-leaf.ensures.left c.put_moved.new.grove c.in_ok-moved.moved c.put_moved.ensures.put in
-    subst (λ (leaf : Leaf). Tells (take_move (system a.program.now) leaf a.kind a.path.now a.time a.got then put_under a.grove.now a.handle) a.events.now c.take_move.new.events (Ok c.put_moved.new.grove)) c.take_leaf-leaf.ensures.taken
-    (put-tells (take_move (system a.program.now) c.take_leaf-leaf.result a.kind a.path.now a.time a.got) a.events.now c.take_move.new.events a.grove.now c.put_moved.new.grove a.handle c.in_ok-moved.moved c.in_ok-moved.ensures.told back)
+    subst (λ (leaf : Leaf). Tells (take_move (system a.program.now) leaf a.kind a.path a.time a.got then put_under a.grove.now a.handle) a.events.now c.take_move.new.events (Ok c.put_moved.new.grove)) c.take_leaf-leaf.ensures.taken
+    (put-tells (take_move (system a.program.now) c.take_leaf-leaf.result a.kind a.path a.time a.got) a.events.now c.take_move.new.events a.grove.now c.put_moved.new.grove a.handle c.in_ok-moved.moved c.in_ok-moved.ensures.told back)
 
 pub returns-clause-fits : goal.returns-clause-fits
 returns-clause-fits g c =
@@ -54,5 +54,5 @@ returns-clause-work g c =
     let a = c.args in
     let S = system a.program.now in
     let told = c.in_ok-moved.ensures.told in
-    ap work told.0 ∙ sum_by-append work_of a.events.now (take_move S c.take_leaf-leaf.result a.kind a.path.now a.time a.got).events
-    ∙ ap (λ n. work a.events.now + n) (c.steps_tell_their_work.ensures.moves S c.take_leaf-leaf.result c.in_ok-moved.moved a.kind a.path.now a.time a.got told.1)
+    ap work told.0 ∙ sum_by-append work_of a.events.now (take_move S c.take_leaf-leaf.result a.kind a.path a.time a.got).events
+    ∙ ap (λ n. work a.events.now + n) (c.steps_tell_their_work.ensures.moves S c.take_leaf-leaf.result c.in_ok-moved.moved a.kind a.path a.time a.got told.1)
