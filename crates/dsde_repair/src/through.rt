@@ -193,7 +193,14 @@ pub fn passing_rows(alloc: Global, wiring: &Wiring, place: &[Name]) -> Result<Se
     requires { AreWired wiring.now }
     ensures { IfOk result (λ rows. rows ≡ map row_of (through (own (out-Wiring wiring.now).me) place.now wiring.now)) }
 {
-    let mut rows = Seq::new(alloc);
+    // At the root mostly each link is a row: room for them once, or the list is moved again and again as it
+    // grows.
+    let room = if place.is_empty() {
+        wiring.links.as_slice().len()
+    } else {
+        0
+    };
+    let mut rows = Seq::with_room(alloc, room)?;
     add_through(alloc, wiring, true, place, &mut rows)?;
     Ok(rows)
 }
