@@ -12,7 +12,7 @@ use Rattle.dsde_routes_wiring.specs.given.structure.Gather.{Translation}
 use Rattle.dsde_routes_wiring.specs.declared.row.Row.{Row}
 use Rattle.dsde_routes_wiring.specs.Sets.{Rows, row_cmp, row_cmp-total, row_cmp-same}
 use Rattle.dsde_routes_wiring.specs.Flatten.{is_from}
-use Rattle.dsde_routes_trees.specs.given.routes_pushing.lemmas_Lists.{Among, all-from, among-any, among-flat, contains-from, distinct-append, distinct-nil, each-among, wrong}
+use Rattle.dsde_routes_pushing.specs.lemmas.Lists.{Among, all-from, among-any, among-flat, contains-from, distinct-append, distinct-nil, each-among, wrong}
 use Rattle.dsde_core_moves.specs.given.routes_table.Order.{AreOnce}
 use Rattle.dsde_core_parcels.specs.declared.parcel.Outlet.{Outlet}
 use Rattle.dsde_core_parcels.specs.declared.parcel.Parcel.{Parcel}

@@ -9,10 +9,10 @@ use Rattle.dsde_values.specs.Path.{root}
 use Rattle.dsde_sim_tree.specs.given.formalism.leaf_Leaf.{Leaf}
 use Rattle.dsde_sim_tree.specs.given.formalism.System.{System, Ports}
 use Rattle.dsde_sim_tree.specs.declared.sim.Sim.{Sim}
-use Rattle.dsde_routes_trees.specs.given.sim_movers.Deliveries.{Delivery}
-use Rattle.dsde_routes_trees.specs.given.sim_movers.Found.{IsFound, Moves, delivery_at}
-use Rattle.dsde_routes_trees.specs.given.sim_movers.Movers.{leaf_at, path_behind, seat_behind, seat_of}
-use Rattle.dsde_routes_trees.specs.given.routes_pushing.lemmas_Lists.{Among, among-from, each-among}
+use Rattle.dsde_routes_pushing.specs.given.sim_movers.Deliveries.{Delivery}
+use Rattle.dsde_routes_pushing.specs.given.sim_movers.Found.{IsFound, Moves, delivery_at}
+use Rattle.dsde_routes_pushing.specs.given.sim_movers.Movers.{leaf_at, path_behind, seat_behind, seat_of}
+use Rattle.dsde_routes_pushing.specs.lemmas.Lists.{Among, among-from, each-among}
 use Rattle.dsde_core_parcels.specs.declared.inbox.Inbox.{Inbox}
 use Rattle.dsde_core_parcels.specs.Delivered.{IsBrought, IsCalled, brought_to}
 

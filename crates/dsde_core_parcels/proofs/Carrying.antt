@@ -29,10 +29,10 @@ use Rattle.dsde_routes_wiring.specs.Opened.{flow-opens}
 use Rattle.dsde_routes_wiring.specs.Sets.{row_cmp, row_cmp-total, row_cmp-same}
 use Rattle.dsde_routes_wiring.specs.Ways.{begin}
 use Rattle.dsde_routes_wiring.specs.Wired.{HasOwnHandles, handles, is_same_handle}
-use Rattle.dsde_routes_trees.specs.given.routes_pushing.Carried.{Traffic}
-use Rattle.dsde_routes_trees.specs.given.routes_pushing.Fitting.{HavePorts}
-use Rattle.dsde_routes_trees.specs.given.routes_pushing.lemmas_Lists.{Among, any-among, each-among}
-use Rattle.dsde_routes_trees.specs.Wire.{IsOf, IsTrafficOf, places, wired_net}
+use Rattle.dsde_routes_pushing.specs.Carried.{Traffic}
+use Rattle.dsde_routes_pushing.specs.Fitting.{HavePorts}
+use Rattle.dsde_routes_pushing.specs.lemmas.Lists.{Among, any-among, each-among}
+use Rattle.dsde_routes_pushing.specs.Wire.{IsOf, IsTrafficOf, places, wired_net}
 use Rattle.dsde_core_moves.specs.given.core_flat.spot_Spot.{Spot}
 use Rattle.dsde_core_moves.specs.given.core_flat.spot_Spot_TheVariants as variant
 use Rattle.dsde_core_moves.specs.given.core_flat.Places.{Place, part_places}

@@ -16,8 +16,8 @@ use Rattle.dsde_core_parcels.specs.declared.inbox.Inbox.{Inbox}
 use Rattle.dsde_core_parcels.specs.Inboxes.{Lot, lot_of, put_by, put_lot, put_lots, spread, values_at, with_get}
 use Rattle.dsde_core_parcels.specs.Parcels.{AreOrdered, parcel_cmp}
 use Rattle.dsde_core_parcels.specs.lemmas.Ordered.{parcel_cmp-ranks, parcel_cmp-total}
-use Rattle.dsde_routes_trees.specs.given.routes_pushing.lemmas_Lists.{Among, all-from, each-among}
-use Rattle.dsde_routes_trees.specs.given.routes_pushing.lemmas_Ascending.{later-sorted, none-before}
+use Rattle.dsde_routes_pushing.specs.lemmas.Lists.{Among, all-from, each-among}
+use Rattle.dsde_routes_pushing.specs.lemmas.Ascending.{later-sorted, none-before}
 use Rattle.dsde_core_parcels.specs.Sent.{is_for}
 use Rattle.dsde_core_parcels.specs.Brought.{Rise, brought}
 

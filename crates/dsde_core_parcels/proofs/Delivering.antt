@@ -8,8 +8,8 @@ use Rattle.dsde_values.specs.declared.value.Value.{Value}
 use Rattle.dsde_sim_tree.specs.given.formalism.Leaf.{component_of}
 use Rattle.dsde_sim_tree.specs.given.formalism.System.{System, Ports}
 use Rattle.dsde_sim_tree.specs.declared.sim.Sim.{Sim}
-use Rattle.dsde_routes_trees.specs.given.sim_movers.Deliveries.{Delivery, received}
-use Rattle.dsde_routes_trees.specs.given.sim_movers.Found.{IsFound}
+use Rattle.dsde_routes_pushing.specs.given.sim_movers.Deliveries.{Delivery, received}
+use Rattle.dsde_routes_pushing.specs.given.sim_movers.Found.{IsFound}
 use Rattle.dsde_core_parcels.specs.declared.inbox.Inbox.{Inbox}
 use Rattle.dsde_core_parcels.specs.Brought.{brought}
 use Rattle.dsde_core_parcels.specs.Delivered.{IsBrought}

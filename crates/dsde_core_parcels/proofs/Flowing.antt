@@ -43,7 +43,7 @@ use Rattle.dsde_routes_wiring.specs.declared.wiring.WiredKid.TheViews.{out-Wirin
 use Rattle.dsde_routes_wiring.specs.Flatten.{KidFlow, NetFlow, Site, flow, flow_of_kid, kid_step, net_step, rows_at, sources_of, ways_at}
 use Rattle.dsde_routes_wiring.specs.Opened.{Beneath, each_wiring, flow_kid-opens, flow-opens, flow_opened}
 use Rattle.dsde_routes_wiring.specs.Ways.{Sent, Sources, Ways, coming, from_part, nowhere, sent_by}
-use Rattle.dsde_routes_trees.specs.given.routes_pushing.lemmas_Lists.{Among, all-from, contains-from}
+use Rattle.dsde_routes_pushing.specs.lemmas.Lists.{Among, all-from, contains-from}
 use Rattle.dsde_core_moves.specs.given.core_flat.spot_Spot.{Spot}
 use Rattle.dsde_core_moves.specs.given.core_flat.spot_Spot_TheVariants as variant
 use Rattle.dsde_core_moves.specs.given.core_flat.Places.{place, kid_places, net_places, part_places}

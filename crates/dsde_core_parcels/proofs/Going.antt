@@ -25,9 +25,9 @@ use Rattle.dsde_routes_wiring.specs.declared.row.Row.{Row}
 use Rattle.dsde_routes_wiring.specs.declared.row.Way.{Way}
 use Rattle.dsde_routes_wiring.specs.Ways.{Sources, Ways, begin, coming, from_part, onward, over}
 use Rattle.dsde_routes_wiring.specs.Flatten.{row_of, rows_into}
-use Rattle.dsde_routes_trees.specs.given.routes_pushing.lemmas_Lists.{among-from, ascend-from, wrong}
-use Rattle.dsde_routes_trees.specs.given.routes_pushing.lemmas_Ascending.{one-of}
-use Rattle.dsde_routes_trees.specs.given.routes_pushing.lemmas_Handles.{both-true, same-number}
+use Rattle.dsde_routes_pushing.specs.lemmas.Lists.{among-from, ascend-from, wrong}
+use Rattle.dsde_routes_pushing.specs.lemmas.Ascending.{one-of}
+use Rattle.dsde_routes_pushing.specs.lemmas.Handles.{both-true, same-number}
 use Rattle.dsde_core_moves.specs.given.core_flat.lemmas_Frame.{all-join}
 use Rattle.dsde_core_moves.specs.given.core_flat.lemmas_Names.{name-exact, names-total}
 use Rattle.dsde_core_parcels.specs.Along.{TakeAlong}

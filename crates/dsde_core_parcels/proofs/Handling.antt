@@ -14,7 +14,7 @@ use Rattle.dsde_routes_wiring.specs.declared.wiring.WiredKid.TheFolds.{fold-roll
 use Rattle.dsde_routes_wiring.specs.declared.wiring.WiredKid.TheViews.{out-Wiring, out-WiredKid, roll-out-Wiring, roll-out-WiredKid}
 use Rattle.dsde_routes_wiring.specs.Opened.{Beneath, below_of, each_wiring, kids_of, map-kid}
 use Rattle.dsde_routes_wiring.specs.Wired.{HasOwnHandles, beneath, beneath_kid, handles, is_same_handle, kid_handles, net_handles}
-use Rattle.dsde_routes_trees.specs.given.routes_pushing.lemmas_Lists.{Among, among-append, distinct-append, distinct-nil, each-among}
+use Rattle.dsde_routes_pushing.specs.lemmas.Lists.{Among, among-append, distinct-append, distinct-nil, each-among}
 use Rattle.dsde_core_moves.specs.given.core_flat.Places.{Place, place, kid_places, net_places, part_places}
 use Rattle.dsde_core_moves.specs.given.core_flat.lemmas_Counting.{NoTwice, births}
 use Rattle.dsde_core_moves.specs.given.core_flat.lemmas_Opened.{OfKid, kid-stands, net-stands}

@@ -7,8 +7,8 @@ use Rattle.dsde_routes_wiring.specs.given.structure.Gather.{Translation}
 use Rattle.dsde_routes_wiring.specs.declared.row.Row.{Row}
 use Rattle.dsde_routes_wiring.specs.Sets.{Rows}
 use Rattle.dsde_routes_wiring.specs.Flatten.{is_from}
-use Rattle.dsde_routes_trees.specs.given.routes_pushing.Carried.{Traffic, pushed}
-use Rattle.dsde_routes_trees.specs.given.routes_pushing.lemmas_Lists.{Among, among-append, among-behind, among-flat, among-from, among-front, contains-from, flat-among}
+use Rattle.dsde_routes_pushing.specs.Carried.{Traffic, pushed}
+use Rattle.dsde_routes_pushing.specs.lemmas.Lists.{Among, among-append, among-behind, among-flat, among-from, among-front, contains-from, flat-among}
 use Rattle.dsde_core_parcels.specs.declared.parcel.Outlet.{Outlet}
 use Rattle.dsde_core_parcels.specs.declared.parcel.Parcel.{Parcel}
 use Rattle.dsde_core_parcels.specs.Parcels.{ArePushed, AreRowsFrom, made_along, parcel_with, parcels_of}

@@ -19,7 +19,7 @@ use Rattle.dsde_core_moves.specs.given.sound_structures.Carrying.{ReachCovers, S
 use Rattle.dsde_core_moves.specs.given.grove.Grove.{Grove, value_of}
 use Rattle.dsde_sim_tree.specs.Output.{by_port, sent}
 use Rattle.dsde_core_moves.specs.given.sim_starting.Fitting.{FitsBodySent}
-use Rattle.dsde_routes_trees.specs.given.routes_pushing.lemmas_Lists.{among-from, each-among}
+use Rattle.dsde_routes_pushing.specs.lemmas.Lists.{among-from, each-among}
 use Rattle.dsde_core_moves.specs.given.core_flat.spot_Spot.{Spot}
 use Rattle.dsde_core_moves.specs.given.core_flat.spot_Spot_TheVariants as variant
 use Rattle.dsde_core_moves.specs.given.core_flat.Grafts.{path_at}

@@ -16,8 +16,8 @@ use Rattle.dsde_sim_tree.specs.given.formalism.Leaf.{component_of, is_due, outpu
 use Rattle.dsde_core_moves.specs.given.grove.Grove.{Grove, value_of}
 use Rattle.dsde_sim_tree.specs.Output.{by_port, values_at}
 use Rattle.dsde_routes_wiring.specs.Wired.{is_same_handle}
-use Rattle.dsde_routes_trees.specs.given.routes_pushing.lemmas_Handles.{same-handle}
-use Rattle.dsde_routes_trees.specs.given.routes_pushing.lemmas_Lists.{Among, all-from, among-flat, among-from, contains-from, distinct-append, distinct-nil, each-among, wrong}
+use Rattle.dsde_routes_pushing.specs.lemmas.Handles.{same-handle}
+use Rattle.dsde_routes_pushing.specs.lemmas.Lists.{Among, all-from, among-flat, among-from, contains-from, distinct-append, distinct-nil, each-among, wrong}
 use Rattle.dsde_core_moves.specs.given.core_flat.spot_Spot.{Spot}
 use Rattle.dsde_core_moves.specs.given.core_flat.spot_Spot_TheVariants as variant
 use Rattle.dsde_core_moves.specs.given.core_flat.Grafts.{path_at}

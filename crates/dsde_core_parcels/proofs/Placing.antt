@@ -23,11 +23,11 @@ use Rattle.dsde_routes_wiring.specs.declared.wiring.WiredKid.{WiredKid}
 use Rattle.dsde_routes_wiring.specs.declared.wiring.WiredKid.TheViews.{out-Wiring, out-WiredKid}
 use Rattle.dsde_routes_wiring.specs.Opened.{Beneath, each_wiring}
 use Rattle.dsde_routes_wiring.specs.Wired.{is_same_handle}
-use Rattle.dsde_routes_trees.specs.given.routes_pushing.Carried.{Traffic}
-use Rattle.dsde_routes_trees.specs.given.routes_pushing.lemmas_Handles.{same-handle}
-use Rattle.dsde_routes_trees.specs.Wire as tree
-use Rattle.dsde_routes_trees.specs.Wire.{IsOf, Places, places, places_of_kid}
-use Rattle.dsde_routes_trees.specs.lemmas.Opens.{places-kid, places-Leaf, places-Net}
+use Rattle.dsde_routes_pushing.specs.Carried.{Traffic}
+use Rattle.dsde_routes_pushing.specs.lemmas.Handles.{same-handle}
+use Rattle.dsde_routes_pushing.specs.Wire as tree
+use Rattle.dsde_routes_pushing.specs.Wire.{IsOf, Places, places, places_of_kid}
+use Rattle.dsde_routes_pushing.specs.lemmas.Wires.{places-kid, places-Leaf, places-Net}
 use Rattle.dsde_core_moves.specs.given.core_flat.spot_Spot.{Spot}
 use Rattle.dsde_core_moves.specs.given.core_flat.spot_Spot_TheVariants as variant
 use Rattle.dsde_core_moves.specs.given.core_flat.Places.{place, kid_places, part_places}

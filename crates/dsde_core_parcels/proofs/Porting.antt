@@ -41,9 +41,9 @@ use Rattle.dsde_routes_wiring.specs.declared.wiring.WiredKid.TheViews.{out-Wirin
 use Rattle.dsde_routes_wiring.specs.Opened.{Beneath, each_wiring, shapes-opens, shapes_kid-opens}
 use Rattle.dsde_routes_wiring.specs.Wired as shape
 use Rattle.dsde_routes_wiring.specs.Wired.{KidShapes, Shape, Wired, shapes, shapes_of_kid}
-use Rattle.dsde_routes_trees.specs.given.routes_pushing.Carried.{Traffic}
-use Rattle.dsde_routes_trees.specs.given.routes_pushing.Fitting.{HasPorts, HavePorts, LeadWithin}
-use Rattle.dsde_routes_trees.specs.given.routes_pushing.lemmas_Lists.{Among, all-from, contains-from}
+use Rattle.dsde_routes_pushing.specs.Carried.{Traffic}
+use Rattle.dsde_routes_pushing.specs.Fitting.{HasPorts, HavePorts, LeadWithin}
+use Rattle.dsde_routes_pushing.specs.lemmas.Lists.{Among, all-from, contains-from}
 use Rattle.dsde_core_moves.specs.given.core_flat.spot_Spot.{Spot}
 use Rattle.dsde_core_moves.specs.given.core_flat.Handles.{AreThemselves, IsItself, KidsAreThemselves, kid_called}
 use Rattle.dsde_core_moves.specs.given.core_flat.Places.{place, kid_places, part_places}

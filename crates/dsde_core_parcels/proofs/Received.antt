@@ -17,11 +17,11 @@ use Rattle.dsde_routes_wiring.specs.declared.row.Row.{Row}
 use Rattle.dsde_routes_wiring.specs.Sets.{Rows}
 use Rattle.dsde_routes_wiring.specs.Wired.{is_same_handle}
 use Rattle.dsde_routes_wiring.specs.Flatten.{is_to}
-use Rattle.dsde_routes_trees.specs.given.routes_pushing.Carried.{Traffic, pushed}
-use Rattle.dsde_routes_trees.specs.given.routes_pushing.Pushed.{AreRowsTo, rank_cmp}
-use Rattle.dsde_routes_trees.specs.given.routes_pushing.lemmas_Lists.{Among, Ascend, all-from, among-filter, among-flat, among-from, ascend-from, contains-from, each-among, filter-among, flat-among, one-list}
-use Rattle.dsde_routes_trees.specs.given.routes_pushing.lemmas_Ascending.{ascend-filter, ascends, one-of}
-use Rattle.dsde_routes_trees.specs.given.routes_pushing.lemmas_Handles.{both-true, same-handle}
+use Rattle.dsde_routes_pushing.specs.Carried.{Traffic, pushed}
+use Rattle.dsde_routes_pushing.specs.Pushed.{AreRowsTo, rank_cmp}
+use Rattle.dsde_routes_pushing.specs.lemmas.Lists.{Among, Ascend, all-from, among-filter, among-flat, among-from, ascend-from, contains-from, each-among, filter-among, flat-among, one-list}
+use Rattle.dsde_routes_pushing.specs.lemmas.Ascending.{ascend-filter, ascends, one-of}
+use Rattle.dsde_routes_pushing.specs.lemmas.Handles.{both-true, same-handle}
 use Rattle.dsde_core_parcels.specs.declared.parcel.Outlet.{Outlet}
 use Rattle.dsde_core_parcels.specs.declared.parcel.Parcel.{Parcel}
 use Rattle.dsde_core_parcels.specs.Parcels.{AreOrdered, ArePushed, parcel_cmp, parcel_with}

@@ -14,8 +14,8 @@ use Rattle.dsde_routes_wiring.specs.declared.row.Row.{Row}
 use Rattle.dsde_routes_wiring.specs.declared.wiring.Wiring.{Wiring}
 use Rattle.dsde_routes_wiring.specs.Flatten.{flatten}
 use Rattle.dsde_routes_wiring.specs.Wired.{is_same_handle}
-use Rattle.dsde_routes_trees.specs.given.routes_pushing.lemmas_Handles.{both-true, same-handle, same-number}
-use Rattle.dsde_routes_trees.specs.given.routes_pushing.lemmas_Lists.{Among, all-from}
+use Rattle.dsde_routes_pushing.specs.lemmas.Handles.{both-true, same-handle, same-number}
+use Rattle.dsde_routes_pushing.specs.lemmas.Lists.{Among, all-from}
 use Rattle.dsde_core_moves.specs.given.core_flat.spot_Spot.{Spot}
 use Rattle.dsde_core_parcels.specs.declared.parcel.Outlet.{Outlet}
 use Rattle.dsde_core_parcels.specs.Parcels.{GoFrom}

@@ -9,7 +9,7 @@ use Rattle.dsde_values.specs.declared.value.Value.{Value}
 use Rattle.dsde_language.specs.DeclaredModels.{types_of}
 use Rattle.dsde_routes_wiring.specs.given.structure.plan_Via.{Via}
 use Rattle.dsde_routes_wiring.specs.given.structure.Gather.{Translation}
-use Rattle.dsde_routes_trees.specs.given.routes_pushing.Carried.{along}
+use Rattle.dsde_routes_pushing.specs.Carried.{along}
 use Rattle.dsde_language.specs.Meaning.{Vars}
 use Rattle.dsde_language.specs.Typed.{Typed, Fits, values_in}
 use Rattle.dsde_core_moves.specs.given.sound_expressions.Conditions.{via_values}

@@ -11,13 +11,13 @@ use Rattle.dsde_sim_tree.specs.declared.sim.Net.{Net}
 use Rattle.dsde_sim_tree.specs.declared.sim.Sim.{Sim}
 use Rattle.dsde_sim_tree.specs.declared.sim.Sim.TheOpen.{Net-F}
 use Rattle.dsde_sim_tree.specs.declared.sim.Sim.TheViews.{out-Kid, out-Net, out-roll-Net}
-use Rattle.dsde_routes_trees.specs.given.sim_movers.Deliveries.{is_same_path}
+use Rattle.dsde_routes_pushing.specs.given.sim_movers.Deliveries.{is_same_path}
 use Rattle.dsde_routes_wiring.specs.declared.wiring.Wiring.{Wiring}
 use Rattle.dsde_routes_wiring.specs.declared.wiring.WiredKid.{WiredKid}
 use Rattle.dsde_routes_wiring.specs.declared.wiring.WiredKid.TheViews.{out-Wiring, out-WiredKid, roll-Wiring, roll-WiredKid, roll-out-Wiring, roll-out-WiredKid}
 use Rattle.dsde_routes_wiring.specs.Opened.{Beneath, each_wiring}
-use Rattle.dsde_routes_trees.specs.Wire.{WiredAt, wired, wired_kid, wired_net}
-use Rattle.dsde_routes_trees.specs.lemmas.Opens.{wired-Leaf, wired-Net, wired_kid-opens, wired_net-opens}
+use Rattle.dsde_routes_pushing.specs.Wire.{WiredAt, wired, wired_kid, wired_net}
+use Rattle.dsde_routes_pushing.specs.lemmas.Wires.{wired-Leaf, wired-Net, wired_kid-opens, wired_net-opens}
 use Rattle.dsde_core_moves.specs.given.core_flat.Handles.{AreThemselves, IsItself, KidsAreThemselves, kid_called}
 use Rattle.dsde_core_moves.specs.given.core_flat.Places.{Place, place, kid_places, net_places, part_places}
 use Rattle.dsde_core_moves.specs.given.core_flat.Shown.{Look, args_in, kid_under, leaf_in, model_in, net_under, part_under}

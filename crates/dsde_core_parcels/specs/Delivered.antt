@@ -14,11 +14,11 @@ use Rattle.dsde_sim_tree.specs.declared.sim.Sim.{Sim}
 use Rattle.dsde_sim_tree.specs.declared.sim.Sim.TheVariants as sim
 use Rattle.dsde_sim_tree.specs.Move.{ins_of}
 use Rattle.dsde_sim_tree.specs.Output.{by_port}
-use Rattle.dsde_routes_trees.specs.given.sim_movers.Deliveries.{Delivery}
-use Rattle.dsde_routes_trees.specs.given.sim_movers.Movers.{leaf_at, path_behind, seat_behind, seat_of}
-use Rattle.dsde_routes_trees.specs.given.sim_movers.Names.{IsNamed}
-use Rattle.dsde_routes_trees.specs.given.routes_pushing.Carried.{Traffic}
-use Rattle.dsde_routes_trees.specs.Wire.{IsTrafficOf, wired_net}
+use Rattle.dsde_routes_pushing.specs.given.sim_movers.Deliveries.{Delivery}
+use Rattle.dsde_routes_pushing.specs.given.sim_movers.Movers.{leaf_at, path_behind, seat_behind, seat_of}
+use Rattle.dsde_routes_pushing.specs.given.sim_movers.Names.{IsNamed}
+use Rattle.dsde_routes_pushing.specs.Carried.{Traffic}
+use Rattle.dsde_routes_pushing.specs.Wire.{IsTrafficOf, wired_net}
 use Rattle.dsde_core_parcels.specs.declared.parcel.Parcel.{Parcel}
 use Rattle.dsde_core_parcels.specs.declared.inbox.Inbox.{Inbox}
 use Rattle.dsde_core_parcels.specs.Inboxes.{lot_of, put_lots}

@@ -18,7 +18,7 @@ use Rattle.dsde_core_parcels.specs.Along.{GoAlong}
 use Rattle.dsde_routes_wiring.specs.declared.row.Row.{Row}
 use Rattle.dsde_routes_wiring.specs.Sets.{Rows}
 use Rattle.dsde_routes_wiring.specs.Flatten.{is_from}
-use Rattle.dsde_routes_trees.specs.given.routes_pushing.Carried.{along}
+use Rattle.dsde_routes_pushing.specs.Carried.{along}
 use Rattle.dsde_core_moves.specs.given.routes_table.Order.{AreOnce}
 use Rattle.dsde_core_parcels.specs.declared.parcel.Outlet.{Outlet}
 use Rattle.dsde_core_parcels.specs.declared.parcel.Parcel.{Parcel}

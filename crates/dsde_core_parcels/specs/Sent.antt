@@ -10,8 +10,8 @@ use Rattle.dsde_routes_wiring.specs.Sets.{Rows}
 use Rattle.dsde_routes_wiring.specs.Flatten.{flatten}
 use Rattle.dsde_routes_wiring.specs.Wired.{HasOwnHandles, is_same_handle}
 use Rattle.dsde_routes_wiring.specs.declared.wiring.Wiring.{Wiring}
-use Rattle.dsde_routes_trees.specs.given.routes_pushing.Carried.{Traffic}
-use Rattle.dsde_routes_trees.specs.given.routes_pushing.Fitting.{HavePorts}
+use Rattle.dsde_routes_pushing.specs.Carried.{Traffic}
+use Rattle.dsde_routes_pushing.specs.Fitting.{HavePorts}
 use Rattle.dsde_core_parcels.specs.declared.parcel.Outlet.{Outlet}
 use Rattle.dsde_core_parcels.specs.declared.parcel.Parcel.{Parcel}
 use Rattle.dsde_core_parcels.specs.Parcels.{AreOrdered, ArePushed}

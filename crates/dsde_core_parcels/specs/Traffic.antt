@@ -19,12 +19,12 @@ use Rattle.dsde_sim_tree.specs.declared.sim.Sim.TheVariants as sim
 use Rattle.dsde_sim_tree.specs.declared.sim.Sim.TheViews.{out-Net}
 use Rattle.dsde_sim_tree.specs.Output.{sent}
 use Rattle.dsde_core_moves.specs.given.sim_starting.Fitting.{FitsBodySent, FitsGot, FitsTree}
-use Rattle.dsde_routes_trees.specs.given.sim_movers.Deliveries.{is_same_path}
-use Rattle.dsde_routes_trees.specs.given.sim_movers.Names.{IsNamed}
+use Rattle.dsde_routes_pushing.specs.given.sim_movers.Deliveries.{is_same_path}
+use Rattle.dsde_routes_pushing.specs.given.sim_movers.Names.{IsNamed}
 use Rattle.dsde_routes_wiring.specs.declared.row.Row.{Row}
 use Rattle.dsde_routes_wiring.specs.declared.wiring.Wiring.{Wiring}
 use Rattle.dsde_routes_wiring.specs.Wired.{is_same_handle}
-use Rattle.dsde_routes_trees.specs.given.routes_pushing.Carried.{Traffic}
+use Rattle.dsde_routes_pushing.specs.Carried.{Traffic}
 use Rattle.dsde_core_moves.specs.given.core_flat.spot_Spot.{Spot}
 use Rattle.dsde_core_moves.specs.given.core_flat.spot_Spot_TheVariants as variant
 use Rattle.dsde_core_moves.specs.given.core_flat.Places.{Place, part_places}

@@ -2,5 +2,4 @@
 pub mod core_flat
 pub mod core_moves
 pub mod routes_pushing
-pub mod routes_trees
 pub mod routes_wiring

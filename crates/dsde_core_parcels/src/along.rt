@@ -2,7 +2,7 @@
 
 ghost use Rattle.std.specs.Prelude.{◌≡◌, IfOk};
 ghost use Rattle.std.specs.List.{filter_map};
-ghost use Rattle.dsde_routes_trees.specs.given.routes_pushing.Carried.{along};
+ghost use Rattle.dsde_routes_pushing.specs.Carried.{along};
 ghost use Rattle.dsde_core_moves.specs.given.system.Program.{system};
 ghost use Rattle.dsde_core_moves.specs.given.sim_gathering.Passing.{IsTaken};
 ghost use Rattle.dsde_core_parcels.specs.Along.{GoAlong, GoesAlong};

@@ -14,7 +14,7 @@ pub mod core_moves {
 
 /// Of `dsde_routes_pushing`.
 pub mod routes_pushing {
-    pub use dsde_routes_trees::given::routes_pushing::push_equals_gather;
+    pub use dsde_routes_pushing::push_equals_gather;
 }
 
 /// Of `dsde_routes_table`.

@@ -4,7 +4,7 @@ ghost use Rattle.std.specs.Prelude.{◌≡◌, ◌<◌, ◌≤◌, ◌+◌, ◌*
 ghost use Rattle.std.specs.List.{AllByRecursion, flat_map};
 ghost use Rattle.dsde_core_moves.specs.given.system.Program.{system};
 ghost use Rattle.dsde_sim_tree.specs.Told.{Comes};
-ghost use Rattle.dsde_routes_trees.specs.given.sim_movers.Asking.{ask_each};
+ghost use Rattle.dsde_routes_pushing.specs.given.sim_movers.Asking.{ask_each};
 ghost use Rattle.dsde_core_moves.specs.given.core_flat.Due.{AreDue, asked};
 ghost use Rattle.dsde_core_parcels.specs.Outlets.{outlet_with, outlets_by, outlets_from, turn_outlets};
 ghost use Rattle.dsde_core_parcels.specs.Traffic.{AllSend};

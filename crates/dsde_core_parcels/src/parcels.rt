@@ -6,7 +6,7 @@ ghost use Rattle.dsde_bank.specs.declared.handle.Handle.{Handle};
 ghost use Rattle.dsde_routes_wiring.specs.declared.wiring.Wiring.{Wiring};
 ghost use Rattle.dsde_routes_wiring.specs.given.structure.Gather.{Translation};
 ghost use Rattle.dsde_routes_wiring.specs.Sets.{Rows};
-ghost use Rattle.dsde_routes_trees.specs.given.routes_pushing.Carried.{Traffic, received};
+ghost use Rattle.dsde_routes_pushing.specs.Carried.{Traffic, received};
 ghost use Rattle.dsde_core_parcels.specs.declared.parcel.Outlet.{Outlet};
 ghost use Rattle.dsde_core_parcels.specs.declared.parcel.Parcel.{Parcel};
 ghost use Rattle.dsde_core_parcels.specs.declared.inbox.Inbox.{Inbox};
@@ -16,7 +16,7 @@ ghost use Rattle.dsde_core_parcels.specs.Inboxes.{lot_of, put_lots, spread};
 ghost use Rattle.dsde_core_parcels.specs.Brought.{Rise, brought};
 ghost use Rattle.dsde_core_parcels.specs.Sent.{AreParcels, is_for};
 
-use dsde_routes_trees::given::routes_pushing::push_equals_gather;
+use dsde_routes_pushing::push_equals_gather;
 
 /// What the parcels for a port bring, in their order, is what the links of the wiring carry there.
 pub fn parcels_are_received()

@@ -8,7 +8,7 @@ ghost use Rattle.dsde_core_moves.specs.given.system.Fitting.{FitsLeaf};
 ghost use Rattle.dsde_core_moves.specs.given.grove.Grove.{Grove, value_of};
 ghost use Rattle.dsde_sim_tree.specs.declared.sim.Sim.{Sim};
 ghost use Rattle.dsde_core_moves.specs.given.sim_starting.Fitting.{FitsTree};
-ghost use Rattle.dsde_routes_trees.specs.given.sim_movers.Names.{IsNamed};
+ghost use Rattle.dsde_routes_pushing.specs.given.sim_movers.Names.{IsNamed};
 ghost use Rattle.dsde_routes_wiring.specs.declared.wiring.Wiring.{Wiring};
 ghost use Rattle.dsde_core_moves.specs.given.core_flat.spot_Spot.{Spot};
 ghost use Rattle.dsde_core_moves.specs.given.core_flat.spot_Spot_TheVariants as variant;

@@ -18,8 +18,8 @@ ghost use Rattle.dsde_routes_wiring.specs.declared.row.Row.{Row};
 ghost use Rattle.dsde_routes_wiring.specs.declared.wiring.Wiring.{Wiring};
 ghost use Rattle.dsde_routes_wiring.specs.Flatten.{flatten};
 ghost use Rattle.dsde_routes_wiring.specs.Wired.{HasOwnHandles};
-ghost use Rattle.dsde_routes_trees.specs.given.routes_pushing.Fitting.{HavePorts};
-ghost use Rattle.dsde_routes_trees.specs.Wire.{IsTrafficOf, wired_net};
+ghost use Rattle.dsde_routes_pushing.specs.Fitting.{HavePorts};
+ghost use Rattle.dsde_routes_pushing.specs.Wire.{IsTrafficOf, wired_net};
 ghost use Rattle.dsde_core_moves.specs.given.core_flat.spot_Spot.{Spot};
 ghost use Rattle.dsde_core_parcels.specs.declared.parcel.Outlet.{Outlet};
 ghost use Rattle.dsde_core_parcels.specs.declared.parcel.Parcel.{Parcel};
@@ -29,7 +29,7 @@ ghost use Rattle.dsde_core_parcels.specs.Sent.{IsSentBy, TellTargets};
 ghost use Rattle.dsde_core_parcels.specs.Traffic.{GoesToPort, IsCarrying, handle_in, traffic_of};
 
 use dsde_core_moves::given::sound_structures::reach_covers;
-use dsde_routes_trees::given::routes_pushing::rows_lead_to_parts;
+use dsde_routes_pushing::rows_lead_to_parts;
 
 /// Where a network of the program lies in a grove with its wiring, the wiring is that of the tree under
 /// the handles of its parts, and no two of them have one. What lies under the handles is the tree's

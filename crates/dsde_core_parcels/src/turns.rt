@@ -12,19 +12,18 @@ ghost use Rattle.dsde_sim_tree.specs.declared.sim.Net.{Net};
 ghost use Rattle.dsde_sim_tree.specs.declared.sim.Sim.TheVariants as sim;
 ghost use Rattle.dsde_sim_tree.specs.Move.{ins_of};
 ghost use Rattle.dsde_sim_tree.specs.Output.{by_port, output};
-ghost use Rattle.dsde_routes_trees.specs.given.sim_movers.Deliveries.{Delivery, deliveries};
-ghost use Rattle.dsde_routes_trees.specs.given.sim_movers.Turns.{turn_movers};
-ghost use Rattle.dsde_routes_trees.specs.given.sim_movers.Movers.{AreInPathOrder};
-ghost use Rattle.dsde_routes_trees.specs.given.routes_pushing.Carried.{Traffic};
+ghost use Rattle.dsde_routes_pushing.specs.given.sim_movers.Deliveries.{Delivery, deliveries};
+ghost use Rattle.dsde_routes_pushing.specs.given.sim_movers.Turns.{turn_movers};
+ghost use Rattle.dsde_routes_pushing.specs.given.sim_movers.Movers.{AreInPathOrder};
+ghost use Rattle.dsde_routes_pushing.specs.Carried.{Traffic};
 ghost use Rattle.dsde_core_parcels.specs.declared.parcel.Parcel.{Parcel};
 ghost use Rattle.dsde_core_parcels.specs.Brought.{brought};
 ghost use Rattle.dsde_core_parcels.specs.Delivered.{AreTurnParcels, IsBrought, IsCalled, inboxes_of};
 
-use dsde_routes_trees::given::routes_pushing::push_equals_gather;
-use dsde_routes_trees::given::sim_movers::{
+use dsde_routes_pushing::given::sim_movers::{
     deliveries_are_found, leaves_have_deliveries, leaves_have_paths, movers_are_those,
 };
-use dsde_routes_trees::{rows_carry_as_trees, wirings_carry_as_trees};
+use dsde_routes_pushing::{push_equals_gather, rows_carry_as_trees, wirings_carry_as_trees};
 
 /// What comes to each component and each executive in a turn is what the inboxes bring under its
 /// handle, port by port.

@@ -7,3 +7,4 @@ pub mod Whole
 pub mod Each
 pub mod Once
 pub mod Targets
+pub mod Tying

@@ -1,3 +1,3 @@
 -- What crates below declare, for those above: each file under the name of its crate.
-pub mod routes_wiring
+pub mod sim_movers
 pub mod structure

@@ -3,3 +3,4 @@ pub mod Opens
 pub mod Lists
 pub mod Ascending
 pub mod Handles
+pub mod Wires

@@ -4,7 +4,7 @@ use Rattle.dsde_bank.specs.declared.handle.Handle.{Handle}
 use Rattle.dsde_sim_tree.specs.given.formalism.leaf_Leaf.{Leaf}
 use Rattle.dsde_sim_tree.specs.given.formalism.Leaf.{is_due}
 use Rattle.dsde_core_moves.specs.given.grove.Grove.{Grove, value_of}
-use Rattle.dsde_routes_trees.specs.given.routes_pushing.lemmas_Lists.{Among}
+use Rattle.dsde_routes_pushing.specs.lemmas.Lists.{Among}
 use Rattle.dsde_core_moves.specs.given.core_flat.spot_Spot.{Spot}
 use Rattle.dsde_core_moves.specs.given.core_flat.spot_Spot_TheVariants as variant
 use Rattle.dsde_core_moves.specs.given.core_flat.Scheduled.{held_leaf, is_next}

@@ -12,13 +12,13 @@ use Rattle.dsde_sim_tree.specs.declared.sim.Sim.TheVariants as sim
 use Rattle.dsde_sim_tree.specs.declared.sim.Sim.TheOpen.{Net-F}
 use Rattle.dsde_sim_tree.specs.declared.sim.Net.{Net}
 use Rattle.dsde_sim_tree.specs.declared.sim.Sim.TheViews.{out-Net, out-roll-Net}
-use Rattle.dsde_routes_trees.specs.given.sim_movers.Places.{leaves_from, leaves_of_kid}
-use Rattle.dsde_routes_trees.specs.given.sim_movers.lemmas_Opens.{leaves-Leaf, leaves-Net, leaves-kid}
+use Rattle.dsde_routes_pushing.specs.given.sim_movers.Places.{leaves_from, leaves_of_kid}
+use Rattle.dsde_routes_pushing.specs.given.sim_movers.lemmas_Opens.{leaves-Leaf, leaves-Net, leaves-kid}
 use Rattle.dsde_routes_wiring.specs.declared.wiring.Wiring.{Wiring}
 use Rattle.dsde_routes_wiring.specs.declared.wiring.WiredKid.{WiredKid}
 use Rattle.dsde_routes_wiring.specs.declared.wiring.WiredKid.TheViews.{out-Wiring, out-WiredKid}
 use Rattle.dsde_routes_wiring.specs.Opened.{Beneath, each_wiring}
-use Rattle.dsde_routes_trees.specs.given.routes_pushing.lemmas_Lists.{Among}
+use Rattle.dsde_routes_pushing.specs.lemmas.Lists.{Among}
 use Rattle.dsde_core_moves.specs.given.core_flat.Places.{Place, place, kid_places, net_places, part_places}
 use Rattle.dsde_core_moves.specs.given.core_flat.Shown.{Look, args_in, kid_under, leaf_in, model_in, net_under, part_under}
 use Rattle.dsde_core_moves.specs.given.core_flat.lemmas_Apart.{name-shown, sim-shown}

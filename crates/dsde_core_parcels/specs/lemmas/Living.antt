@@ -22,15 +22,15 @@ use Rattle.dsde_sim_tree.specs.declared.sim.Sim.TheOpen.{Sim-F}
 use Rattle.dsde_sim_tree.specs.declared.sim.Sim.TheViews.{out-Net, out-Sim, roll-Sim, roll-out-Sim, rolls-Leaf, rolls-Net}
 use Rattle.dsde_core_moves.specs.given.sim_starting.Fitting.{FitsSpot, FitsTree}
 use Rattle.dsde_core_moves.specs.given.sim_starting.lemmas_Fits.{leaf-tree, net-shape, net-tree}
-use Rattle.dsde_routes_trees.specs.given.sim_movers.Movers as seats
-use Rattle.dsde_routes_trees.specs.given.sim_movers.Movers.{leaf_at, path_behind, seat_behind, seat_of, Seat}
-use Rattle.dsde_routes_trees.specs.given.sim_movers.Names.{IsNamed}
-use Rattle.dsde_routes_trees.specs.given.sim_movers.Parts.{part_at}
-use Rattle.dsde_routes_trees.specs.given.sim_movers.lemmas_Named.{placed-from, IsPlaced}
-use Rattle.dsde_routes_trees.specs.given.sim_movers.lemmas_Seats.{drop-front}
-use Rattle.dsde_routes_trees.specs.given.sim_movers.lemmas_Spotting.{spots-at}
+use Rattle.dsde_routes_pushing.specs.given.sim_movers.Movers as seats
+use Rattle.dsde_routes_pushing.specs.given.sim_movers.Movers.{leaf_at, path_behind, seat_behind, seat_of, Seat}
+use Rattle.dsde_routes_pushing.specs.given.sim_movers.Names.{IsNamed}
+use Rattle.dsde_routes_pushing.specs.given.sim_movers.Parts.{part_at}
+use Rattle.dsde_routes_pushing.specs.given.sim_movers.lemmas_Named.{placed-from, IsPlaced}
+use Rattle.dsde_routes_pushing.specs.given.sim_movers.lemmas_Seats.{drop-front}
+use Rattle.dsde_routes_pushing.specs.given.sim_movers.lemmas_Spotting.{spots-at}
 use Rattle.dsde_routes_wiring.specs.declared.wiring.Wiring.{Wiring}
-use Rattle.dsde_routes_trees.specs.given.routes_pushing.lemmas_Lists.{each-among, Among}
+use Rattle.dsde_routes_pushing.specs.lemmas.Lists.{each-among, Among}
 use Rattle.dsde_core_moves.specs.given.core_flat.spot_Spot.{Spot}
 use Rattle.dsde_core_moves.specs.given.core_flat.spot_Spot_TheVariants as variant
 use Rattle.dsde_core_moves.specs.given.core_flat.Grafts.{path_at}

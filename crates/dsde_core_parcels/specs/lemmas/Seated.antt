@@ -21,11 +21,11 @@ use Rattle.dsde_sim_tree.specs.declared.sim.Sim.TheOpen.{Net-F}
 use Rattle.dsde_sim_tree.specs.declared.sim.Sim.TheViews.{out-Kid}
 use Rattle.dsde_sim_tree.specs.Start.{net_of}
 use Rattle.dsde_sim_tree.specs.Tree.{name_of}
-use Rattle.dsde_routes_trees.specs.given.sim_movers.Movers as seats
-use Rattle.dsde_routes_trees.specs.given.sim_movers.Movers.{leaf_at, seat_behind, seat_of, Seat}
-use Rattle.dsde_routes_trees.specs.given.sim_movers.lemmas_Named.{net-places, names-of, IsPlaced}
-use Rattle.dsde_routes_trees.specs.given.sim_movers.lemmas_Seats.{boss-at-whole, drop-front, leaf-within, net_with, out-Leaf, same-kid, seat-in-net, whole, NoneNamed}
-use Rattle.dsde_routes_trees.specs.given.sim_movers.lemmas_Spotting.{opened}
+use Rattle.dsde_routes_pushing.specs.given.sim_movers.Movers as seats
+use Rattle.dsde_routes_pushing.specs.given.sim_movers.Movers.{leaf_at, seat_behind, seat_of, Seat}
+use Rattle.dsde_routes_pushing.specs.given.sim_movers.lemmas_Named.{net-places, names-of, IsPlaced}
+use Rattle.dsde_routes_pushing.specs.given.sim_movers.lemmas_Seats.{boss-at-whole, drop-front, leaf-within, net_with, out-Leaf, same-kid, seat-in-net, whole, NoneNamed}
+use Rattle.dsde_routes_pushing.specs.given.sim_movers.lemmas_Spotting.{opened}
 use Rattle.dsde_routes_wiring.specs.declared.wiring.Wiring.{Wiring}
 use Rattle.dsde_routes_wiring.specs.declared.wiring.WiredKid.{WiredKid}
 use Rattle.dsde_routes_wiring.specs.declared.wiring.WiredKid.TheViews.{out-Wiring, out-WiredKid}

@@ -5,8 +5,8 @@ use Rattle.std.proofs.lemmas.Bool.Decides.{nat_tests}
 use Rattle.std.proofs.lemmas.Map.Keys.{IsDistinct-head, IsDistinct-tail}
 use Rattle.dsde_bank.specs.declared.handle.Handle.{Handle}
 use Rattle.dsde_routes_wiring.specs.Wired.{is_same_handle}
-use Rattle.dsde_routes_trees.specs.given.routes_pushing.lemmas_Handles.{both-true, same-handle}
-use Rattle.dsde_routes_trees.specs.given.routes_pushing.lemmas_Lists.{Among, each-among, wrong}
+use Rattle.dsde_routes_pushing.specs.lemmas.Handles.{both-true, same-handle}
+use Rattle.dsde_routes_pushing.specs.lemmas.Lists.{Among, each-among, wrong}
 use Rattle.dsde_core_parcels.specs.declared.parcel.Outlet.{Outlet}
 use Rattle.dsde_core_parcels.specs.Sent.{is_at, is_same_port, sent_at}
 

@@ -12,7 +12,7 @@ use Rattle.dsde_core_moves.specs.given.grove.Grove as grove
 use Rattle.dsde_core_moves.specs.given.grove.Grove.{Grove, value_of}
 use Rattle.dsde_sim_tree.specs.declared.sim.Net.{Net}
 use Rattle.dsde_routes_wiring.specs.declared.wiring.Wiring.{Wiring}
-use Rattle.dsde_routes_trees.specs.given.routes_pushing.lemmas_Lists.{wrong}
+use Rattle.dsde_routes_pushing.specs.lemmas.Lists.{wrong}
 use Rattle.dsde_core_moves.specs.given.core_flat.spot_Spot.{Spot}
 use Rattle.dsde_core_moves.specs.given.core_flat.spot_Spot_TheVariants as variant
 use Rattle.dsde_core_moves.specs.given.core_flat.Places.{Place, place}

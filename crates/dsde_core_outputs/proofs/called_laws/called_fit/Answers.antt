@@ -14,7 +14,7 @@ use Rattle.dsde_core_parcels.specs.given.routes_wiring.Flatten.{flatten}
 use Rattle.dsde_core_parcels.specs.given.routes_pushing.Carried.{pushed}
 use Rattle.dsde_core_parcels.specs.given.routes_pushing.Pushed.{AreRowsTo}
 use Rattle.dsde_core_parcels.specs.given.routes_pushing.lemmas_Lists.{all-from}
-use Rattle.dsde_core_parcels.specs.given.routes_trees.Wire.{wired_net}
+use Rattle.dsde_core_parcels.specs.given.routes_pushing.Wire.{wired_net}
 use Rattle.dsde_core_parcels.specs.given.core_flat.Shown.{leaf_in}
 use Rattle.dsde_core_parcels.specs.declared.inbox.Inbox.{Inbox}
 use Rattle.dsde_core_parcels.specs.Brought.{brought, Rise}

@@ -1,6 +1,6 @@
 use Rattle.std.proofs.Common.{◌≡◌, ◌++◌, length}
 use Rattle.std.specs.List.{filter_map}
-use Rattle.dsde_routes_trees.specs.given.routes_pushing.Carried.{along}
+use Rattle.dsde_routes_pushing.specs.Carried.{along}
 use Rattle.dsde_core_moves.specs.given.system.Program.{system}
 use Rattle.dsde_core_parcels.specs.Along.{GoAlong}
 use Rattle.dsde_core_parcels.proofs.along.all_along.Given as goal

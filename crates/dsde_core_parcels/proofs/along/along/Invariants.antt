@@ -1,5 +1,5 @@
 use Rattle.std.proofs.Common.{◌≡◌, length}
-use Rattle.dsde_routes_trees.specs.given.routes_pushing.Carried.{along}
+use Rattle.dsde_routes_pushing.specs.Carried.{along}
 use Rattle.dsde_core_moves.specs.given.system.Program.{system}
 use Rattle.dsde_core_parcels.specs.Along.{GoesAlong}
 use Rattle.dsde_core_parcels.proofs.along.along.Given as goal

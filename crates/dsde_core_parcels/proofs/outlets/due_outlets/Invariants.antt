@@ -1,7 +1,7 @@
 use Rattle.std.proofs.Common.{◌≡◌, ◌+◌, ◌*◌, ◌≤◌, ◌++◌, length, map}
 use Rattle.std.specs.List.{AllByRecursion, flat_map}
 use Rattle.dsde_core_moves.specs.given.system.Program.{system}
-use Rattle.dsde_routes_trees.specs.given.sim_movers.Asking.{ask_each}
+use Rattle.dsde_routes_pushing.specs.given.sim_movers.Asking.{ask_each}
 use Rattle.dsde_core_moves.specs.given.core_flat.Due.{asked}
 use Rattle.dsde_core_parcels.specs.Outlets.{outlets_by}
 use Rattle.dsde_core_parcels.specs.Asking.{IsNextAt, SendsAt}

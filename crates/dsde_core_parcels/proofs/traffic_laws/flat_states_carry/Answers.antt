@@ -1,5 +1,5 @@
 use Rattle.dsde_routes_wiring.specs.Wired.{handles}
-use Rattle.dsde_routes_trees.specs.given.routes_pushing.lemmas_Lists.{among-from}
+use Rattle.dsde_routes_pushing.specs.lemmas.Lists.{among-from}
 use Rattle.dsde_core_parcels.proofs.Carrying.{has-own-handles, have-ports, is-traffic, root-is, row-goes, tell-targets, wired-is}
 use Rattle.dsde_core_parcels.proofs.traffic_laws.flat_states_carry.Goals as goal
 

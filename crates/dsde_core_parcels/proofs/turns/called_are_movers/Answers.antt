@@ -7,8 +7,8 @@ use Rattle.dsde_sim_tree.specs.given.formalism.leaf_Leaf.{Leaf}
 use Rattle.dsde_sim_tree.specs.declared.sim.Sim.TheVariants as sim
 use Rattle.dsde_sim_tree.specs.Move.{ins_of}
 use Rattle.dsde_sim_tree.specs.Output.{by_port}
-use Rattle.dsde_routes_trees.specs.given.sim_movers.Deliveries.{deliveries}
-use Rattle.dsde_routes_trees.specs.given.sim_movers.Movers.{leaf_at, path_behind, seat_of}
+use Rattle.dsde_routes_pushing.specs.given.sim_movers.Deliveries.{deliveries}
+use Rattle.dsde_routes_pushing.specs.given.sim_movers.Movers.{leaf_at, path_behind, seat_of}
 use Rattle.dsde_core_parcels.specs.Delivered.{inboxes_of}
 use Rattle.dsde_core_parcels.proofs.Calling.{called-moves, moves-called}
 use Rattle.dsde_core_parcels.proofs.turns.called_are_movers.Goals as goal

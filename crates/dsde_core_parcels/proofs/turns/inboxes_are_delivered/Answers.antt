@@ -6,12 +6,12 @@ use Rattle.dsde_sim_tree.specs.given.formalism.System.{Ports}
 use Rattle.dsde_sim_tree.specs.declared.sim.Sim.TheVariants as sim
 use Rattle.dsde_sim_tree.specs.Move.{ins_of}
 use Rattle.dsde_sim_tree.specs.Output.{by_port}
-use Rattle.dsde_routes_trees.specs.given.sim_movers.Deliveries.{Delivery, deliveries}
+use Rattle.dsde_routes_pushing.specs.given.sim_movers.Deliveries.{Delivery, deliveries}
 use Rattle.dsde_routes_wiring.specs.declared.row.Row.{Row}
 use Rattle.dsde_routes_wiring.specs.Flatten.{flatten}
-use Rattle.dsde_routes_trees.specs.given.routes_pushing.Carried.{pushed}
-use Rattle.dsde_routes_trees.specs.given.routes_pushing.Pushed.{AreRowsTo}
-use Rattle.dsde_routes_trees.specs.Wire.{wired_net}
+use Rattle.dsde_routes_pushing.specs.Carried.{pushed}
+use Rattle.dsde_routes_pushing.specs.Pushed.{AreRowsTo}
+use Rattle.dsde_routes_pushing.specs.Wire.{wired_net}
 use Rattle.dsde_core_parcels.specs.Brought.{brought}
 use Rattle.dsde_core_parcels.specs.Delivered.{inboxes_of}
 use Rattle.dsde_core_parcels.proofs.Cut.{inboxes-bring, target_of, told-parcels}

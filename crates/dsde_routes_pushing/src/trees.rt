@@ -9,15 +9,15 @@ ghost use Rattle.dsde_sim_movers.specs.given.sim_tree.sim_Net.{Net};
 ghost use Rattle.dsde_sim_movers.specs.given.sim_tree.sim_Sim_TheVariants as sim;
 ghost use Rattle.dsde_sim_movers.specs.given.sim_tree.Output.{output};
 ghost use Rattle.dsde_sim_movers.specs.Deliveries as tree;
-ghost use Rattle.dsde_routes_pushing.specs.given.routes_wiring.row_Row.{Row};
-ghost use Rattle.dsde_routes_pushing.specs.given.routes_wiring.Flatten.{flatten};
-ghost use Rattle.dsde_routes_pushing.specs.given.routes_wiring.Wired.{HasOwnHandles};
+ghost use Rattle.dsde_routes_wiring.specs.declared.row.Row.{Row};
+ghost use Rattle.dsde_routes_wiring.specs.Flatten.{flatten};
+ghost use Rattle.dsde_routes_wiring.specs.Wired.{HasOwnHandles};
 ghost use Rattle.dsde_routes_pushing.specs.Carried.{Traffic, load, pushed};
 ghost use Rattle.dsde_routes_pushing.specs.Fitting.{HavePorts};
 ghost use Rattle.dsde_routes_pushing.specs.Pushed.{AreRowsTo};
-ghost use Rattle.dsde_routes_trees.specs.Wire.{IsTrafficOf, handed, wired_net};
+ghost use Rattle.dsde_routes_pushing.specs.Wire.{IsTrafficOf, handed, wired_net};
 
-use dsde_routes_pushing::push_equals_gather;
+use crate::pushing::push_equals_gather;
 
 /// What the links of a tree carry in a turn to its components and executives, and what it sends, is
 /// what those of its wiring carry, whatever handles its parts have. The root of the wiring has the handle

@@ -1,10 +1,5 @@
 //! What crates below give, for those above: each under the name of its crate.
 
-/// Of `dsde_routes_pushing`.
-pub mod routes_pushing {
-    pub use dsde_routes_pushing::{push_equals_gather, rows_lead_to_parts};
-}
-
 /// Of `dsde_sim_movers`.
 pub mod sim_movers {
     pub use dsde_sim_movers::{

@@ -18,9 +18,9 @@ use Rattle.dsde_sim_movers.specs.given.sim_tree.sim_Sim_TheOpen.{Sim-F, Net-F, K
 use Rattle.dsde_sim_movers.specs.given.sim_tree.sim_Sim_TheOpen as layer
 use Rattle.dsde_sim_movers.specs.given.sim_tree.Output.{sent}
 use Rattle.dsde_sim_movers.specs.Deliveries as tree
-use Rattle.dsde_routes_pushing.specs.given.routes_wiring.wiring_Wiring.{Wiring}
-use Rattle.dsde_routes_pushing.specs.given.routes_wiring.wiring_WiredKid.{WiredKid}
-use Rattle.dsde_routes_pushing.specs.given.routes_wiring.wiring_WiredKid_TheViews.{roll-Wiring, roll-WiredKid}
+use Rattle.dsde_routes_wiring.specs.declared.wiring.Wiring.{Wiring}
+use Rattle.dsde_routes_wiring.specs.declared.wiring.WiredKid.{WiredKid}
+use Rattle.dsde_routes_wiring.specs.declared.wiring.WiredKid.TheViews.{roll-Wiring, roll-WiredKid}
 use Rattle.dsde_routes_pushing.specs.Carried.{Traffic, Delivery}
 
 -- the wiring of a part at a path, if it is a network, of a component and of a network

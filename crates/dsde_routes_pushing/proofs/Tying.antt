@@ -31,14 +31,14 @@ use Rattle.dsde_sim_movers.specs.given.sim_tree.lemmas_Trees.{each_tree}
 use Rattle.dsde_sim_movers.specs.Deliveries as tree
 use Rattle.dsde_sim_movers.specs.Deliveries.{KidReceives, shared, deliveries, deliveries_of_kid}
 use Rattle.dsde_sim_movers.specs.lemmas.Opens.{deliveries-Leaf, deliveries-Net, deliveries-kid}
-use Rattle.dsde_routes_pushing.specs.given.routes_wiring.wiring_Wiring.{Wiring}
-use Rattle.dsde_routes_pushing.specs.given.routes_wiring.wiring_WiredKid.{WiredKid}
-use Rattle.dsde_routes_pushing.specs.given.routes_wiring.wiring_WiredKid_TheOpen.{Wiring-F, WiredKid-F}
+use Rattle.dsde_routes_wiring.specs.declared.wiring.Wiring.{Wiring}
+use Rattle.dsde_routes_wiring.specs.declared.wiring.WiredKid.{WiredKid}
+use Rattle.dsde_routes_wiring.specs.declared.wiring.WiredKid.TheOpen.{Wiring-F, WiredKid-F}
 use Rattle.dsde_routes_pushing.specs.Carried as load
 use Rattle.dsde_routes_pushing.specs.Carried.{Traffic, Delivery, KidLoad, NetLoad, load, load_of_kid}
 use Rattle.dsde_routes_pushing.specs.lemmas.Opens.{load-opens, load_kid-opens}
-use Rattle.dsde_routes_trees.specs.Wire.{WiredAt, wired, wired_kid, wired_net, handed, Place, Places, places, places_of_kid, IsOf}
-use Rattle.dsde_routes_trees.specs.lemmas.Opens.{places-kid, places-Leaf, places-Net, wired-Leaf, wired-Net, wired_kid-opens, wired_net-opens}
+use Rattle.dsde_routes_pushing.specs.Wire.{WiredAt, wired, wired_kid, wired_net, handed, Place, Places, places, places_of_kid, IsOf}
+use Rattle.dsde_routes_pushing.specs.lemmas.Wires.{places-kid, places-Leaf, places-Net, wired-Leaf, wired-Net, wired_kid-opens, wired_net-opens}
 
 -- how many in ports a part of this layer has
 abbrev ins_in : System → Sim-F Sim Kid Net → ℕ

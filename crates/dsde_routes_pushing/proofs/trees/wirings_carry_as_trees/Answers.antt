@@ -1,5 +1,5 @@
-use Rattle.dsde_routes_trees.proofs.Tying.{each-tied, root-handle}
-use Rattle.dsde_routes_trees.proofs.laws.wirings_carry_as_trees.Goals as goal
+use Rattle.dsde_routes_pushing.proofs.Tying.{each-tied, root-handle}
+use Rattle.dsde_routes_pushing.proofs.trees.wirings_carry_as_trees.Goals as goal
 
 pub returns-clause-received : goal.returns-clause-received
 returns-clause-received c = λ system handle time traffic net path of got. (each-tied system handle time traffic of.translate net path of.each).1 got

@@ -2,7 +2,7 @@ use Rattle.dsde_routes_wiring.specs.Flatten.{rows, is_to}
 use Rattle.std.specs.List.{filter}
 use Rattle.dsde_routes_pushing.proofs.Each.{each_pushed}
 use Rattle.dsde_routes_pushing.proofs.Whole.{pushed_is_received, are_rows}
-use Rattle.dsde_routes_pushing.proofs.laws.push_equals_gather.Goals as goal
+use Rattle.dsde_routes_pushing.proofs.pushing.push_equals_gather.Goals as goal
 
 pub returns-clause-pushed : goal.returns-clause-pushed
 returns-clause-pushed c = λ traffic wiring own have target port list are. pushed_is_received wiring own target port traffic have list are

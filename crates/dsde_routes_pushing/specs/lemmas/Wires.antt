@@ -12,11 +12,11 @@ use Rattle.dsde_sim_movers.specs.given.sim_tree.sim_Sim_TheFolds.{fold-roll-Sim,
 use Rattle.dsde_sim_movers.specs.given.sim_tree.sim_Sim_TheOpen as layer
 use Rattle.dsde_sim_movers.specs.given.sim_tree.sim_Sim_TheVariants as sim
 use Rattle.dsde_sim_movers.specs.given.sim_tree.sim_Sim_TheViews.{out-Kid, out-Net, roll-out-Kid, roll-out-Net, rolls-Leaf, rolls-Net}
-use Rattle.dsde_routes_pushing.specs.given.routes_wiring.wiring_Wiring.{Wiring}
-use Rattle.dsde_routes_pushing.specs.given.routes_wiring.wiring_WiredKid.{WiredKid}
-use Rattle.dsde_routes_pushing.specs.given.routes_wiring.wiring_WiredKid_TheOpen.{Wiring-F, WiredKid-F}
-use Rattle.dsde_routes_pushing.specs.given.routes_wiring.wiring_WiredKid_TheViews.{out-Wiring, out-WiredKid, out-roll-Wiring, out-roll-WiredKid}
-use Rattle.dsde_routes_trees.specs.Wire.{Wired, WiredAt, NetWired, wire_step, wire_kid, wire_net, wired, wired_kid, wired_net, Places, place_step, place_kid, place_net, places, places_of_kid, places_of_net}
+use Rattle.dsde_routes_wiring.specs.declared.wiring.Wiring.{Wiring}
+use Rattle.dsde_routes_wiring.specs.declared.wiring.WiredKid.{WiredKid}
+use Rattle.dsde_routes_wiring.specs.declared.wiring.WiredKid.TheOpen.{Wiring-F, WiredKid-F}
+use Rattle.dsde_routes_wiring.specs.declared.wiring.WiredKid.TheViews.{out-Wiring, out-WiredKid, out-roll-Wiring, out-roll-WiredKid}
+use Rattle.dsde_routes_pushing.specs.Wire.{Wired, WiredAt, NetWired, wire_step, wire_kid, wire_net, wired, wired_kid, wired_net, Places, place_step, place_kid, place_net, places, places_of_kid, places_of_net}
 
 pub places-Leaf : (leaf : Leaf) (path : Path) → places (sim.Leaf leaf) path ≡ record { path = path; what = inl leaf } ∷ []
 places-Leaf leaf path =

@@ -1,12 +1,12 @@
 use Rattle.std.proofs.Common.{◌≡◌, ℕ, List, [], get_or}
 use Rattle.std.specs.List.{flat_map}
-use Rattle.dsde_routes_pushing.specs.given.routes_wiring.row_Row.{Row}
-use Rattle.dsde_routes_pushing.specs.given.routes_wiring.Flatten.{flatten}
+use Rattle.dsde_routes_wiring.specs.declared.row.Row.{Row}
+use Rattle.dsde_routes_wiring.specs.Flatten.{flatten}
 use Rattle.dsde_routes_pushing.specs.Carried.{Delivery, pushed}
 use Rattle.dsde_routes_pushing.specs.Pushed.{AreRowsTo}
-use Rattle.dsde_routes_trees.specs.Wire.{wired_net}
-use Rattle.dsde_routes_trees.proofs.Tying.{each-handed}
-use Rattle.dsde_routes_trees.proofs.laws.rows_carry_as_trees.Goals as goal
+use Rattle.dsde_routes_pushing.specs.Wire.{wired_net}
+use Rattle.dsde_routes_pushing.proofs.Tying.{each-handed}
+use Rattle.dsde_routes_pushing.proofs.trees.rows_carry_as_trees.Goals as goal
 
 pub returns : goal.returns
 returns c = λ system handle time traffic net path of own have.

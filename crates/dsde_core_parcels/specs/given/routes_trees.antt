@@ -1,1 +1,0 @@
-pub use Rattle.dsde_routes_trees.specs.Wire

@@ -1,7 +1,0 @@
-pub use Rattle.dsde_routes_wiring.specs.Flatten
-pub use Rattle.dsde_routes_wiring.specs.Wired
-pub use Rattle.dsde_routes_wiring.specs.declared.row.Row as row_Row
-pub use Rattle.dsde_routes_wiring.specs.declared.wiring.WiredKid as wiring_WiredKid
-pub use Rattle.dsde_routes_wiring.specs.declared.wiring.WiredKid.TheOpen as wiring_WiredKid_TheOpen
-pub use Rattle.dsde_routes_wiring.specs.declared.wiring.WiredKid.TheViews as wiring_WiredKid_TheViews
-pub use Rattle.dsde_routes_wiring.specs.declared.wiring.Wiring as wiring_Wiring

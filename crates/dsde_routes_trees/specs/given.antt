@@ -1,3 +1,0 @@
--- What crates below declare, for those above: each file under the name of its crate.
-pub mod routes_pushing
-pub mod sim_movers
