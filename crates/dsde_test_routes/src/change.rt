@@ -3,8 +3,7 @@
 use dsde_bank::Handle;
 use dsde_base::Steps;
 use dsde_lists::Memory;
-use dsde_repair::repair;
-use dsde_repair_fitting::{add_beneath, add_handles, fits_change};
+use dsde_repair::{add_beneath, add_handles, fits_change, repair};
 use dsde_routes::build;
 use dsde_routes_table::RouteTable;
 use dsde_routes_wiring::{Links, Row, WiredKid, Wiring};

@@ -6,7 +6,7 @@ use dsde_bank::Handle;
 use dsde_base::Steps;
 use dsde_language::ViaId;
 use dsde_lists::{Boxed, Memory, Stem};
-use dsde_repair_fitting::add_handles;
+use dsde_repair::add_handles;
 use dsde_routes::build;
 use dsde_routes_wiring::{Links, WiredKid, Wiring};
 use dsde_structure::{End, Link, Part, Via};

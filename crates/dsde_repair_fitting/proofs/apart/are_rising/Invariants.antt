@@ -1,6 +1,0 @@
-use Rattle.std.proofs.Common.{drop}
-use Rattle.dsde_repair_fitting.specs.Rising.{AreRising}
-use Rattle.dsde_repair_fitting.proofs.apart.are_rising.Given as goal
-
-abbrev pub invariant-loop-index : goal.invariant-loop-index
-invariant-loop-index l = AreRising (drop l.index l.handles) → AreRising l.handles

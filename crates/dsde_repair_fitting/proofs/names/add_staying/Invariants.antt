@@ -1,7 +1,0 @@
-use Rattle.std.proofs.Common.{◌≡◌, ◌++◌, map, drop}
-use Rattle.dsde_routes_wiring.specs.Places.{staying}
-use Rattle.dsde_repair_walks.specs.Found.{name_of}
-use Rattle.dsde_repair_fitting.proofs.names.add_staying.Given as goal
-
-abbrev pub invariant-loop-kid : goal.invariant-loop-kid
-invariant-loop-kid l = l.names ++ map name_of (staying l.gone (drop l.kid-index l.kids)) ≡ l.fn.names ++ map name_of (staying l.gone l.kids)
