@@ -11,7 +11,7 @@ ghost use Rattle.dsde_repair.specs.Walks.{at_ways, over_link, past_around, past_
 
 use dsde_lists::Memory;
 use dsde_repair_walks::{Way, extend_all, find_kid, is_border_end, one_way, ways_of_kid};
-use dsde_routes_wiring::given::structure::{End, Link, Part};
+use dsde_routes_wiring::given::structure::{End, Part};
 use dsde_routes_wiring::{Side, WiredKid, Wiring, far, near};
 use dsde_values::{Name, Seq};
 use std::alloc::Global;
@@ -72,31 +72,14 @@ fn past_numbered(
 {
     match net.links.as_slice().get(number) {
         None => Ok(()),
-        Some(link) => past_over(alloc, side, net, name, rest, port, number, link, ways),
+        Some(link) => {
+            if !is_border_end(port, near(side, link)) {
+                return Ok(());
+            }
+            let more = past_end(alloc, side, net, name, rest, far(side, link))?;
+            extend_all(alloc, side, number, link, more, ways)
+        }
     }
-}
-
-/// Adds those over one link.
-#[cycle(past)]
-fn past_over(
-    alloc: Global,
-    side: Side,
-    net: &Wiring,
-    name: &Name,
-    rest: &[Name],
-    port: u32,
-    number: usize,
-    link: &Link,
-    ways: &mut Seq<Way>,
-) -> Result<(), Memory>
-    requires { AreWired net.now }
-    ensures { OnOk result (ways.new ≡ ways.old ++ over_link side (past_around no_ways name.now rest.now net.now) (out-Wiring net.now).me port (number, link.now)) }
-{
-    if !is_border_end(port, near(side, link)) {
-        return Ok(());
-    }
-    let more = past_end(alloc, side, net, name, rest, far(side, link))?;
-    extend_all(alloc, side, number, link, more, ways)
 }
 
 /// Those of what stands at an end.

@@ -14,34 +14,12 @@ use crate::past::open_past;
 use crate::rows::{crossing_rows, open_ways};
 use dsde_lists::Memory;
 use dsde_repair_walks::{cross, find_kid};
-use dsde_routes_wiring::given::structure::{Link, Part};
+use dsde_routes_wiring::given::structure::Part;
 use dsde_routes_wiring::{Row, Side, Wiring};
 use dsde_values::{Name, Seq};
 use std::alloc::Global;
 
-/// Adds the rows over one link whose way before it passes a place beneath a component.
-fn out_link(
-    alloc: Global,
-    net: &Wiring,
-    whole: bool,
-    name: &Name,
-    rest: &[Name],
-    number: usize,
-    link: &Link,
-    rows: &mut Seq<Row>,
-) -> Result<(), Memory>
-    requires { AreWired net.now }
-    ensures { OnOk result (rows.new ≡ rows.old ++ between_link (only (passing_kids name.now rest.now (out-Wiring net.now).kids)) (open_around whole net.now) (out-Wiring net.now).me (number, link.now)) }
-{
-    let passing = passing_end(alloc, Side::Out, net, name, rest, &link.from)?;
-    if passing.is_empty() {
-        return Ok(());
-    }
-    let afters = open_ways(alloc, Side::Into, net, whole, &link.to)?;
-    cross(alloc, number, link, passing, afters.as_slice(), rows)
-}
-
-/// The same of the link of a number.
+/// Adds the rows over the link of a number, if the way before it passes a place beneath a component.
 fn out_numbered(
     alloc: Global,
     net: &Wiring,
@@ -56,7 +34,15 @@ fn out_numbered(
 {
     match net.links.as_slice().get(number) {
         None => Ok(()),
-        Some(link) => out_link(alloc, net, whole, name, rest, number, link, rows),
+        Some(link) => {
+            let passing = passing_end(alloc, Side::Out, net, name, rest, &link.from)?;
+            if passing.is_empty() {
+                return Ok(());
+            }
+            let afters = open_ways(alloc, Side::Into, net, whole, &link.to)?;
+            let onward = afters.as_slice();
+            cross(alloc, number, link, passing, onward, rows)
+        }
     }
 }
 
@@ -82,29 +68,8 @@ fn out_all(
     Ok(())
 }
 
-/// Adds the rows over one link whose way before it does not pass that place, and whose way after it does.
-fn into_link(
-    alloc: Global,
-    net: &Wiring,
-    whole: bool,
-    name: &Name,
-    rest: &[Name],
-    number: usize,
-    link: &Link,
-    rows: &mut Seq<Row>,
-) -> Result<(), Memory>
-    requires { AreWired net.now }
-    ensures { OnOk result (rows.new ≡ rows.old ++ between_link (past_around (beyond whole (out-Wiring net.now).me) name.now rest.now net.now) (only (passing_kids name.now rest.now (out-Wiring net.now).kids)) (out-Wiring net.now).me (number, link.now)) }
-{
-    let passing = passing_end(alloc, Side::Into, net, name, rest, &link.to)?;
-    if passing.is_empty() {
-        return Ok(());
-    }
-    let past = open_past(alloc, Side::Out, net, whole, name, rest, &link.from)?;
-    cross(alloc, number, link, past, passing.as_slice(), rows)
-}
-
-/// The same of the link of a number.
+/// Adds the rows over the link of a number, if the way before it does not pass that place, and the way after
+/// it does.
 fn into_numbered(
     alloc: Global,
     net: &Wiring,
@@ -119,7 +84,15 @@ fn into_numbered(
 {
     match net.links.as_slice().get(number) {
         None => Ok(()),
-        Some(link) => into_link(alloc, net, whole, name, rest, number, link, rows),
+        Some(link) => {
+            let passing = passing_end(alloc, Side::Into, net, name, rest, &link.to)?;
+            if passing.is_empty() {
+                return Ok(());
+            }
+            let past = open_past(alloc, Side::Out, net, whole, name, rest, &link.from)?;
+            let onward = passing.as_slice();
+            cross(alloc, number, link, past, onward, rows)
+        }
     }
 }
 

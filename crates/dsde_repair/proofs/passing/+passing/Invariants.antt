@@ -20,9 +20,6 @@ decreases-passing_above l = 6 * length l.rest.now + 5
 abbrev pub decreases-passing_numbered : goal.decreases-passing_numbered
 decreases-passing_numbered l = 6 * length l.rest.now + 4
 
-abbrev pub decreases-passing_over : goal.decreases-passing_over
-decreases-passing_over l = 6 * length l.rest.now + 3
-
 abbrev pub decreases-passing_end : goal.decreases-passing_end
 decreases-passing_end l = 6 * length l.rest.now + 2
 

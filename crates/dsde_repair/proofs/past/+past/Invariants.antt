@@ -20,9 +20,6 @@ decreases-past_above l = 6 * length l.rest.now + 5
 abbrev pub decreases-past_numbered : goal.decreases-past_numbered
 decreases-past_numbered l = 6 * length l.rest.now + 4
 
-abbrev pub decreases-past_over : goal.decreases-past_over
-decreases-past_over l = 6 * length l.rest.now + 3
-
 abbrev pub decreases-past_end : goal.decreases-past_end
 decreases-past_end l = 6 * length l.rest.now + 2
 

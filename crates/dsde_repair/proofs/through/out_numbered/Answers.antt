@@ -4,6 +4,7 @@ use Rattle.dsde_routes_wiring.specs.Places.{only}
 use Rattle.dsde_repair_walks.proofs.Serving.{link-none, link-some}
 use Rattle.dsde_repair.specs.Walks.{between_link, open_around, passing_kids}
 use Rattle.dsde_repair.proofs.Changing.{ok-map}
+use Rattle.dsde_repair.proofs.Thoroughfares.{link-between, none-before}
 use Rattle.dsde_repair.proofs.through.out_numbered.Goals as goal
 
 pub returns-in-None : goal.returns-in-None
@@ -11,10 +12,21 @@ returns-in-None c =
     sym (ap (λ more. c.args.rows.now ++ more) (link-none (between_link (only (passing_kids c.args.name.now c.args.rest.now (out-Wiring c.args.net.now).kids)) (open_around c.args.whole c.args.net.now) (out-Wiring c.args.net.now).me) (out-Wiring c.args.net.now).links c.args.number
     (subst (λ links. length links ≤ c.args.number) c.as_slice.ensures c.in-None.ensures.lookup.3)) ∙ append-nil c.args.rows.now)
 
-pub returns-in-Some : goal.returns-in-Some
-returns-in-Some c =
-    ok-map c.out_link.result _ _
-    (λ is. is ∙ ap (λ more. c.args.rows.now ++ more) (sym (link-some (between_link (only (passing_kids c.args.name.now c.args.rest.now (out-Wiring c.args.net.now).kids)) (open_around c.args.whole c.args.net.now) (out-Wiring c.args.net.now).me) (out-Wiring c.args.net.now).links c.args.number c.in-Some.link.now
+pub returns-then-is_empty : goal.returns-then-is_empty
+returns-then-is_empty c =
+    sym (ap (λ more. c.args.rows.now ++ more)
+    (link-some (between_link (only (passing_kids c.args.name.now c.args.rest.now (out-Wiring c.args.net.now).kids)) (open_around c.args.whole c.args.net.now) (out-Wiring c.args.net.now).me) (out-Wiring c.args.net.now).links c.args.number c.in-Some.link.now
+    (subst (λ links. c.args.number < length links) c.as_slice.ensures c.in-Some.ensures.lookup.3.0)
+    (c.in-Some.ensures.lookup.1 ∙ ap (λ links. get_or links c.args.number c.in-Some.link.now) c.as_slice.ensures)
+    ∙ none-before (only (passing_kids c.args.name.now c.args.rest.now (out-Wiring c.args.net.now).kids)) (open_around c.args.whole c.args.net.now) (out-Wiring c.args.net.now).me c.args.number c.in-Some.link.now c.in_ok-passing-in-Some.passing c.in_ok-passing-in-Some.ensures (c.is_empty.ensures.0 c.if-is_empty.true))
+    ∙ append-nil c.args.rows.now)
+
+pub returns-in_ok-afters-in-Some : goal.returns-in_ok-afters-in-Some
+returns-in_ok-afters-in-Some c =
+    ok-map c.cross.result _ _
+    (λ is. is ∙ ap (λ more. c.args.rows.now ++ more)
+    (link-between (only (passing_kids c.args.name.now c.args.rest.now (out-Wiring c.args.net.now).kids)) (open_around c.args.whole c.args.net.now) (out-Wiring c.args.net.now).me c.args.number c.in-Some.link.now c.in_ok-passing-in-Some.passing c.as_slice-onward.result.now c.in_ok-passing-in-Some.ensures (c.as_slice-onward.ensures ∙ c.in_ok-afters-in-Some.ensures)
+    ∙ sym (link-some (between_link (only (passing_kids c.args.name.now c.args.rest.now (out-Wiring c.args.net.now).kids)) (open_around c.args.whole c.args.net.now) (out-Wiring c.args.net.now).me) (out-Wiring c.args.net.now).links c.args.number c.in-Some.link.now
     (subst (λ links. c.args.number < length links) c.as_slice.ensures c.in-Some.ensures.lookup.3.0)
     (c.in-Some.ensures.lookup.1 ∙ ap (λ links. get_or links c.args.number c.in-Some.link.now) c.as_slice.ensures))))
-    c.out_link.ensures
+    c.cross.ensures
