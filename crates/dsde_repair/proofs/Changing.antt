@@ -87,9 +87,6 @@ pub after-is : (place : List Name) (kids : List WiredKid) (links : List Link) (w
 after-is place kids links wiring bare after q t =
     t ∙ ap (changed place (renewed links kids)) q ∙ changed-chain (renewed links kids) bared (renewed links kids) (renewed-bared links kids) place wiring
 
-pub same-after : (place gone : List Name) (fresh taken stay kids : List WiredKid) (wiring : Wiring) → taken ≡ kids_at place wiring → stay ≡ staying gone taken → IsPermutation (stay ++ fresh) kids → IsPermutation (kids_after place gone fresh wiring) kids
-same-after place gone fresh taken stay kids wiring p r same = subst (λ own_kids. IsPermutation (own_kids ++ fresh) kids) (r ∙ ap (staying gone) p) same
-
 each-wired : (kids : List WiredKid) → AllByRecursion IsBelowWired kids → AllByRecursion (KidEach IsWired) kids
 each-wired [] wired = tt
 each-wired (kid ∷ kids) wired = (by (out-WiredKid kid).below wired.0, each-wired kids wired.1) where
@@ -170,25 +167,15 @@ going-wired place gone wiring there named kids is =
     subst (AllByRecursion IsBelowWired) (sym (is ∙ ap (going gone) (kids-there place wiring there.0 there.1))) (each-filter IsBelowWired (has_name gone) (out-Wiring there.0).kids (kids-below-wired there.0 own_named))
 
 -- A whole repair, from what each of its steps gives.
-module _ {X E : Type 0} (result : Result X E) (place gone : List Name) (fresh taken stay went kids : List WiredKid) (links : List Link) (wiring bare then : Wiring)
+module _ {X E : Type 0} (result : Result X E) (place gone : List Name) (fresh kids : List WiredKid) (links : List Link) (wiring then : Wiring)
     (there : LeadsThere place wiring) (wired : AreWired wiring) (distinct : AreDistinct (handles_of wiring ++ flat_map handles_of_kid fresh))
-    (is_taken : taken ≡ kids_at place wiring) (is_bare : bare ≡ changed place bared wiring) (is_stay : stay ≡ staying gone taken) (is_went : went ≡ going gone taken) (same : IsPermutation (stay ++ fresh) kids) (order : InOrder kids)
-    (is_then : then ≡ changed place (renewed links kids) bare) (inside_links : AllByRecursion LeadsInside links) (below : AllByRecursion IsBelowWired fresh)
-    (passing going_rows coming passing_then : List Row) (p : passing ≡ map row_of (through (own (out-Wiring wiring).me) place wiring)) (q : going_rows ≡ map row_of (inside went))
+    (all : IsPermutation (kids_after place gone fresh wiring) kids) (order : InOrder kids) (is : then ≡ wiring_after place kids links wiring) (inside_links : AllByRecursion LeadsInside links) (below : AllByRecursion IsBelowWired fresh)
+    (passing going_rows coming passing_then : List Row) (p : passing ≡ map row_of (through (own (out-Wiring wiring).me) place wiring)) (gone_rows : going_rows ≡ map row_of (inside (going gone (kids_at place wiring))))
     (r : coming ≡ map row_of (inside fresh)) (s : passing_then ≡ map row_of (through (own (out-Wiring then).me) place then)) (table new_table : Rows) (rows : table ≡ flatten wiring)
     (has : OnOk result ((row : Row) → set.contains new_table row ≡ among passing_then row || (among coming row || (set.contains table row && not (among passing row) && not (among going_rows row)))))
   where
-    is : then ≡ wiring_after place kids links wiring
-    is = after-is place kids links wiring bare then is_bare is_then
-
-    all : IsPermutation (kids_after place gone fresh wiring) kids
-    all = same-after place gone fresh taken stay kids wiring is_taken is_stay same
-
     wired_then : AreWired then
     wired_then = subst AreWired (sym is) (after-wired place gone fresh kids links wiring there wired all order inside_links below)
-
-    gone_rows : going_rows ≡ map row_of (inside (going gone (kids_at place wiring)))
-    gone_rows = q ∙ ap (λ own_kids. map row_of (inside own_kids)) (is_went ∙ ap (going gone) is_taken)
 
     pub table-repaired : OnOk result (new_table ≡ flatten then)
     table-repaired =

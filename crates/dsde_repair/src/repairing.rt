@@ -1,6 +1,6 @@
 //! Rows, kept while a network changes.
 
-ghost use Rattle.std.specs.Prelude.{◌≡◌, ◌+◌, List, [], ◌∷◌, ◌++◌, map, IsPermutation, OnOk};
+ghost use Rattle.std.specs.Prelude.{◌≡◌, ◌+◌, List, [], ◌∷◌, ◌++◌, map, IsPermutation, IfOk, OnOk};
 ghost use Rattle.std.specs.List.{flat_map, AllByRecursion, IsDistinct};
 ghost use Rattle.dsde_repair_walks.specs.Bounds.{count};
 ghost use Rattle.dsde_routes_wiring.specs.Wired.{AreWired, LeadsInside, is_same_handle};
@@ -9,8 +9,8 @@ ghost use Rattle.dsde_routes_wiring.specs.given.structure.Survival.{AreInOrder};
 ghost use Rattle.dsde_routes_wiring.specs.declared.wiring.WiredKid.{WiredKid};
 ghost use Rattle.dsde_routes_wiring.specs.declared.wiring.Wiring.{Wiring};
 ghost use Rattle.dsde_routes_wiring.specs.declared.wiring.WiredKid.TheViews.{out-Wiring};
-ghost use Rattle.dsde_routes_wiring.specs.Routes.{routes};
-ghost use Rattle.dsde_routes_wiring.specs.Places.{nets_at};
+ghost use Rattle.dsde_routes_wiring.specs.Routes.{row_of, routes};
+ghost use Rattle.dsde_routes_wiring.specs.Places.{bared, changed, going, inside, kids_at, nets_at, staying};
 ghost use Rattle.dsde_routes_wiring.specs.Touched.{handles_of, handles_of_kid, is_touched};
 ghost use Rattle.dsde_routes_wiring.specs.Flatten.{flatten};
 ghost use Rattle.dsde_repair_walks.specs.Found.{InOrder, name_of};
@@ -18,14 +18,14 @@ ghost use Rattle.dsde_repair_walks.specs.Places.{IsBelowWired};
 ghost use Rattle.dsde_repair.specs.Change.{LeadsThere, kids_after, wiring_after};
 
 use crate::order::in_order;
-use crate::parts::{exchange, part};
+use crate::parts::{Parted, exchange, part};
 use crate::rows::inside_rows;
 use crate::through::passing_rows;
 use dsde_base::Steps;
 use dsde_lists::Memory;
 use dsde_repair_walks::given::routes_table::RouteTable;
 use dsde_repair_walks::{renew, take_out};
-use dsde_routes_wiring::{Links, WiredKid, Wiring};
+use dsde_routes_wiring::{Links, Row, WiredKid, Wiring};
 use dsde_values::{Name, Seq};
 use std::alloc::Global;
 use std::sync::ledger::Ledger;
@@ -60,19 +60,65 @@ pub fn repair<L: Ledger>(
         changes.new ≡ changes.old + count (is_touched (out-Wiring net).me (handles_of wiring.new)) (routes wiring.old) + count (is_touched (out-Wiring net).me (handles_of wiring.old)) (routes wiring.new)) }
 {
     let passing = passing_rows(alloc, wiring, place)?;
-    let kids = take_out(alloc, wiring, place)?;
-    let parted = part(alloc, kids, gone)?;
-    let going = inside_rows(alloc, parted.going.as_slice())?;
-    let coming = inside_rows(alloc, fresh.as_slice())?;
-    let kids = in_order(alloc, parted.staying, fresh)?;
-    renew(alloc, wiring, place, links, kids)?;
+    let moved = exchange_kids(alloc, wiring, place, gone, fresh, links)?;
     let passing_then = passing_rows(alloc, wiring, place)?;
+    let coming = moved.coming;
     exchange(
         table,
         passing.as_slice(),
-        going.as_slice(),
+        moved.going.as_slice(),
         coming,
         passing_then,
         changes,
     )
+}
+
+/// The rows inside the components that go, and inside those that come.
+#[derive(Drop)]
+struct Moved {
+    going: Seq<Row>,
+    coming: Seq<Row>,
+}
+
+/// Takes the components at a place out, and those that go from among them.
+fn take_parted(
+    alloc: Global,
+    wiring: &mut Wiring,
+    place: &[Name],
+    gone: &[Name],
+) -> Result<Parted, Memory>
+    requires wired { AreWired wiring.old }
+    requires gone { AreInOrder gone.now }
+    ensures going { IfOk result (λ parted. parted.going ≡ going gone.now (kids_at place.now wiring.old)) }
+    ensures staying { IfOk result (λ parted. parted.staying ≡ staying gone.now (kids_at place.now wiring.old)) }
+    ensures wiring { OnOk result (wiring.new ≡ changed place.now bared wiring.old) }
+{
+    let kids = take_out(alloc, wiring, place)?;
+    part(alloc, kids, gone)
+}
+
+/// Changes the network at a place of a wiring.
+fn exchange_kids(
+    alloc: Global,
+    wiring: &mut Wiring,
+    place: &[Name],
+    gone: &[Name],
+    fresh: Seq<WiredKid>,
+    links: Links,
+) -> Result<Moved, Memory>
+    requires there { LeadsThere place.now wiring.old }
+    requires wired { AreWired wiring.old }
+    requires gone { AreInOrder gone.now }
+    requires names { IsDistinct is_same_name (map name_of (kids_after place.now gone.now fresh wiring.old)) }
+    requires below { AllByRecursion IsBelowWired fresh }
+    ensures wiring { OnOk result ((kids : List WiredKid) × IsPermutation (kids_after place.now gone.now fresh wiring.old) kids × InOrder kids × (wiring.new ≡ wiring_after place.now kids links wiring.old)) }
+    ensures going { IfOk result (λ moved. moved.going ≡ map row_of (inside (going gone.now (kids_at place.now wiring.old)))) }
+    ensures coming { IfOk result (λ moved. moved.coming ≡ map row_of (inside fresh)) }
+{
+    let parted = take_parted(alloc, wiring, place, gone)?;
+    let going = inside_rows(alloc, parted.going.as_slice())?;
+    let coming = inside_rows(alloc, fresh.as_slice())?;
+    let kids = in_order(alloc, parted.staying, fresh)?;
+    renew(alloc, wiring, place, links, kids)?;
+    Ok(Moved { going, coming })
 }
