@@ -1,13 +1,12 @@
-//! Changes of a wiring, and tables that are compared.
+//! Changes of a wiring.
 
-use dsde_bank::Handle;
+use crate::rows::{Difference, compare};
 use dsde_base::Steps;
 use dsde_lists::Memory;
 use dsde_repair::{add_beneath, add_handles, fits_change, repair};
 use dsde_routes::build;
-use dsde_routes_table::RouteTable;
-use dsde_routes_wiring::{Links, Row, WiredKid, Wiring};
-use dsde_structure::{Link, Via};
+use dsde_routes_wiring::{Links, WiredKid, Wiring};
+use dsde_structure::Link;
 use dsde_values::{Name, Seq};
 use std::alloc::Global;
 use std::sync::ledger::Ledger;
@@ -21,75 +20,12 @@ pub struct Change {
     pub links: Seq<Link>,
 }
 
-/// How a table differs from another: how many rows only the first has, and only the other.
-#[derive(Clone, Copy)]
-pub struct Difference {
-    pub gone: u64,
-    pub fresh: u64,
-}
-
-/// What a change came to: rows that went and that came, and how the table that was kept differs from
+/// What a change came to: how the table before it differs from the one that is kept, and that one from
 /// one that is built anew.
 #[derive(Clone, Copy)]
 pub struct Outcome {
     pub changed: Difference,
     pub wrong: Difference,
-}
-
-fn are_same_vias(one: &[Via], other: &[Via]) -> bool {
-    let mut index: usize = 0;
-    for via in one {
-        match other.get(index) {
-            Some(own) if own.id.0 == via.id.0 => index = index.saturating_add(1),
-            _ => return false,
-        }
-    }
-    index == other.len()
-}
-
-fn are_same(one: &Row, other: &Row) -> bool {
-    one.source == other.source
-        && one.source_port == other.source_port
-        && one.target == other.target
-        && one.target_port == other.target_port
-        && one.rank.as_slice() == other.rank.as_slice()
-        && are_same_vias(one.chain.as_slice(), other.chain.as_slice())
-}
-
-/// How many of these rows are none of the others.
-fn missing(rows: &[Row], others: &[Row]) -> u64 {
-    let mut count: u64 = 0;
-    for row in rows {
-        let mut found = false;
-        for other in others {
-            if are_same(row, other) {
-                found = true;
-            }
-        }
-        if !found {
-            count = count.saturating_add(1);
-        }
-    }
-    count
-}
-
-/// Adds how the rows from a port differ.
-fn add_port(one: &RouteTable, other: &RouteTable, source: Handle, port: u32, all: &mut Difference) {
-    let rows = one.rows_from(source, port);
-    let others = other.rows_from(source, port);
-    all.gone = all.gone.saturating_add(missing(rows, others));
-    all.fresh = all.fresh.saturating_add(missing(others, rows));
-}
-
-/// How two tables differ in the rows from these sources.
-fn compare(one: &RouteTable, other: &RouteTable, sources: &[Handle]) -> Difference {
-    let mut all = Difference { gone: 0, fresh: 0 };
-    for source in sources {
-        for port in 0..2 {
-            add_port(one, other, *source, port, &mut all);
-        }
-    }
-    all
 }
 
 /// Makes a change, if it fits, and compares the table that is kept with the one before and with one that
@@ -134,8 +70,12 @@ pub fn make<L: Ledger>(
         changes,
     )?;
     let anew = build(alloc, wiring, changes)?;
+    let turned = compare(&table, before, sources.as_slice(), changes);
     Ok(Some(Outcome {
-        changed: compare(&before, &table, sources.as_slice()),
-        wrong: compare(&table, &anew, sources.as_slice()),
+        changed: Difference {
+            gone: turned.fresh,
+            fresh: turned.gone,
+        },
+        wrong: compare(&table, anew, sources.as_slice(), changes),
     }))
 }

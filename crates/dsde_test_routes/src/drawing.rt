@@ -1,39 +1,53 @@
 //! Wirings and changes that are drawn.
 
-use crate::change::Change;
+use crate::change::{Change, make};
+use crate::parts::{add_link, leaf, nested};
 use dsde_bank::Handle;
+use dsde_base::Steps;
 use dsde_language::ViaId;
-use dsde_lists::{Boxed, Memory, Stem};
+use dsde_lists::Memory;
 use dsde_routes_wiring::{Links, WiredKid, Wiring};
-use dsde_structure::{End, Link, Part, Via};
+use dsde_structure::{Link, Via};
 use dsde_values::{Name, Seq};
 use rand_core::utils::NextWord;
 use rand_pcg::Lcg64Xsh32;
 use std::alloc::Global;
+use std::str;
+use std::sync::ledger::Ledger;
 
-/// A generator, and how many handles were given out.
+/// A generator, how many handles were given out, how many changes fitted, and in how many rows their
+/// tables were wrong.
 #[derive(Drop)]
-pub struct Dice {
+struct Dice {
     words: Lcg64Xsh32,
     births: u64,
+    fitting: u64,
+    wrong: u64,
 }
 
-/// The name of one letter.
-pub fn named(alloc: Global, letter: u8) -> Result<Name, Memory> {
-    Ok(Name {
-        stem: Stem::from_slice(alloc, &[letter])?,
-        index: None,
-    })
-}
-
-/// Whether one of these names is this one.
-fn has(names: &[Name], name: &Name) -> bool {
-    for own in names {
-        if *own == *name {
-            return true;
-        }
+/// Draws so many changes, and writes what came of them.
+pub fn draw_all<L: Ledger>(
+    alloc: Global,
+    count: u64,
+    changes: &mut Steps<L>,
+    lines: &mut String,
+) -> Result<(), Memory> {
+    let mut dice = Dice {
+        words: Lcg64Xsh32::new(1, 1),
+        births: 0,
+        fitting: 0,
+        wrong: 0,
+    };
+    for _ in 0..count / 2 {
+        dice.draw(alloc, changes)?;
     }
-    false
+    let fitting = dice.fitting;
+    let wrong = dice.wrong;
+    writeln!(
+        lines,
+        "drawn {count}, fitting {fitting}, {wrong} rows wrong"
+    )?;
+    Ok(())
 }
 
 /// The first component from this one on that is a network.
@@ -49,11 +63,29 @@ fn inner(kids: &[WiredKid], first: usize) -> Option<&WiredKid> {
 }
 
 impl Dice {
-    pub fn new(seed: u64) -> Dice {
-        Dice {
-            words: Lcg64Xsh32::new(seed, 1),
-            births: 0,
+    /// Draws a wiring and two changes of it, one after the other.
+    fn draw<L: Ledger>(&mut self, alloc: Global, changes: &mut Steps<L>) -> Result<(), Memory> {
+        let count = self.below(7);
+        let mut nets = self.nets(alloc, count)?;
+        let mut wiring = self.net(alloc, &mut nets)?;
+        self.draw_change(alloc, &mut wiring, changes)?;
+        self.draw_change(alloc, &mut wiring, changes)
+    }
+
+    /// Draws a change of a wiring, and makes it.
+    fn draw_change<L: Ledger>(
+        &mut self,
+        alloc: Global,
+        wiring: &mut Wiring,
+        changes: &mut Steps<L>,
+    ) -> Result<(), Memory> {
+        let change = self.change(alloc, wiring)?;
+        if let Some(outcome) = make(alloc, wiring, change, changes)? {
+            let wrong = outcome.wrong.gone.saturating_add(outcome.wrong.fresh);
+            self.fitting = self.fitting.saturating_add(1);
+            self.wrong = self.wrong.saturating_add(wrong);
         }
+        Ok(())
     }
 
     /// A number below this one, or 0.
@@ -76,52 +108,16 @@ impl Dice {
         }
     }
 
-    /// A component: one of these networks, or an atomic one.
-    fn kid(
-        &mut self,
-        alloc: Global,
-        name: Name,
-        nets: &mut Vec<Wiring>,
-    ) -> Result<WiredKid, Memory> {
-        if self.below(2) == 0 {
-            if let Some(net) = nets.pop() {
-                let handle = net.me;
-                let below = Some(Boxed::new(alloc, net)?);
-                return Ok(WiredKid {
-                    name,
-                    handle,
-                    below,
-                });
-            }
+    /// `net`, `exec` or one of these names.
+    fn part<'n>(&mut self, names: &[&'n str]) -> &'n str {
+        match self.below(8) {
+            0 => "net",
+            1 => "exec",
+            _ => match names.get(self.below(names.len())) {
+                None => "exec",
+                Some(name) => *name,
+            },
         }
-        Ok(WiredKid {
-            name,
-            handle: self.handle(),
-            below: None,
-        })
-    }
-
-    /// A part of a network with components of these names.
-    fn part(&mut self, alloc: Global, names: &[Name]) -> Result<Part, Memory> {
-        let count = names.len();
-        let which = self.below(8);
-        if which == 0 {
-            return Ok(Part::Net);
-        }
-        if which == 1 {
-            return Ok(Part::Boss);
-        }
-        match names.get(self.below(count)) {
-            None => Ok(Part::Boss),
-            Some(name) => Ok(Part::Kid(name.copy(alloc)?)),
-        }
-    }
-
-    fn end(&mut self, alloc: Global, names: &[Name]) -> Result<End, Memory> {
-        Ok(End {
-            part: self.part(alloc, names)?,
-            port: self.small(2),
-        })
     }
 
     fn via(&mut self) -> Option<Via> {
@@ -136,35 +132,62 @@ impl Dice {
     }
 
     /// Some links of a network with components of these names.
-    fn links(&mut self, alloc: Global, names: &[Name]) -> Result<Seq<Link>, Memory> {
+    fn links(&mut self, alloc: Global, names: &[&str]) -> Result<Seq<Link>, Memory> {
         let mut links = Seq::new(alloc);
         for _ in 0..self.below(10) {
-            let from = self.end(alloc, names)?;
-            let to = self.end(alloc, names)?;
-            if !(matches!(&from.part, Part::Net) && matches!(&to.part, Part::Net)) {
-                links.push(Link {
-                    from,
-                    to,
-                    via: self.via(),
-                })?;
+            let from = self.part(names);
+            let out = self.small(2);
+            let to = self.part(names);
+            let port = self.small(2);
+            if from != "net" || to != "net" {
+                let via = self.via();
+                add_link(alloc, &mut links, from, out, to, port, via)?;
             }
         }
         Ok(links)
+    }
+
+    /// A component: the last of these networks, or an atomic one.
+    fn kid(
+        &mut self,
+        alloc: Global,
+        name: &str,
+        nets: &mut Vec<Wiring>,
+    ) -> Result<WiredKid, Memory> {
+        if self.below(2) == 0 {
+            if let Some(net) = nets.pop() {
+                return nested(alloc, name, net);
+            }
+        }
+        let handle = self.handle();
+        leaf(alloc, name, handle)
+    }
+
+    /// Components of some of these letters that are no names yet; adds them to the names.
+    fn kids<'n>(
+        &mut self,
+        alloc: Global,
+        letters: &[&'n str],
+        sides: usize,
+        names: &mut Vec<&'n str>,
+        nets: &mut Vec<Wiring>,
+    ) -> Result<Seq<WiredKid>, Memory> {
+        let mut kids = Seq::new(alloc);
+        for letter in letters {
+            if self.below(sides) > 1 && !names.as_slice().contains(letter) {
+                names.push(*letter)?;
+                kids.push(self.kid(alloc, *letter, nets)?)?;
+            }
+        }
+        Ok(kids)
     }
 
     /// A network, some of whose components are these.
     fn net(&mut self, alloc: Global, nets: &mut Vec<Wiring>) -> Result<Wiring, Memory> {
         let me = self.handle();
         let boss = self.handle();
-        let mut kids = Seq::new(alloc);
-        let mut names = Seq::new(alloc);
-        for letter in b"abcde" {
-            if self.below(5) > 1 {
-                let name = named(alloc, *letter)?;
-                names.push(name.copy(alloc)?)?;
-                kids.push(self.kid(alloc, name, nets)?)?;
-            }
-        }
+        let mut names = Vec::new(alloc);
+        let kids = self.kids(alloc, &["a", "b", "c", "d", "e"], 5, &mut names, nets)?;
         let links = self.links(alloc, names.as_slice())?;
         Ok(Wiring {
             me,
@@ -182,13 +205,6 @@ impl Dice {
             nets.push(net)?;
         }
         Ok(nets)
-    }
-
-    /// A wiring of at most seven networks.
-    pub fn wiring(&mut self, alloc: Global) -> Result<Wiring, Memory> {
-        let count = self.below(7);
-        let mut nets = self.nets(alloc, count)?;
-        self.net(alloc, &mut nets)
     }
 
     /// A network of a wiring; adds its place to the names.
@@ -212,46 +228,33 @@ impl Dice {
     }
 
     /// Some of these components, by name; adds the others to the names.
-    fn gone(
+    fn gone<'w>(
         &mut self,
         alloc: Global,
-        kids: &[WiredKid],
-        names: &mut Seq<Name>,
+        kids: &'w [WiredKid],
+        names: &mut Vec<&'w str>,
     ) -> Result<Seq<Name>, Memory> {
         let mut gone = Seq::new(alloc);
         for kid in kids {
-            let name = kid.name.copy(alloc)?;
             if self.below(3) == 0 {
-                gone.push(name)?;
+                gone.push(kid.name.copy(alloc)?)?;
             } else {
-                names.push(name)?;
+                names.push(str::from_utf8(kid.name.stem.as_slice()).unwrap_or(""))?;
             }
         }
         Ok(gone)
     }
 
-    /// Some components of other names than these, which are added to them.
-    fn fresh(&mut self, alloc: Global, names: &mut Seq<Name>) -> Result<Seq<WiredKid>, Memory> {
-        let count = self.below(4);
-        let mut nets = self.nets(alloc, count)?;
-        let mut fresh = Seq::new(alloc);
-        for letter in b"gfedcba" {
-            let name = named(alloc, *letter)?;
-            if self.below(3) == 0 && !has(names.as_slice(), &name) {
-                names.push(name.copy(alloc)?)?;
-                fresh.push(self.kid(alloc, name, &mut nets)?)?;
-            }
-        }
-        Ok(fresh)
-    }
-
-    /// A change of one network of a wiring.
-    pub fn change(&mut self, alloc: Global, wiring: &Wiring) -> Result<Change, Memory> {
+    /// A change of one network of a wiring, whose fresh components have other names than those that stay.
+    fn change(&mut self, alloc: Global, wiring: &Wiring) -> Result<Change, Memory> {
         let mut place = Seq::new(alloc);
         let net = self.place(alloc, wiring, &mut place)?;
-        let mut names = Seq::new(alloc);
+        let mut names = Vec::new(alloc);
         let gone = self.gone(alloc, net.kids.as_slice(), &mut names)?;
-        let fresh = self.fresh(alloc, &mut names)?;
+        let count = self.below(4);
+        let mut nets = self.nets(alloc, count)?;
+        let letters = &["g", "f", "e", "d", "c", "b", "a"];
+        let fresh = self.kids(alloc, letters, 3, &mut names, &mut nets)?;
         let links = self.links(alloc, names.as_slice())?;
         Ok(Change {
             place,

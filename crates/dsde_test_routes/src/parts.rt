@@ -1,0 +1,64 @@
+//! What wirings are put together from.
+
+use dsde_bank::Handle;
+use dsde_lists::{Boxed, Memory, Stem};
+use dsde_routes_wiring::{WiredKid, Wiring};
+use dsde_structure::{End, Link, Part, Via};
+use dsde_values::{Name, Seq};
+use std::alloc::Global;
+
+pub fn named(alloc: Global, word: &str) -> Result<Name, Memory> {
+    Ok(Name {
+        stem: Stem::from_slice(alloc, word.as_bytes())?,
+        index: None,
+    })
+}
+
+/// An atomic component.
+pub fn leaf(alloc: Global, word: &str, handle: Handle) -> Result<WiredKid, Memory> {
+    Ok(WiredKid {
+        name: named(alloc, word)?,
+        handle,
+        below: None,
+    })
+}
+
+/// A network as a component of another.
+pub fn nested(alloc: Global, word: &str, net: Wiring) -> Result<WiredKid, Memory> {
+    Ok(WiredKid {
+        name: named(alloc, word)?,
+        handle: net.me,
+        below: Some(Boxed::new(alloc, net)?),
+    })
+}
+
+/// The part that a word tells: `net`, `exec` or a name.
+fn part(alloc: Global, word: &str) -> Result<Part, Memory> {
+    Ok(match word {
+        "net" => Part::Net,
+        "exec" => Part::Boss,
+        _ => Part::Kid(named(alloc, word)?),
+    })
+}
+
+/// Adds a link from a port of a part to one of another.
+pub fn add_link(
+    alloc: Global,
+    links: &mut Seq<Link>,
+    from: &str,
+    out: u32,
+    to: &str,
+    port: u32,
+    via: Option<Via>,
+) -> Result<(), Memory> {
+    let from = part(alloc, from)?;
+    let to = part(alloc, to)?;
+    links.push(Link {
+        from: End {
+            part: from,
+            port: out,
+        },
+        to: End { part: to, port },
+        via,
+    })
+}
