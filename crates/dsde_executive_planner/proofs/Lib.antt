@@ -1,3 +1,4 @@
 mod Naming
+mod Placing
 mod Searching
 mod Drawing

@@ -21,7 +21,7 @@ use Rattle.dsde_executive_plans.specs.Layout.{is_there}
 use Rattle.dsde_executive_planner.specs.declared.entries.Chosen.{Chosen}
 use Rattle.dsde_executive_planner.specs.Entries.{entry_of}
 
-total : IsTotalOrder name_cmp
+pub total : IsTotalOrder name_cmp
 total = search (comparing, rules)
 
 -- a component at an index

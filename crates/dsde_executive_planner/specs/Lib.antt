@@ -1,3 +1,4 @@
 pub mod Entries
+pub mod Few
 pub mod Drawing
 pub mod given

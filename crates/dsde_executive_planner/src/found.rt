@@ -18,7 +18,7 @@ fn stands_at(entries: &[Entry], index: usize, name: &Name) -> bool
 }
 
 /// Where the component of a name stands.
-fn index_of(entries: &[Entry], name: &Name) -> Option<usize>
+pub(crate) fn index_of(entries: &[Entry], name: &Name) -> Option<usize>
     requires { IsInOrder entries.now }
     ensures { is_some result ≡ is_there name.now entries.now }
 {

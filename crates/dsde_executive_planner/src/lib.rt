@@ -3,6 +3,7 @@
 
 mod drawn;
 mod entries;
+mod few;
 mod found;
 pub mod given;
 mod planner;

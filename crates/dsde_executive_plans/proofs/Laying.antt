@@ -18,7 +18,7 @@ use Rattle.dsde_structure.specs.given.language.Outcome.{Fault, Outcome, ◌>>=�
 use Rattle.dsde_structure.specs.given.language.Meaning.{Function, Vars, mean, values_of, with_var}
 use Rattle.dsde_executive_plans.specs.Layout.{Layout, Lay, ArmLay, most, inserted, is_there, with_entry, with_link, index_of, end_of, via_of, lay, lay_all, braced, last_lay, arms_lay, for_one, for_lay, item_step, item_arm_step, tied, structure}
 use Rattle.dsde_structure.specs.Survival.{IsInOrder}
-use Rattle.dsde_executive_plans.proofs.Inserting.{empty-in-order, inserted-in-order}
+use Rattle.dsde_executive_plans.specs.lemmas.Inserting.{empty-in-order, inserted-in-order}
 
 -- What came to an end behind a step came behind what that step came to.
 bound : {A B : Type 0} (P : Type 0) (found : Outcome A) (next : A → Outcome B) (last : B) → (found >>= next) ≡ Ok last → ((value : A) → found ≡ Ok value → next value ≡ Ok last → P) → P

@@ -1,2 +1,1 @@
-mod Inserting
 mod Laying

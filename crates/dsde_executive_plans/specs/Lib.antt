@@ -1,3 +1,4 @@
 pub mod Layout
 pub mod Drafts
+pub mod lemmas
 pub mod given

@@ -1,6 +1,6 @@
 use Rattle.std.proofs.Common.{◌≡◌, map}
 use Rattle.dsde_executive_planner.specs.Entries.{entry_of}
-use Rattle.dsde_executive_planner.proofs.entries.Entries.into_seq.Given as goal
+use Rattle.dsde_executive_planner.proofs.entries.listed.Given as goal
 
 abbrev pub invariant-loop-name : goal.invariant-loop-name
 invariant-loop-name l = l.entries ≡ map entry_of l.yielded
