@@ -10,7 +10,7 @@ use Rattle.dsde_core_moves.specs.given.sim_gathering.Boxes.{added, changed, empt
 use Rattle.dsde_core_parcels.specs.Ports.{add_all}
 
 -- what a test lets come
-abbrev when : Bool → List Value → List Value
+abbrev pub when : Bool → List Value → List Value
 when test values = cond test values []
 
 apart : (n m : ℕ) → n < m → (n == m) ≡ false
@@ -29,7 +29,7 @@ module _ (f : ℕ → List Value) (values : List Value) where
   none-later at first (suc many) below = rw (apart at first below, append-nil, none-later at (first + 1) many (omega arith)) refl
 
   -- one port takes them
-  one-takes : (port first at many : ℕ) → port + first ≡ at →
+  pub one-takes : (port first at many : ℕ) → port + first ≡ at →
       map (λ port. f port ++ when (at == port) values) (range_with_len first many) ≡ added port values (map f (range_with_len first many))
   one-takes port first at zero is = refl
   one-takes zero first at (suc many) is =

@@ -8,6 +8,7 @@ mod Delivering
 mod Flowing
 mod Going
 mod Handling
+mod ItemPorts
 mod Members
 mod Outgoing
 mod OutletSending

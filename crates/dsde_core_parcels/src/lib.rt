@@ -7,6 +7,7 @@ mod along;
 mod call_laws;
 pub mod given;
 mod inbox;
+mod items;
 mod outlet_laws;
 mod outlets;
 mod parcel;

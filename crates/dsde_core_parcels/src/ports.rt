@@ -31,7 +31,7 @@ fn add(ports: &mut Seq<Values>, get: Get) -> Result<(), Memory>
 }
 
 /// No values yet at each of so many ports.
-fn empty_ports(alloc: Global, ports: usize) -> Result<Seq<Values>, Memory>
+pub(crate) fn empty_ports(alloc: Global, ports: usize) -> Result<Seq<Values>, Memory>
     ensures { IfOk result (λ got. got ≡ empty_ports ports) }
 {
     let mut got = Seq::new(alloc);

@@ -11,13 +11,14 @@ ghost use Rattle.dsde_core_moves.specs.given.sim_starting.Fitting.{FitsBodySent}
 ghost use Rattle.dsde_core_moves.specs.given.core_flat.Shown.{leaf_in};
 ghost use Rattle.dsde_core_parcels.specs.Asking.{AllFit, IsNextAt};
 
+use crate::items::into_ports;
 use dsde_base::Steps;
 use dsde_core_moves::given::atomic::{output_leaf, ports_out};
 use dsde_core_moves::given::check_tables::narrow;
 use dsde_core_moves::given::core_flat::{Due, Spot, leaf_at};
 use dsde_core_moves::given::grove::Grove;
 use dsde_core_moves::given::program::Program;
-use dsde_core_moves::given::sim_starting::{by_port, is_due};
+use dsde_core_moves::given::sim_starting::is_due;
 use dsde_core_moves::given::sim_telling::at;
 use dsde_core_moves::given::sound_structures::{reach_covers, sent_fits};
 use dsde_faults::LeafEnd;
@@ -55,7 +56,7 @@ pub fn sent(
     reach_covers();
     let items = sent_at(alloc, program, leaf, time)?;
     let ports = narrow(ports_out(program, leaf.model))?;
-    Ok(by_port(alloc, ports, items.as_slice())?)
+    Ok(into_ports(alloc, ports, items)?)
 }
 
 /// What somebody who is due sends, port by port. A fault comes exactly where its output faults.
