@@ -1,6 +1,5 @@
 -- How many inboxes there are.
-use Rattle.std.proofs.Common.{◌≡◌, ◌==◌, ℕ, ◌+◌, ◌≤◌, Bool, true, false, if◌then◌else◌, List, [], ◌∷◌, ◌++◌, length, map, refl, ap, arith, length-append}
-use Rattle.std.specs.List.{flat_map}
+use Rattle.std.proofs.Common.{◌==◌, ℕ, ◌+◌, ◌≤◌, Bool, true, false, List, [], ◌∷◌, length, refl, ap, arith, length-append}
 use Rattle.dsde_values.specs.declared.value.Value.{Value}
 use Rattle.dsde_routes_wiring.specs.given.structure.Gather.{Translation}
 use Rattle.dsde_routes_wiring.specs.declared.row.Row.{Row}

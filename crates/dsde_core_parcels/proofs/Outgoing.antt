@@ -11,7 +11,7 @@ use Rattle.dsde_language.specs.DeclaredModels.{types_of, Own, owns_of}
 use Rattle.dsde_sim_tree.specs.given.formalism.leaf_Leaf.{Leaf}
 use Rattle.dsde_sim_tree.specs.given.formalism.System.{Ports}
 use Rattle.dsde_sim_tree.specs.given.formalism.Leaf as leaf
-use Rattle.dsde_sim_tree.specs.given.formalism.Leaf.{Gives, component_of, is_due, output_leaf}
+use Rattle.dsde_sim_tree.specs.given.formalism.Leaf.{component_of, is_due, output_leaf}
 use Rattle.dsde_core_moves.specs.given.system.Program.{system, component_at}
 use Rattle.dsde_core_moves.specs.given.system.Fitting.{FitsSends, Reach}
 use Rattle.dsde_core_moves.specs.given.system.Plans.{body_ways}

@@ -12,7 +12,7 @@ use Rattle.dsde_values.specs.Path.{path_cmp}
 use Rattle.dsde_sim_tree.specs.given.formalism.leaf_Leaf.{Leaf}
 use Rattle.dsde_sim_tree.specs.given.formalism.System.{Ports, System}
 use Rattle.dsde_sim_tree.specs.given.formalism.Leaf as leaf
-use Rattle.dsde_sim_tree.specs.given.formalism.Leaf.{component_of, is_due, output_leaf}
+use Rattle.dsde_sim_tree.specs.given.formalism.Leaf.{component_of, output_leaf}
 use Rattle.dsde_core_moves.specs.given.grove.Grove.{Grove, value_of}
 use Rattle.dsde_sim_tree.specs.Output.{by_port, values_at}
 use Rattle.dsde_routes_wiring.specs.Wired.{is_same_handle}
