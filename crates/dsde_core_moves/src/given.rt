@@ -45,7 +45,7 @@ pub mod sim_moving {
 
 /// Of `dsde_sim_starting`.
 pub mod sim_starting {
-    pub use dsde_sim_changing::given::sim_starting::{by_port, is_due};
+    pub use dsde_sim_changing::given::sim_starting::is_due;
 }
 
 /// Of `dsde_sim_telling`.

@@ -5,4 +5,4 @@ mod paths;
 mod tell;
 
 pub use paths::{at, below, boss_of};
-pub use tell::{tell_drop, tell_gets, tell_leaf, tell_move, tell_net, tell_outs};
+pub use tell::{tell_drop, tell_gets, tell_leaf, tell_net, tell_outs};

@@ -1,7 +1,7 @@
 //! Events, each told by a call of its own.
 
 ghost use Rattle.std.specs.Prelude.{◌≡◌, ◌<◌, ◌^◌, ◌++◌, ◌∷◌, [], length, OnOk, OnErr};
-ghost use Rattle.dsde_sim_tree.specs.declared.event.Event.TheVariants.{AddNet, AddLeaf, Get, Move, Drop};
+ghost use Rattle.dsde_sim_tree.specs.declared.event.Event.TheVariants.{AddNet, AddLeaf, Get, Drop};
 ghost use Rattle.dsde_sim_tree.specs.Told.{IsCut, below};
 ghost use Rattle.dsde_sim_tree.specs.Move.{gets_at, gets_from};
 ghost use Rattle.dsde_sim_tree.specs.Output.{outs_at, outs_from};
@@ -9,7 +9,7 @@ ghost use Rattle.dsde_sim_tree.specs.Output.{outs_at, outs_from};
 use crate::paths::{below, copy_path};
 use dsde_language::ModelId;
 use dsde_sim_tree::Event;
-use dsde_sim_tree::given::formalism::{Leaf, MoveKind};
+use dsde_sim_tree::given::formalism::Leaf;
 use dsde_values::{Memory, Name, Path, Seq, Value, Values, copy_value, copy_values};
 use std::alloc::Global;
 
@@ -43,27 +43,6 @@ pub fn tell_leaf(
     events.push(Event::AddLeaf {
         path: copy_path(alloc, path)?,
         model,
-        state: copy_values(alloc, leaf.state.as_slice())?,
-        next: leaf.next,
-    })
-}
-
-/// Tells that a component or an executive has moved.
-pub fn tell_move(
-    alloc: Global,
-    path: &Path,
-    model: ModelId,
-    kind: MoveKind,
-    leaf: &Leaf,
-    events: &mut Seq<Event>,
-) -> Result<(), Memory>
-    ensures ok { OnOk result (events.new ≡ events.old ++ Move path.now model kind leaf.now.state leaf.now.next ∷ []) }
-    ensures err { OnErr result (events.new ≡ events.old) }
-{
-    events.push(Event::Move {
-        path: copy_path(alloc, path)?,
-        model,
-        kind,
         state: copy_values(alloc, leaf.state.as_slice())?,
         next: leaf.next,
     })
