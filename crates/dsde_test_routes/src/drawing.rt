@@ -7,7 +7,7 @@ use dsde_base::Steps;
 use dsde_language::ViaId;
 use dsde_lists::Memory;
 use dsde_routes_wiring::{Links, WiredKid, Wiring};
-use dsde_structure::{Link, Via};
+use dsde_structure::Link;
 use dsde_values::{Name, Seq};
 use rand_core::utils::NextWord;
 use rand_pcg::Lcg64Xsh32;
@@ -25,10 +25,11 @@ struct Dice {
     wrong: u64,
 }
 
-/// Draws so many changes, and writes what came of them.
+/// Draws so many changes, each in place of this one, and writes what came of them.
 pub fn draw_all<L: Ledger>(
     alloc: Global,
     count: u64,
+    change: &mut Change,
     changes: &mut Steps<L>,
     lines: &mut String,
 ) -> Result<(), Memory> {
@@ -39,7 +40,7 @@ pub fn draw_all<L: Ledger>(
         wrong: 0,
     };
     for _ in 0..count / 2 {
-        dice.draw(alloc, changes)?;
+        dice.draw(alloc, change, changes)?;
     }
     let fitting = dice.fitting;
     let wrong = dice.wrong;
@@ -64,12 +65,20 @@ fn inner(kids: &[WiredKid], first: usize) -> Option<&WiredKid> {
 
 impl Dice {
     /// Draws a wiring and two changes of it, one after the other.
-    fn draw<L: Ledger>(&mut self, alloc: Global, changes: &mut Steps<L>) -> Result<(), Memory> {
-        let count = self.below(7);
-        let mut nets = self.nets(alloc, count)?;
-        let mut wiring = self.net(alloc, &mut nets)?;
-        self.draw_change(alloc, &mut wiring, changes)?;
-        self.draw_change(alloc, &mut wiring, changes)
+    fn draw<L: Ledger>(
+        &mut self,
+        alloc: Global,
+        change: &mut Change,
+        changes: &mut Steps<L>,
+    ) -> Result<(), Memory> {
+        let count = self.below(7).saturating_add(1);
+        let mut nets = Vec::new(alloc);
+        self.nets(alloc, count, &mut nets)?;
+        if let Some(wiring) = nets.last_mut() {
+            self.draw_change(alloc, wiring, change, changes)?;
+            self.draw_change(alloc, wiring, change, changes)?;
+        }
+        Ok(())
     }
 
     /// Draws a change of a wiring, and makes it.
@@ -77,13 +86,13 @@ impl Dice {
         &mut self,
         alloc: Global,
         wiring: &mut Wiring,
+        change: &mut Change,
         changes: &mut Steps<L>,
     ) -> Result<(), Memory> {
-        let change = self.change(alloc, wiring)?;
+        self.change(alloc, wiring, change)?;
         if let Some(outcome) = make(alloc, wiring, change, changes)? {
-            let wrong = outcome.wrong.gone.saturating_add(outcome.wrong.fresh);
             self.fitting = self.fitting.saturating_add(1);
-            self.wrong = self.wrong.saturating_add(wrong);
+            self.wrong = self.wrong.saturating_add(outcome.wrong);
         }
         Ok(())
     }
@@ -120,31 +129,34 @@ impl Dice {
         }
     }
 
-    fn via(&mut self) -> Option<Via> {
+    fn via(&mut self) -> Option<ViaId> {
         if self.below(3) == 0 {
-            Some(Via {
-                id: ViaId(self.small(5)),
-                key: None,
-            })
+            Some(ViaId(self.small(5)))
         } else {
             None
         }
     }
 
     /// Some links of a network with components of these names.
-    fn links(&mut self, alloc: Global, names: &[&str]) -> Result<Seq<Link>, Memory> {
+    fn links(&mut self, alloc: Global, names: &[&str]) -> Result<Links, Memory> {
         let mut links = Seq::new(alloc);
         for _ in 0..self.below(10) {
-            let from = self.part(names);
-            let out = self.small(2);
-            let to = self.part(names);
-            let port = self.small(2);
-            if from != "net" || to != "net" {
-                let via = self.via();
-                add_link(alloc, &mut links, from, out, to, port, via)?;
-            }
+            self.link(alloc, names, &mut links)?;
         }
-        Ok(links)
+        Links::of(alloc, links)
+    }
+
+    /// Adds one, unless it would lead from the network to itself.
+    fn link(&mut self, alloc: Global, names: &[&str], links: &mut Seq<Link>) -> Result<(), Memory> {
+        let from = self.part(names);
+        let out = self.small(2);
+        let to = self.part(names);
+        let port = self.small(2);
+        if from == "net" && to == "net" {
+            return Ok(());
+        }
+        let via = self.via();
+        add_link(alloc, links, from, out, to, port, via)
     }
 
     /// A component: the last of these networks, or an atomic one.
@@ -163,7 +175,7 @@ impl Dice {
         leaf(alloc, name, handle)
     }
 
-    /// Components of some of these letters that are no names yet; adds them to the names.
+    /// Adds components of some of these letters that are no names yet, and those to the names.
     fn kids<'n>(
         &mut self,
         alloc: Global,
@@ -171,40 +183,55 @@ impl Dice {
         sides: usize,
         names: &mut Vec<&'n str>,
         nets: &mut Vec<Wiring>,
-    ) -> Result<Seq<WiredKid>, Memory> {
-        let mut kids = Seq::new(alloc);
+        kids: &mut Seq<WiredKid>,
+    ) -> Result<(), Memory> {
         for letter in letters {
-            if self.below(sides) > 1 && !names.as_slice().contains(letter) {
-                names.push(*letter)?;
-                kids.push(self.kid(alloc, *letter, nets)?)?;
+            if self.below(sides) > 1 {
+                self.add_kid(alloc, *letter, names, nets, kids)?;
             }
         }
-        Ok(kids)
+        Ok(())
+    }
+
+    /// Adds one, and its name, if it is none yet.
+    fn add_kid<'n>(
+        &mut self,
+        alloc: Global,
+        name: &'n str,
+        names: &mut Vec<&'n str>,
+        nets: &mut Vec<Wiring>,
+        kids: &mut Seq<WiredKid>,
+    ) -> Result<(), Memory> {
+        if names.as_slice().contains(&name) {
+            return Ok(());
+        }
+        names.push(name)?;
+        kids.push(self.kid(alloc, name, nets)?)
     }
 
     /// A network, some of whose components are these.
     fn net(&mut self, alloc: Global, nets: &mut Vec<Wiring>) -> Result<Wiring, Memory> {
         let me = self.handle();
         let boss = self.handle();
+        let letters = &["a", "b", "c", "d", "e"];
         let mut names = Vec::new(alloc);
-        let kids = self.kids(alloc, &["a", "b", "c", "d", "e"], 5, &mut names, nets)?;
-        let links = self.links(alloc, names.as_slice())?;
+        let mut kids = Seq::new(alloc);
+        self.kids(alloc, letters, 5, &mut names, nets, &mut kids)?;
         Ok(Wiring {
             me,
             boss,
-            links: Links::of(alloc, links)?,
+            links: self.links(alloc, names.as_slice())?,
             kids,
         })
     }
 
-    /// Some networks, the later ones round earlier ones.
-    fn nets(&mut self, alloc: Global, count: usize) -> Result<Vec<Wiring>, Memory> {
-        let mut nets = Vec::new(alloc);
+    /// Adds some networks, the later ones round earlier ones.
+    fn nets(&mut self, alloc: Global, count: usize, nets: &mut Vec<Wiring>) -> Result<(), Memory> {
         for _ in 0..count {
-            let net = self.net(alloc, &mut nets)?;
+            let net = self.net(alloc, nets)?;
             nets.push(net)?;
         }
-        Ok(nets)
+        Ok(())
     }
 
     /// A network of a wiring; adds its place to the names.
@@ -227,40 +254,63 @@ impl Dice {
         Ok(net)
     }
 
-    /// Some of these components, by name; adds the others to the names.
+    /// Lets some of these components go, by name; adds the others to the names.
     fn gone<'w>(
         &mut self,
         alloc: Global,
         kids: &'w [WiredKid],
         names: &mut Vec<&'w str>,
-    ) -> Result<Seq<Name>, Memory> {
-        let mut gone = Seq::new(alloc);
+        gone: &mut Seq<Name>,
+    ) -> Result<(), Memory> {
         for kid in kids {
-            if self.below(3) == 0 {
-                gone.push(kid.name.copy(alloc)?)?;
-            } else {
-                names.push(str::from_utf8(kid.name.stem.as_slice()).unwrap_or(""))?;
-            }
+            self.let_go(alloc, kid, names, gone)?;
         }
-        Ok(gone)
+        Ok(())
     }
 
-    /// A change of one network of a wiring, whose fresh components have other names than those that stay.
-    fn change(&mut self, alloc: Global, wiring: &Wiring) -> Result<Change, Memory> {
-        let mut place = Seq::new(alloc);
-        let net = self.place(alloc, wiring, &mut place)?;
-        let mut names = Vec::new(alloc);
-        let gone = self.gone(alloc, net.kids.as_slice(), &mut names)?;
+    /// Lets one go, by name, or adds it to the names.
+    fn let_go<'w>(
+        &mut self,
+        alloc: Global,
+        kid: &'w WiredKid,
+        names: &mut Vec<&'w str>,
+        gone: &mut Seq<Name>,
+    ) -> Result<(), Memory> {
+        if self.below(3) == 0 {
+            return gone.push(kid.name.copy(alloc)?);
+        }
+        names.push(str::from_utf8(kid.name.stem.as_slice()).unwrap_or(""))?;
+        Ok(())
+    }
+
+    /// Adds fresh components of other names than these, and those to the names.
+    fn fresh<'n>(
+        &mut self,
+        alloc: Global,
+        names: &mut Vec<&'n str>,
+        fresh: &mut Seq<WiredKid>,
+    ) -> Result<(), Memory> {
         let count = self.below(4);
-        let mut nets = self.nets(alloc, count)?;
         let letters = &["g", "f", "e", "d", "c", "b", "a"];
-        let fresh = self.kids(alloc, letters, 3, &mut names, &mut nets)?;
-        let links = self.links(alloc, names.as_slice())?;
-        Ok(Change {
-            place,
-            gone,
-            fresh,
-            links,
-        })
+        let mut nets = Vec::new(alloc);
+        self.nets(alloc, count, &mut nets)?;
+        self.kids(alloc, letters, 3, names, &mut nets, fresh)
+    }
+
+    /// Draws a change of one network of a wiring, whose fresh components have other names than those that
+    /// stay.
+    fn change(
+        &mut self,
+        alloc: Global,
+        wiring: &Wiring,
+        change: &mut Change,
+    ) -> Result<(), Memory> {
+        change.clear();
+        let net = self.place(alloc, wiring, &mut change.place)?;
+        let mut names = Vec::new(alloc);
+        self.gone(alloc, net.kids.as_slice(), &mut names, &mut change.gone)?;
+        self.fresh(alloc, &mut names, &mut change.fresh)?;
+        change.links = self.links(alloc, names.as_slice())?;
+        Ok(())
     }
 }

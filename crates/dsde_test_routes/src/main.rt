@@ -4,10 +4,10 @@
 //! `leaf NAME BIRTH`, `link FROM PORT TO PORT [TRANSLATION]` and `network NAME BIRTH BIRTH COUNT` put a
 //! wiring together from the inside out, `workers COUNT` many components with a link each to the
 //! network's out port, and `root` takes the last network for the whole. `rows` writes its rows, `count`
-//! their number, `twice BIRTH` what a table answers where the rows from there are taken out and put in twice. `at NAME..`,
-//! `gone NAME..`, components and links, and then `change COUNT` change the network at a place, whose
-//! fresh components are the last ones. `draw COUNT` draws so many changes. Other lines are written as they
-//! stand.
+//! their number, `twice BIRTH` what a table answers where the first row from there is taken out twice and
+//! put in twice. `at NAME..`, `gone NAME..`, components and links, and then `change COUNT` change the
+//! network at a place, whose fresh components are the last ones. `draw COUNT` draws so many changes. Other
+//! lines are written as they stand.
 #![tactic(auto)]
 
 ghost use Rattle.std.specs.Prelude.{◌≡◌, ◌<◌};
@@ -27,24 +27,26 @@ use std::marker::Brand;
 use std::sync::ledger::{Blank, Ledger};
 
 /// What the lines of a script tell.
-fn told<L: Ledger>(alloc: Global, script: &String, blank: Blank) -> Result<String, Memory>
+fn told<L: Ledger>(
+    alloc: Global,
+    script: &String,
+    blank: Blank,
+    lines: &mut String,
+) -> Result<(), Memory>
     requires name { blank.name ≡ L.name }
     requires parts { blank.parts ≡ L.parts }
     requires backed { 0 < blank.parts }
 {
     let mut changes = Steps::<L>::new(blank);
-    let mut lines = String::new(alloc);
     let mut state = Script::new(alloc);
-    for line in script.lines() {
-        state.take(alloc, line, &mut changes, &mut lines)?;
-    }
-    Ok(lines)
+    state.take_all(alloc, script, &mut changes, lines)
 }
 
 fn main(rt: HostRuntime) -> io::Result<()> {
     let script = io::read_to_string(rt.alloc(), rt.stdin())?;
-    match told::<Brand>(rt.alloc(), &script, Blank::new(1)) {
-        Ok(lines) => print!(rt; "{lines}"),
+    let mut lines = String::new(rt.alloc());
+    match told::<Brand>(rt.alloc(), &script, Blank::new(1), &mut lines) {
+        Ok(()) => print!(rt; "{lines}"),
         Err(Memory) => println!(rt; "no memory"),
     }
 }

@@ -1,6 +1,7 @@
 //! What wirings are put together from.
 
 use dsde_bank::Handle;
+use dsde_language::ViaId;
 use dsde_lists::{Boxed, Memory, Stem};
 use dsde_routes_wiring::{WiredKid, Wiring};
 use dsde_structure::{End, Link, Part, Via};
@@ -25,10 +26,12 @@ pub fn leaf(alloc: Global, word: &str, handle: Handle) -> Result<WiredKid, Memor
 
 /// A network as a component of another.
 pub fn nested(alloc: Global, word: &str, net: Wiring) -> Result<WiredKid, Memory> {
+    let handle = net.me;
+    let below = Boxed::new(alloc, net)?;
     Ok(WiredKid {
         name: named(alloc, word)?,
-        handle: net.me,
-        below: Some(Boxed::new(alloc, net)?),
+        handle,
+        below: Some(below),
     })
 }
 
@@ -41,6 +44,14 @@ fn part(alloc: Global, word: &str) -> Result<Part, Memory> {
     })
 }
 
+/// The translation of a number, without a key.
+fn translation(via: Option<ViaId>) -> Option<Via> {
+    match via {
+        None => None,
+        Some(id) => Some(Via { id, key: None }),
+    }
+}
+
 /// Adds a link from a port of a part to one of another.
 pub fn add_link(
     alloc: Global,
@@ -49,7 +60,7 @@ pub fn add_link(
     out: u32,
     to: &str,
     port: u32,
-    via: Option<Via>,
+    via: Option<ViaId>,
 ) -> Result<(), Memory> {
     let from = part(alloc, from)?;
     let to = part(alloc, to)?;
@@ -59,6 +70,6 @@ pub fn add_link(
             port: out,
         },
         to: End { part: to, port },
-        via,
+        via: translation(via),
     })
 }

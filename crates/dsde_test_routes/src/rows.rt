@@ -5,6 +5,7 @@ use dsde_base::Steps;
 use dsde_lists::Memory;
 use dsde_routes_table::RouteTable;
 use dsde_routes_wiring::Row;
+use dsde_structure::Via;
 use std::alloc::Global;
 use std::sync::ledger::Ledger;
 
@@ -45,6 +46,20 @@ pub fn compare<L: Ledger>(
     Difference { gone, fresh }
 }
 
+/// A line with the number of the rows from these sources.
+pub fn count<L: Ledger>(
+    alloc: Global,
+    table: RouteTable,
+    sources: &[Handle],
+    changes: &mut Steps<L>,
+    lines: &mut String,
+) -> Result<(), Memory> {
+    let none = RouteTable::new(alloc);
+    let count = compare(&none, table, sources, changes).fresh;
+    writeln!(lines, "{count} rows")?;
+    Ok(())
+}
+
 /// A line for each row from these sources.
 pub fn show(lines: &mut String, table: &RouteTable, sources: &[Handle]) -> Result<(), Memory> {
     for source in sources {
@@ -68,20 +83,48 @@ fn show_row(lines: &mut String, row: &Row) -> Result<(), Memory> {
     let target = row.target.birth;
     let port = row.target_port;
     write!(lines, "{source} {out} to {target} {port} rank")?;
-    for number in row.rank.as_slice() {
+    show_rank(lines, row.rank.as_slice())?;
+    show_chain(lines, row.chain.as_slice())
+}
+
+fn show_rank(lines: &mut String, rank: &[usize]) -> Result<(), Memory> {
+    for number in rank {
         write!(lines, " {number}")?;
     }
-    write!(lines, " chain")?;
-    for via in row.chain.as_slice() {
+    Ok(())
+}
+
+fn show_chain(lines: &mut String, chain: &[Via]) -> Result<(), Memory> {
+    lines.push_str(" chain")?;
+    for via in chain {
         let id = via.id.0;
         write!(lines, " {id}")?;
     }
-    writeln!(lines, "")?;
+    lines.push_str("\n")?;
+    Ok(())
+}
+
+/// Takes a row out of a table and puts it in, twice each; writes what the table answers.
+pub fn turn_row<L: Ledger>(
+    alloc: Global,
+    table: &mut RouteTable,
+    row: &Row,
+    changes: &mut Steps<L>,
+    lines: &mut String,
+) -> Result<(), Memory> {
+    let gone = table.remove_row(row, changes);
+    let again = table.remove_row(row, changes);
+    let fresh = put_copy(alloc, table, row, changes)?;
+    let twice = put_copy(alloc, table, row, changes)?;
+    writeln!(
+        lines,
+        "out {gone}, again {again}; in {fresh}, again {twice}"
+    )?;
     Ok(())
 }
 
 /// Puts a row equal to this one into a table; whether it was not there.
-pub fn put_copy<L: Ledger>(
+fn put_copy<L: Ledger>(
     alloc: Global,
     table: &mut RouteTable,
     row: &Row,
