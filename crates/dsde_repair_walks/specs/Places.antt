@@ -17,5 +17,9 @@ IsBelowWired kid = BelowWired (out-WiredKid kid).below
 abbrev pub kid_with : (Wiring → Wiring) → WiredKid → WiredKid
 kid_with change kid = roll-WiredKid (record (out-WiredKid kid) { below = below_changed change (out-WiredKid kid).below })
 
+-- a component with this network below it
+abbrev pub with_below : Wiring → WiredKid → WiredKid
+with_below net kid = roll-WiredKid (record (out-WiredKid kid) { below = Some net })
+
 abbrev pub kids_below : List Name → WiredKid → List WiredKid
 kids_below place kid = below_at (kids_at place) (out-WiredKid kid).below

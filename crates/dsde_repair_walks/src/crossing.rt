@@ -1,6 +1,6 @@
 //! Ways that go on over links, and rows where two ways meet.
 
-ghost use Rattle.std.specs.Prelude.{◌≡◌, [], ◌∷◌, ◌++◌, map, IfOk, OnOk};
+ghost use Rattle.std.specs.Prelude.{◌≡◌, [], ◌∷◌, ◌++◌, map, option_to_list, IfOk, OnOk};
 ghost use Rattle.dsde_repair_walks.specs.Walks.{extended_way, met_row, met_rows, crossed_rows, own_way};
 
 use crate::way::Way;
@@ -11,59 +11,44 @@ use dsde_routes_wiring::{Chain, Rank, Row, Side};
 use dsde_values::Seq;
 use std::alloc::Global;
 
-/// A way that goes on over a link, or that begins with it.
-pub fn extended(
+/// Has a way go on over a link, or begin with it.
+fn extend(
     alloc: Global,
     side: Side,
     number: usize,
     link: &Link,
-    way: Way,
-) -> Result<Way, Memory>
-    ensures { IfOk result (λ own. own ≡ extended_way side number link.now way) }
+    way: &mut Way,
+) -> Result<(), Memory>
+    ensures { OnOk result (way.new ≡ extended_way side number link.now way.old) }
 {
     match side {
-        Side::Out => onward(alloc, number, link, way),
-        Side::Into => backward(alloc, number, link, way),
+        Side::Out => lead_on(alloc, number, link, way),
+        Side::Into => begin_with(alloc, number, link, way),
     }
 }
 
-fn onward(alloc: Global, number: usize, link: &Link, way: Way) -> Result<Way, Memory>
-    ensures { IfOk result (λ own. own ≡ extended_way Side.Out number link.now way) }
+fn lead_on(alloc: Global, number: usize, link: &Link, way: &mut Way) -> Result<(), Memory>
+    ensures { OnOk result (way.new ≡ extended_way Side.Out number link.now way.old) }
 {
-    let Way {
-        handle,
-        port,
-        rank,
-        mut chain,
-    } = way;
-    chain.append_link(alloc, link)?;
-    Ok(Way {
-        handle,
-        port,
-        rank: rank.behind(alloc, number)?,
-        chain,
-    })
+    way.rank = way.rank.behind(alloc, number)?;
+    way.chain.append_link(alloc, link)
 }
 
-fn backward(alloc: Global, number: usize, link: &Link, way: Way) -> Result<Way, Memory>
-    ensures { IfOk result (λ own. own ≡ extended_way Side.Into number link.now way) }
+fn begin_with(alloc: Global, number: usize, link: &Link, way: &mut Way) -> Result<(), Memory>
+    ensures { OnOk result (way.new ≡ extended_way Side.Into number link.now way.old) }
 {
-    let Way {
-        handle,
-        port,
-        mut rank,
-        chain,
-    } = way;
-    rank.push(number)?;
+    way.chain = behind_link(alloc, link, &way.chain)?;
+    way.rank.push(number)
+}
+
+/// The translation of a link, if it has one, and those of a chain behind it.
+fn behind_link(alloc: Global, link: &Link, chain: &Chain) -> Result<Chain, Memory>
+    ensures { IfOk result (λ vias. vias ≡ option_to_list link.now.via ++ chain.now) }
+{
     let mut vias = Chain::new(alloc);
     vias.append_link(alloc, link)?;
     vias.append(alloc, chain.as_slice())?;
-    Ok(Way {
-        handle,
-        port,
-        rank,
-        chain: vias,
-    })
+    Ok(vias)
 }
 
 /// The row of a way to a place and a way on from there.
@@ -105,10 +90,24 @@ pub fn cross(
     ensures { OnOk result (rows.new ≡ rows.old ++ crossed_rows number link.now befores afters.now) }
 {
     for before in befores.into_vec() {
-        let before = extended(alloc, Side::Out, number, link, before)?;
-        meet(alloc, &before, afters, rows)?;
+        cross_one(alloc, number, link, before, afters, rows)?;
     }
     Ok(())
+}
+
+/// Those of one way.
+fn cross_one(
+    alloc: Global,
+    number: usize,
+    link: &Link,
+    mut before: Way,
+    afters: &[Way],
+    rows: &mut Seq<Row>,
+) -> Result<(), Memory>
+    ensures { OnOk result (rows.new ≡ rows.old ++ met_rows (extended_way Side.Out number link.now before) afters.now) }
+{
+    lead_on(alloc, number, link, &mut before)?;
+    meet(alloc, &before, afters, rows)
 }
 
 /// The one row of a link whose source and target are these parts themselves.
@@ -146,8 +145,9 @@ pub fn extend_all(
 ) -> Result<(), Memory>
     ensures { OnOk result (ways.new ≡ ways.old ++ map (extended_way side number link.now) more) }
 {
-    for way in more.into_vec() {
-        ways.push(extended(alloc, side, number, link, way)?)?;
+    for mut way in more.into_vec() {
+        extend(alloc, side, number, link, &mut way)?;
+        ways.push(way)?;
     }
     Ok(())
 }

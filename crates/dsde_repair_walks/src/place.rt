@@ -3,7 +3,7 @@
 ghost use Rattle.std.specs.Prelude.{◌≡◌, OnOk};
 ghost use Rattle.dsde_routes_wiring.specs.Wired.{AreWired};
 ghost use Rattle.dsde_routes_wiring.specs.Places.{changed, renewed};
-ghost use Rattle.dsde_repair_walks.specs.Places.{IsBelowWired, kid_with};
+ghost use Rattle.dsde_repair_walks.specs.Places.{IsBelowWired, kid_with, with_below};
 
 use crate::found::index_of;
 use dsde_lists::{Boxed, Memory};
@@ -25,8 +25,7 @@ pub fn renew(
 {
     match place.split_first() {
         None => {
-            wiring.links = links;
-            wiring.kids = kids;
+            renew_here(wiring, links, kids);
             Ok(())
         }
         Some((name, rest)) => match index_of(wiring.kids.as_slice(), name) {
@@ -37,6 +36,21 @@ pub fn renew(
             },
         },
     }
+}
+
+fn renew_here(wiring: &mut Wiring, links: Links, kids: Seq<WiredKid>)
+    ensures { wiring.new ≡ renewed links kids wiring.old }
+{
+    wiring.links = links;
+    wiring.kids = kids;
+}
+
+/// Puts a network below a component.
+pub(crate) fn put_below(alloc: Global, kid: &mut WiredKid, net: Wiring) -> Result<(), Memory>
+    ensures { OnOk result (kid.new ≡ with_below net kid.old) }
+{
+    kid.below = Some(Boxed::new(alloc, net)?);
+    Ok(())
 }
 
 /// The same of the network below a component.
@@ -56,8 +70,7 @@ fn renew_below(
         Some(below) => {
             let mut net = below.into_inner();
             renew(alloc, &mut net, place, links, kids)?;
-            kid.below = Some(Boxed::new(alloc, net)?);
-            Ok(())
+            put_below(alloc, kid, net)
         }
     }
 }

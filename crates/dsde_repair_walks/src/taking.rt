@@ -6,7 +6,8 @@ ghost use Rattle.dsde_routes_wiring.specs.Places.{changed, bared, kids_at};
 ghost use Rattle.dsde_repair_walks.specs.Places.{IsBelowWired, kid_with, kids_below};
 
 use crate::found::index_of;
-use dsde_lists::{Boxed, Memory};
+use crate::place::put_below;
+use dsde_lists::Memory;
 use dsde_routes_wiring::{Links, WiredKid, Wiring};
 use dsde_values::{Name, Seq};
 use std::alloc::Global;
@@ -61,7 +62,7 @@ fn take_below(alloc: Global, kid: &mut WiredKid, place: &[Name]) -> Result<Seq<W
         Some(below) => {
             let mut net = below.into_inner();
             let kids = take_out(alloc, &mut net, place)?;
-            kid.below = Some(Boxed::new(alloc, net)?);
+            put_below(alloc, kid, net)?;
             Ok(kids)
         }
     }

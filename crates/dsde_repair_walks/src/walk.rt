@@ -15,7 +15,7 @@ use crate::found::{find_near, index_of};
 use crate::way::{Way, one_way};
 use dsde_bank::Handle;
 use dsde_lists::Memory;
-use dsde_routes_wiring::given::structure::{End, Link, Part};
+use dsde_routes_wiring::given::structure::{End, Part};
 use dsde_routes_wiring::{Side, WiredKid, Wiring, far, near};
 use dsde_values::Seq;
 use std::alloc::Global;
@@ -49,29 +49,14 @@ fn ways_numbered(
 {
     match net.links.as_slice().get(number) {
         None => Ok(()),
-        Some(link) => ways_by(alloc, side, net, port, number, link, ways),
+        Some(link) => {
+            if !is_border_end(port, near(side, link)) {
+                return Ok(());
+            }
+            let more = ways_of_end(alloc, side, net, far(side, link))?;
+            extend_all(alloc, side, number, link, more, ways)
+        }
     }
-}
-
-/// Adds those over one link.
-#[cycle(walking)]
-fn ways_by(
-    alloc: Global,
-    side: Side,
-    net: &Wiring,
-    port: u32,
-    number: usize,
-    link: &Link,
-    ways: &mut Seq<Way>,
-) -> Result<(), Memory>
-    requires { AreWired net.now }
-    ensures { OnOk result (ways.new ≡ ways.old ++ ways_over side net.now port (number, link.now)) }
-{
-    if !is_border_end(port, near(side, link)) {
-        return Ok(());
-    }
-    let more = ways_of_end(alloc, side, net, far(side, link))?;
-    extend_all(alloc, side, number, link, more, ways)
 }
 
 /// The ways of what stands at an end.

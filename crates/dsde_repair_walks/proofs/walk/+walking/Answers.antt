@@ -6,16 +6,8 @@ use Rattle.std.specs.List.{flat_map}
 use Rattle.dsde_repair_walks.proofs.Serving.{link-none, link-some, numbers-done}
 use Rattle.dsde_repair_walks.specs.Walks.{link_at, ranked, extended_way, ways_over, ways_at}
 use Rattle.dsde_repair_walks.proofs.Finding.{kids-in-order, found-wired, ok-map}
-use Rattle.dsde_repair_walks.proofs.Walking.{over-border, ways-whole, none-ways, found-ways, fewer-handles, ok-if, at-kid}
+use Rattle.dsde_repair_walks.proofs.Walking.{over-border, over-none, ways-whole, none-ways, found-ways, fewer-handles, ok-if, at-kid}
 use Rattle.dsde_repair_walks.proofs.walk.+walking.Goals as goal
-
-pub ways_by-returns : goal.ways_by-returns
-ways_by-returns t c =
-    ok-map c.extend_all.result _ _
-    (λ is. is ∙ ap (λ more. c.args.ways.now ++ more)
-    (ap (map (extended_way c.args.side c.args.number c.args.link.now)) (c.in_ok-more.ensures ∙ ap (ways_at c.args.side c.args.net.now) c.far.ensures)
-    ∙ sym (over-border c.args.side c.args.net.now c.args.port c.args.number c.args.link.now (ap (is_border c.args.port) (sym c.near.ensures) ∙ sym c.if-not-is_border_end.ensures))))
-    c.extend_all.ensures
 
 pub ways_of_end-index_of-requires : goal.ways_of_end-index_of-requires
 ways_of_end-index_of-requires t c = subst InOrder (sym c.as_slice.ensures) (kids-in-order c.args.net.now c.requires)
@@ -44,13 +36,24 @@ ways_numbered-returns-in-None t c =
     sym (ap (λ more. c.args.ways.now ++ more) (link-none (ways_over c.args.side c.args.net.now c.args.port) (out-Wiring c.args.net.now).links c.args.number
     (subst (λ links. length links ≤ c.args.number) c.as_slice.ensures c.in-None.ensures.lookup.3)) ∙ append-nil c.args.ways.now)
 
-pub ways_numbered-returns-in-Some : goal.ways_numbered-returns-in-Some
-ways_numbered-returns-in-Some t c =
-    ok-map c.ways_by.result _ _
-    (λ is. is ∙ ap (λ more. c.args.ways.now ++ more) (sym (link-some (ways_over c.args.side c.args.net.now c.args.port) (out-Wiring c.args.net.now).links c.args.number c.in-Some.link.now
+pub ways_numbered-returns-then-not-is_border_end : goal.ways_numbered-returns-then-not-is_border_end
+ways_numbered-returns-then-not-is_border_end t c =
+    sym (ap (λ more. c.args.ways.now ++ more) (link-some (ways_over c.args.side c.args.net.now c.args.port) (out-Wiring c.args.net.now).links c.args.number c.in-Some.link.now
+    (subst (λ links. c.args.number < length links) c.as_slice.ensures c.in-Some.ensures.lookup.3.0)
+    (c.in-Some.ensures.lookup.1 ∙ ap (λ links. get_or links c.args.number c.in-Some.link.now) c.as_slice.ensures)
+    ∙ over-none c.args.side c.args.net.now c.args.port c.args.number c.in-Some.link.now (ap (is_border c.args.port) (sym c.near.ensures) ∙ sym c.if-not-is_border_end.ensures))
+    ∙ append-nil c.args.ways.now)
+
+pub ways_numbered-returns-in_ok-more-in-Some : goal.ways_numbered-returns-in_ok-more-in-Some
+ways_numbered-returns-in_ok-more-in-Some t c =
+    ok-map c.extend_all.result _ _
+    (λ is. is ∙ ap (λ more. c.args.ways.now ++ more)
+    (ap (map (extended_way c.args.side c.args.number c.in-Some.link.now)) (c.in_ok-more-in-Some.ensures ∙ ap (ways_at c.args.side c.args.net.now) c.far.ensures)
+    ∙ sym (over-border c.args.side c.args.net.now c.args.port c.args.number c.in-Some.link.now (ap (is_border c.args.port) (sym c.near.ensures) ∙ sym c.if-not-is_border_end.ensures))
+    ∙ sym (link-some (ways_over c.args.side c.args.net.now c.args.port) (out-Wiring c.args.net.now).links c.args.number c.in-Some.link.now
     (subst (λ links. c.args.number < length links) c.as_slice.ensures c.in-Some.ensures.lookup.3.0)
     (c.in-Some.ensures.lookup.1 ∙ ap (λ links. get_or links c.args.number c.in-Some.link.now) c.as_slice.ensures))))
-    c.ways_by.ensures
+    c.extend_all.ensures
 
 pub net_ways-returns : goal.net_ways-returns
 net_ways-returns t c =

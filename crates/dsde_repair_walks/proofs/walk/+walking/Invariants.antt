@@ -12,16 +12,13 @@ invariant-net_ways-loop-number l =
 
 -- how many handles there are
 abbrev pub decreases-net_ways : goal.decreases-net_ways
-decreases-net_ways l = 5 * length (handles_of l.net.now) + 3
+decreases-net_ways l = 4 * length (handles_of l.net.now) + 2
 
 abbrev pub decreases-ways_numbered : goal.decreases-ways_numbered
-decreases-ways_numbered l = 5 * length (handles_of l.net.now) + 2
-
-abbrev pub decreases-ways_by : goal.decreases-ways_by
-decreases-ways_by l = 5 * length (handles_of l.net.now) + 1
+decreases-ways_numbered l = 4 * length (handles_of l.net.now) + 1
 
 abbrev pub decreases-ways_of_end : goal.decreases-ways_of_end
-decreases-ways_of_end l = 5 * length (handles_of l.net.now)
+decreases-ways_of_end l = 4 * length (handles_of l.net.now)
 
 abbrev pub decreases-ways_of_kid : goal.decreases-ways_of_kid
-decreases-ways_of_kid l = 5 * length (handles_of_kid l.kid.now) + 4
+decreases-ways_of_kid l = 4 * length (handles_of_kid l.kid.now) + 3
