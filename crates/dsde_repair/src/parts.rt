@@ -1,6 +1,6 @@
 //! Components that go and stay, and rows that do.
 
-ghost use Rattle.std.specs.Prelude.{◌≡◌, ◌+◌, ◌&&◌, ◌||◌, not, ◌++◌, IfOk, OnOk};
+ghost use Rattle.std.specs.Prelude.{◌≡◌, ◌+◌, ◌&&◌, ◌||◌, not, [], ◌∷◌, ◌++◌, IfOk, OnOk};
 ghost use Rattle.dsde_routes_wiring.specs.declared.row.Row.{Row};
 ghost use Rattle.std.specs.FinSet as set;
 ghost use Rattle.dsde_routes_wiring.specs.given.structure.Survival.{AreInOrder};
@@ -35,23 +35,31 @@ pub fn part(alloc: Global, kids: Seq<WiredKid>, gone: &[Name]) -> Result<Parted,
         staying: Seq::new(alloc),
     };
     for kid in kids.into_vec() {
-        if is_among(&kid, gone) {
-            parted.going.push(kid)?;
-        } else {
-            parted.staying.push(kid)?;
-        }
+        add(kid, gone, &mut parted)?;
     }
     Ok(parted)
 }
 
+/// Adds a component to those that go or to those that stay.
+fn add(kid: WiredKid, gone: &[Name], parted: &mut Parted) -> Result<(), Memory>
+    requires { AreInOrder gone.now }
+    ensures going { OnOk result (parted.new.going ≡ parted.old.going ++ going gone.now (kid ∷ [])) }
+    ensures staying { OnOk result (parted.new.staying ≡ parted.old.staying ++ staying gone.now (kid ∷ [])) }
+{
+    if is_among(&kid, gone) {
+        return parted.going.push(kid);
+    }
+    parted.staying.push(kid)
+}
+
 /// Components behind others.
-pub fn together(mut kids: Seq<WiredKid>, more: Seq<WiredKid>) -> Result<Seq<WiredKid>, Memory>
+pub fn together(kids: Seq<WiredKid>, more: Seq<WiredKid>) -> Result<Seq<WiredKid>, Memory>
     ensures { IfOk result (λ all. all ≡ kids ++ more) }
 {
-    for kid in more.into_vec() {
-        kids.push(kid)?;
-    }
-    Ok(kids)
+    let mut all = kids.into_vec();
+    let mut behind = more.into_vec();
+    all.append(&mut behind)?;
+    Ok(Seq::from_vec(all))
 }
 
 /// Takes rows out of a table, and puts others in. A change is counted for each row that was there, and for

@@ -10,7 +10,7 @@ ghost use Rattle.dsde_routes_wiring.specs.declared.wiring.WiredKid.{WiredKid};
 ghost use Rattle.dsde_routes_wiring.specs.declared.wiring.Wiring.{Wiring};
 ghost use Rattle.dsde_routes_wiring.specs.declared.wiring.WiredKid.TheViews.{out-Wiring};
 ghost use Rattle.dsde_routes_wiring.specs.Routes.{row_of, routes};
-ghost use Rattle.dsde_routes_wiring.specs.Places.{bared, changed, going, inside, kids_at, nets_at, staying};
+ghost use Rattle.dsde_routes_wiring.specs.Places.{bared, changed, going, inside, kids_at, nets_at, renewed, staying};
 ghost use Rattle.dsde_routes_wiring.specs.Touched.{handles_of, handles_of_kid, is_touched};
 ghost use Rattle.dsde_routes_wiring.specs.Flatten.{flatten};
 ghost use Rattle.dsde_repair_walks.specs.Found.{InOrder, name_of};
@@ -18,7 +18,7 @@ ghost use Rattle.dsde_repair_walks.specs.Places.{IsBelowWired};
 ghost use Rattle.dsde_repair.specs.Change.{LeadsThere, kids_after, wiring_after};
 
 use crate::order::in_order;
-use crate::parts::{Parted, exchange, part};
+use crate::parts::{exchange, part};
 use crate::rows::inside_rows;
 use crate::through::passing_rows;
 use dsde_base::Steps;
@@ -80,21 +80,73 @@ struct Moved {
     coming: Seq<Row>,
 }
 
-/// Takes the components at a place out, and those that go from among them.
+/// The components that stay, and the rows inside those that go.
+#[derive(Drop)]
+struct Taken {
+    staying: Seq<WiredKid>,
+    going: Seq<Row>,
+}
+
+/// Takes the components at a place out, and parts them.
 fn take_parted(
     alloc: Global,
     wiring: &mut Wiring,
     place: &[Name],
     gone: &[Name],
-) -> Result<Parted, Memory>
+) -> Result<Taken, Memory>
+    requires there { LeadsThere place.now wiring.old }
     requires wired { AreWired wiring.old }
     requires gone { AreInOrder gone.now }
-    ensures going { IfOk result (λ parted. parted.going ≡ going gone.now (kids_at place.now wiring.old)) }
-    ensures staying { IfOk result (λ parted. parted.staying ≡ staying gone.now (kids_at place.now wiring.old)) }
+    ensures going { IfOk result (λ taken. taken.going ≡ map row_of (inside (going gone.now (kids_at place.now wiring.old)))) }
+    ensures staying { IfOk result (λ taken. taken.staying ≡ staying gone.now (kids_at place.now wiring.old)) }
     ensures wiring { OnOk result (wiring.new ≡ changed place.now bared wiring.old) }
 {
     let kids = take_out(alloc, wiring, place)?;
-    part(alloc, kids, gone)
+    let parted = part(alloc, kids, gone)?;
+    let going = inside_rows(alloc, parted.going.as_slice())?;
+    Ok(Taken {
+        staying: parted.staying,
+        going,
+    })
+}
+
+/// Gives the network at a place the components that stay and the fresh ones, in the order of their names,
+/// and other links.
+fn put_in_order(
+    alloc: Global,
+    wiring: &mut Wiring,
+    place: &[Name],
+    staying: Seq<WiredKid>,
+    fresh: Seq<WiredKid>,
+    links: Links,
+) -> Result<(), Memory>
+    requires wired { AreWired wiring.old }
+    requires names { IsDistinct is_same_name (map name_of (staying ++ fresh)) }
+    ensures { OnOk result ((kids : List WiredKid) × IsPermutation (staying ++ fresh) kids × InOrder kids × (wiring.new ≡ changed place.now (renewed links kids) wiring.old)) }
+{
+    let kids = in_order(alloc, staying, fresh)?;
+    renew(alloc, wiring, place, links, kids)
+}
+
+/// Changes the network at a place of a wiring, and gives the rows inside the components that go.
+fn change_kids(
+    alloc: Global,
+    wiring: &mut Wiring,
+    place: &[Name],
+    gone: &[Name],
+    fresh: Seq<WiredKid>,
+    links: Links,
+) -> Result<Seq<Row>, Memory>
+    requires there { LeadsThere place.now wiring.old }
+    requires wired { AreWired wiring.old }
+    requires gone { AreInOrder gone.now }
+    requires names { IsDistinct is_same_name (map name_of (kids_after place.now gone.now fresh wiring.old)) }
+    ensures wiring { OnOk result ((kids : List WiredKid) × IsPermutation (kids_after place.now gone.now fresh wiring.old) kids × InOrder kids × (wiring.new ≡ wiring_after place.now kids links wiring.old)) }
+    ensures going { IfOk result (λ rows. rows ≡ map row_of (inside (going gone.now (kids_at place.now wiring.old)))) }
+{
+    let taken = take_parted(alloc, wiring, place, gone)?;
+    put_in_order(alloc, wiring, place, taken.staying, fresh, links)?;
+    Ok(taken.going)
 }
 
 /// Changes the network at a place of a wiring.
@@ -115,10 +167,7 @@ fn exchange_kids(
     ensures going { IfOk result (λ moved. moved.going ≡ map row_of (inside (going gone.now (kids_at place.now wiring.old)))) }
     ensures coming { IfOk result (λ moved. moved.coming ≡ map row_of (inside fresh)) }
 {
-    let parted = take_parted(alloc, wiring, place, gone)?;
-    let going = inside_rows(alloc, parted.going.as_slice())?;
     let coming = inside_rows(alloc, fresh.as_slice())?;
-    let kids = in_order(alloc, parted.staying, fresh)?;
-    renew(alloc, wiring, place, links, kids)?;
+    let going = change_kids(alloc, wiring, place, gone, fresh, links)?;
     Ok(Moved { going, coming })
 }

@@ -2,6 +2,8 @@
 
 ghost use Rattle.std.specs.Prelude.{◌≡◌, ◌++◌, map, IfOk, OnOk};
 ghost use Rattle.std.specs.List.{flat_map};
+ghost use Rattle.dsde_routes_wiring.specs.given.structure.plan_Part_TheVariants as part;
+ghost use Rattle.dsde_routes_wiring.specs.Numbers.{numbers_at};
 ghost use Rattle.dsde_routes_wiring.specs.Wired.{AreWired};
 ghost use Rattle.dsde_routes_wiring.specs.declared.wiring.WiredKid.TheViews.{out-Wiring};
 ghost use Rattle.dsde_routes_wiring.specs.Routes.{links_of, own, row_of};
@@ -18,6 +20,14 @@ use dsde_routes_wiring::given::structure::Part;
 use dsde_routes_wiring::{Row, Side, Wiring};
 use dsde_values::{Name, Seq};
 use std::alloc::Global;
+
+/// The numbers of the links with an end on a side at a component.
+fn numbers_of(alloc: Global, net: &Wiring, side: Side, name: &Name) -> Result<Seq<usize>, Memory>
+    ensures { IfOk result (λ numbers. numbers ≡ numbers_at side (part.Kid name.now) (out-Wiring net.now).links) }
+{
+    let own = Part::Kid(name.copy(alloc)?);
+    net.links.at(alloc, side, &own)
+}
 
 /// Adds the rows over the link of a number, if the way before it passes a place beneath a component.
 fn out_numbered(
@@ -58,9 +68,7 @@ fn out_all(
     requires { AreWired net.now }
     ensures { OnOk result (rows.new ≡ rows.old ++ map row_of (flat_map (crossed_between (only (passing_kids name.now rest.now (out-Wiring net.now).kids)) (open_around whole net.now)) (links_of net.now))) }
 {
-    let copy = name.copy(alloc)?;
-    let own = Part::Kid(copy);
-    let found = net.links.at(alloc, Side::Into, &own)?;
+    let found = numbers_of(alloc, net, Side::Into, name)?;
     let numbers = found.as_slice();
     for number in numbers {
         out_numbered(alloc, net, whole, name, rest, *number, rows)?;
@@ -108,9 +116,7 @@ fn into_all(
     requires { AreWired net.now }
     ensures { OnOk result (rows.new ≡ rows.old ++ map row_of (flat_map (crossed_between (past_around (beyond whole (out-Wiring net.now).me) name.now rest.now net.now) (only (passing_kids name.now rest.now (out-Wiring net.now).kids))) (links_of net.now))) }
 {
-    let copy = name.copy(alloc)?;
-    let own = Part::Kid(copy);
-    let found = net.links.at(alloc, Side::Out, &own)?;
+    let found = numbers_of(alloc, net, Side::Out, name)?;
     let numbers = found.as_slice();
     for number in numbers {
         into_numbered(alloc, net, whole, name, rest, *number, rows)?;

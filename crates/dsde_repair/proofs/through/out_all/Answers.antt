@@ -6,15 +6,11 @@ use Rattle.dsde_repair_walks.specs.Walks.{link_at}
 use Rattle.dsde_repair_walks.proofs.Serving.{numbers-done}
 use Rattle.dsde_repair.specs.Walks.{between_link, open_around, passing_kids}
 use Rattle.dsde_repair.proofs.Thoroughfares.{few-out}
-use Rattle.dsde_values.specs.declared.name.Name.{Name}
-use Rattle.dsde_routes_wiring.specs.given.structure.plan_Part_TheVariants as part
-use Rattle.dsde_routes_wiring.specs.Numbers.{numbers_at}
-use Rattle.dsde_routes_wiring.specs.declared.side.Side.TheVariants.{Into}
 use Rattle.dsde_repair.proofs.through.out_all.Goals as goal
 
 pub returns : goal.returns
 returns c =
     numbers-done (link_at (between_link (only (passing_kids c.args.name.now c.args.rest.now (out-Wiring c.args.net.now).kids)) (open_around c.args.whole c.args.net.now) (out-Wiring c.args.net.now).me) (out-Wiring c.args.net.now).links) c.as_slice-numbers.result.now c.loop-number.number-index c.loop-number.rows c.args.rows.now c.loop-number-test.false c.loop-number.invariant
     ∙ ap (λ more. c.args.rows.now ++ more)
-    (ap (flat_map (link_at (between_link (only (passing_kids c.args.name.now c.args.rest.now (out-Wiring c.args.net.now).kids)) (open_around c.args.whole c.args.net.now) (out-Wiring c.args.net.now).me) (out-Wiring c.args.net.now).links)) (c.as_slice-numbers.ensures ∙ c.in_ok-found.ensures ∙ ap (λ (own : Name). numbers_at Into (part.Kid own) (out-Wiring c.args.net.now).links) c.in_ok-copy.ensures)
+    (ap (flat_map (link_at (between_link (only (passing_kids c.args.name.now c.args.rest.now (out-Wiring c.args.net.now).kids)) (open_around c.args.whole c.args.net.now) (out-Wiring c.args.net.now).me) (out-Wiring c.args.net.now).links)) (c.as_slice-numbers.ensures ∙ c.in_ok-found.ensures)
     ∙ few-out c.args.name.now c.args.rest.now (open_around c.args.whole c.args.net.now) c.args.net.now)
