@@ -1,5 +1,5 @@
 -- Ways that pass a place, link by link.
-use Rattle.std.proofs.Common.{◌≡◌, ℕ, Bool, true, false, if◌then◌else◌, List, [], ◌∷◌, ◌++◌, map, slice_get, append-nil, refl, sym, ap, ap₂, ◌∙◌, subst}
+use Rattle.std.proofs.Common.{◌≡◌, ℕ, Bool, true, false, if◌then◌else◌, List, [], ◌∷◌, ◌++◌, map, slice_get, Option, Some, None, append-nil, refl, sym, ap, ap₂, ◌∙◌, subst}
 use Rattle.std.specs.List.{flat_map, enumerate_from, AllByRecursion}
 use Rattle.dsde_bank.specs.declared.handle.Handle.{Handle}
 use Rattle.dsde_values.specs.declared.name.Name.{Name}
@@ -15,20 +15,20 @@ use Rattle.dsde_routes_wiring.specs.declared.wiring.WiredKid.TheViews.{out-Wirin
 use Rattle.dsde_routes_wiring.specs.Routes as route
 use Rattle.dsde_routes_wiring.specs.Numbers.{numbers_at}
 use Rattle.dsde_routes_wiring.specs.Side.{near, far}
-use Rattle.dsde_routes_wiring.specs.Routes.{Ways, Around, Inner, is_border, extended, ways_by, net_ways, at_part, at_end, of_kid, links_of, step_from, within, no_ways, inner_of, inner_of_kid}
-use Rattle.dsde_routes_wiring.specs.Places.{changed, bared, kid_changed, only, passing, passing_kid}
+use Rattle.dsde_routes_wiring.specs.Routes.{Ways, Around, Inner, below_step, is_border, extended, ways_by, net_ways, at_part, at_end, of_kid, links_of, step_from, within, no_ways, inner_of, inner_of_kid}
+use Rattle.dsde_routes_wiring.specs.Places.{changed, bared, below_changed, kid_changed, nothing, only, passing, passing_below, passing_kid}
 use Rattle.dsde_routes_wiring.specs.Wired.{AreWired}
-use Rattle.dsde_repair_walks.proofs.Opens.{inner-roll, kid-is}
+use Rattle.dsde_repair_walks.proofs.Opens.{below_inner, inner-roll, kid-is, kid-roll}
 use Rattle.dsde_repair_walks.proofs.Shapes.{same-name}
 use Rattle.dsde_repair_walks.specs.declared.way.Way.{Way}
 use Rattle.dsde_repair_walks.specs.Found.{is_named, IsAt}
 use Rattle.dsde_repair_walks.specs.Places.{IsBelowWired}
-use Rattle.dsde_repair_walks.specs.Walks.{link_at, ranked, extended_way}
-use Rattle.dsde_repair_walks.proofs.Finding.{kid-at, some-one, found-wired}
+use Rattle.dsde_repair_walks.specs.Walks.{kid_ways, link_at, own_way, ranked, extended_way}
+use Rattle.dsde_repair_walks.proofs.Finding.{changed-named, changed-other, kid-at, some-one, found-wired}
 use Rattle.dsde_repair_walks.proofs.Serving.{few-serve}
 use Rattle.dsde_repair_walks.proofs.Walking.{map-flat, flat-of-map, ranked-all, no-border}
 use Rattle.dsde_repair_walks.specs.Found.{IsOne}
-use Rattle.dsde_repair.specs.Walks.{over_link, at_ways, passing_kids, passing_kid_ways, past_kid, past_around, past_kid_ways}
+use Rattle.dsde_repair.specs.Walks.{over_link, at_ways, passing_kids, passing_kid_ways, past_kid, past_around, past_kid_ways, parted_around, parted_kid_ways, parted_ways}
 
 -- over one link
 pub link-border : (side : Side) (around : Around) (me : Handle) (port number : ℕ) (link : Link) (more : List Way) → is_border port (near side link) ≡ true → more ≡ at_ways side around (far side link) →
@@ -112,3 +112,60 @@ past-above side net place rest name port is =
     ap (λ own. map ranked ((inner_of (changed own bared net)).ways side port)) is
     ∙ ap (λ (inner : Inner). map ranked (inner.ways side port)) (inner-roll (record (out-Wiring net) { kids = map (kid_changed name (changed rest bared)) (out-Wiring net).kids }))
     ∙ ap (λ kids. map ranked (net_ways (within no_ways (out-Wiring net).boss kids) (links_of net) side port)) (map-of-map (kid_changed name (changed rest bared)) (out-Wiring net).kids)
+
+-- by what passes, or by what does not
+pub parted-none : (passes : Bool) (side : Side) (name : Name) (rest : List Name) (net : Wiring) (end : End) (wanted : Name) → end.part ≡ part.Kid wanted → AllByRecursion (λ kid. is_named wanted kid ≡ false) (out-Wiring net).kids →
+    at_ways side (parted_around passes name rest net) end ≡ []
+parted-none true side name rest net end wanted is none = passing-none side name rest (out-Wiring net).kids end wanted is none
+parted-none false side name rest net end wanted is none = past-none no_ways side name rest net end wanted is none
+
+pub parted-one : (passes : Bool) (side : Side) (name : Name) (rest : List Name) (net : Wiring) (end : End) (wanted : Name) → end.part ≡ part.Kid wanted → (kid : WiredKid) → IsOne wanted (out-Wiring net).kids kid →
+    at_ways side (parted_around passes name rest net) end ≡ parted_kid_ways passes side name rest kid end.port
+parted-one true side name rest net end wanted is kid one = passing-one side name rest (out-Wiring net).kids end wanted is kid one
+parted-one false side name rest net end wanted is kid one = past-one no_ways side name rest net end wanted is kid one
+
+pub parted-net : (passes : Bool) (side : Side) (name : Name) (rest : List Name) (net : Wiring) (end : End) → end.part ≡ part.Net → at_ways side (parted_around passes name rest net) end ≡ []
+parted-net true side name rest net end is = ap (λ (own_part : Part). map ranked (at_part side (only (passing_kids name rest (out-Wiring net).kids)) own_part end.port)) is
+parted-net false side name rest net end is = ap (λ (own_part : Part). map ranked (at_part side (past_around no_ways name rest net) own_part end.port)) is
+
+pub parted-boss : (passes : Bool) (side : Side) (name : Name) (rest : List Name) (net : Wiring) (end : End) → end.part ≡ part.Boss → at_ways side (parted_around passes name rest net) end ≡ (if passes then [] else own_way (out-Wiring net).boss end.port ∷ [])
+parted-boss true side name rest net end is = ap (λ (own_part : Part). map ranked (at_part side (only (passing_kids name rest (out-Wiring net).kids)) own_part end.port)) is
+parted-boss false side name rest net end is = ap (λ (own_part : Part). map ranked (at_part side (past_around no_ways name rest net) own_part end.port)) is
+
+pub parted-above : (passes : Bool) (side : Side) (net : Wiring) (place rest : List Name) (name : Name) (port : ℕ) → place ≡ name ∷ rest →
+    parted_ways passes side place net port ≡ map ranked (net_ways (parted_around passes name rest net) (links_of net) side port)
+parted-above true side net place rest name port is = ap (λ own. map ranked ((passing own net).ways side port)) is
+parted-above false side net place rest name port is = past-above side net place rest name port is
+
+pub parted-other : (passes : Bool) (side : Side) (name : Name) (rest : List Name) (kid : WiredKid) (port : ℕ) → is_named name kid ≡ false →
+    parted_kid_ways passes side name rest kid port ≡ (if passes then [] else kid_ways side kid port)
+parted-other true side name rest kid port other = ap (λ (b : Bool). map ranked ((if b then passing_below (passing rest) (out-WiredKid kid).below else nothing).ways side port)) other
+parted-other false side name rest kid port other = ap (λ own. kid_ways side own port) (changed-other name (changed rest bared) kid other)
+
+parted-named : (passes : Bool) (side : Side) (name : Name) (rest : List Name) (kid : WiredKid) (port : ℕ) → is_named name kid ≡ true →
+    parted_kid_ways passes side name rest kid port
+    ≡ map ranked ((if passes then passing_below (passing rest) (out-WiredKid kid).below else below_step (out-WiredKid kid).handle (below_inner (below_changed (changed rest bared) (out-WiredKid kid).below))).ways side port)
+parted-named true side name rest kid port named = ap (λ (b : Bool). map ranked ((if b then passing_below (passing rest) (out-WiredKid kid).below else nothing).ways side port)) named
+parted-named false side name rest kid port named =
+    ap (λ own. kid_ways side own port) (changed-named name (changed rest bared) kid named)
+    ∙ ap (λ (own : Name × Inner). map ranked (own.1.ways side port)) (kid-roll (record (out-WiredKid kid) { below = below_changed (changed rest bared) (out-WiredKid kid).below }))
+
+pub parted-leaf : (passes : Bool) (side : Side) (name : Name) (rest : List Name) (kid : WiredKid) (port : ℕ) → is_named name kid ≡ true → (out-WiredKid kid).below ≡ None →
+    parted_kid_ways passes side name rest kid port ≡ (if passes then [] else own_way (out-WiredKid kid).handle port ∷ [])
+parted-leaf passes side name rest kid port named is =
+    parted-named passes side name rest kid port named
+    ∙ ap (λ (below : Option Wiring). map ranked ((if passes then passing_below (passing rest) below else below_step (out-WiredKid kid).handle (below_inner (below_changed (changed rest bared) below))).ways side port)) is
+    ∙ by passes where
+      by : (own : Bool) → map ranked ((if own then nothing else below_step (out-WiredKid kid).handle None).ways side port) ≡ (if own then [] else own_way (out-WiredKid kid).handle port ∷ [])
+      by true = refl
+      by false = refl
+
+pub parted-below : (passes : Bool) (side : Side) (name : Name) (rest : List Name) (kid : WiredKid) (port : ℕ) → is_named name kid ≡ true → (net : Wiring) → (out-WiredKid kid).below ≡ Some net →
+    parted_kid_ways passes side name rest kid port ≡ parted_ways passes side rest net port
+parted-below passes side name rest kid port named net is =
+    parted-named passes side name rest kid port named
+    ∙ ap (λ (below : Option Wiring). map ranked ((if passes then passing_below (passing rest) below else below_step (out-WiredKid kid).handle (below_inner (below_changed (changed rest bared) below))).ways side port)) is
+    ∙ by passes where
+      by : (own : Bool) → map ranked ((if own then passing rest net else below_step (out-WiredKid kid).handle (Some (inner_of (changed rest bared net)))).ways side port) ≡ parted_ways own side rest net port
+      by true = refl
+      by false = refl

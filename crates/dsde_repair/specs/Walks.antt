@@ -1,5 +1,5 @@
 -- What the walks of a change give.
-use Rattle.std.specs.Prelude.{◌≡◌, ℕ, Bool, false, List, map, drop}
+use Rattle.std.specs.Prelude.{◌≡◌, ℕ, Bool, false, if◌then◌else◌, List, map, drop}
 use Rattle.std.specs.List.{flat_map, enumerate_from}
 use Rattle.dsde_bank.specs.declared.handle.Handle.{Handle}
 use Rattle.dsde_values.specs.declared.name.Name.{Name}
@@ -12,8 +12,8 @@ use Rattle.dsde_routes_wiring.specs.declared.side.Side.{Side}
 use Rattle.dsde_routes_wiring.specs.declared.wiring.WiredKid.{WiredKid}
 use Rattle.dsde_routes_wiring.specs.declared.wiring.Wiring.{Wiring}
 use Rattle.dsde_routes_wiring.specs.declared.wiring.WiredKid.TheViews.{out-Wiring}
-use Rattle.dsde_routes_wiring.specs.Routes.{Ways, Route, Around, Inner, row_of, within, around_of, step_from, ways_by, at_end, crossed_by, inner_of_kid}
-use Rattle.dsde_routes_wiring.specs.Places.{bared, changed, kid_changed, passing, passing_kid, crossed_between}
+use Rattle.dsde_routes_wiring.specs.Routes.{Ways, Route, Around, Inner, row_of, within, around_of, no_ways, step_from, ways_by, at_end, crossed_by, inner_of, inner_of_kid}
+use Rattle.dsde_routes_wiring.specs.Places.{bared, changed, kid_changed, only, passing, passing_kid, crossed_between}
 use Rattle.dsde_repair_walks.specs.declared.way.Way.{Way}
 use Rattle.dsde_repair_walks.specs.Found.{IsNoLeaf}
 use Rattle.dsde_repair_walks.specs.Walks.{ranked, beyond}
@@ -59,6 +59,16 @@ passing_kid_ways side name rest kid port = map ranked ((passing_kid name (passin
 
 abbrev pub past_kid_ways : Side → Name → List Name → WiredKid → ℕ → List Way
 past_kid_ways side name rest kid port = map ranked ((past_kid name rest kid).1.ways side port)
+
+-- the ways that pass a place beneath a component, or those that do not
+abbrev pub parted_around : Bool → Name → List Name → Wiring → Around
+parted_around passes name rest net = if passes then only (passing_kids name rest (out-Wiring net).kids) else past_around no_ways name rest net
+
+abbrev pub parted_ways : Bool → Side → List Name → Wiring → ℕ → List Way
+parted_ways passes side place net port = map ranked ((if passes then passing place net else inner_of (changed place bared net)).ways side port)
+
+abbrev pub parted_kid_ways : Bool → Side → Name → List Name → WiredKid → ℕ → List Way
+parted_kid_ways passes side name rest kid port = if passes then passing_kid_ways side name rest kid port else past_kid_ways side name rest kid port
 
 abbrev pub kid_routes : List (Name × Inner) → List Route
 kid_routes kids = flat_map (λ kid. kid.1.routes) kids

@@ -11,9 +11,8 @@ ghost use Rattle.dsde_routes_wiring.specs.Places.{crossed_between, only, through
 ghost use Rattle.dsde_repair_walks.specs.Walks.{beyond, link_at};
 ghost use Rattle.dsde_repair.specs.Walks.{kid_routes, between_link, open_around, passing_kids, past_around};
 
-use crate::passing::passing_end;
-use crate::past::open_past;
 use crate::rows::{crossing_rows, open_ways};
+use crate::ways::{open_past, parted_end};
 use dsde_lists::Memory;
 use dsde_repair_walks::{cross, find_kid};
 use dsde_routes_wiring::given::structure::Part;
@@ -45,7 +44,7 @@ fn out_numbered(
     match net.links.as_slice().get(number) {
         None => Ok(()),
         Some(link) => {
-            let passing = passing_end(alloc, Side::Out, net, name, rest, &link.from)?;
+            let passing = parted_end(alloc, true, Side::Out, net, name, rest, &link.from)?;
             if passing.is_empty() {
                 return Ok(());
             }
@@ -93,7 +92,7 @@ fn into_numbered(
     match net.links.as_slice().get(number) {
         None => Ok(()),
         Some(link) => {
-            let passing = passing_end(alloc, Side::Into, net, name, rest, &link.to)?;
+            let passing = parted_end(alloc, true, Side::Into, net, name, rest, &link.to)?;
             if passing.is_empty() {
                 return Ok(());
             }
