@@ -55,10 +55,18 @@ impl Rank {
     pub fn behind(&self, alloc: Global, number: usize) -> Result<Rank, Memory>
         ensures { IfOk result (λ rank. rank ≡ number ∷ self.now) }
     {
-        let mut rank = Rank::new(alloc);
-        rank.push(number)?;
+        let mut rank = Rank::one(alloc, number);
         rank.append(self.as_slice())?;
         Ok(rank)
+    }
+
+    /// The rank of one number, which takes no memory.
+    fn one(alloc: Global, number: usize) -> Rank
+        ensures { result ≡ number ∷ [] }
+    {
+        let mut numbers = SmallVec::new(alloc);
+        numbers.push_reserved(number);
+        Rank { numbers }
     }
 
     /// Adds a number at the end. Without memory the rank stays as it was.
@@ -74,9 +82,7 @@ impl Rank {
     pub fn append(&mut self, more: &[usize]) -> Result<(), Memory>
         ensures { OnOk result (self.new ≡ self.old ++ more.now) }
     {
-        for number in more {
-            self.push(*number)?;
-        }
+        self.numbers.extend_from_slice(more)?;
         Ok(())
     }
 }
@@ -139,9 +145,16 @@ impl Chain {
         ensures { OnOk result (self.new ≡ self.old ++ more.now) }
     {
         for via in more {
-            self.push(copy_via(alloc, via)?)?;
+            self.push_copy(alloc, via)?;
         }
         Ok(())
+    }
+
+    /// Adds a translation equal to this one at the end.
+    fn push_copy(&mut self, alloc: Global, via: &Via) -> Result<(), Memory>
+        ensures { OnOk result (self.new ≡ self.old ++ via.now ∷ []) }
+    {
+        self.push(copy_via(alloc, via)?)
     }
 
     /// Adds the translation of a link at the end, if it has one.
@@ -149,7 +162,7 @@ impl Chain {
         ensures { OnOk result (self.new ≡ self.old ++ option_to_list link.now.via) }
     {
         match &link.via {
-            Some(via) => self.push(copy_via(alloc, via)?),
+            Some(via) => self.push_copy(alloc, via),
             None => Ok(()),
         }
     }
