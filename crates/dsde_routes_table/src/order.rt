@@ -45,10 +45,12 @@ fn are_same_chains(one: &[Via], other: &[Via]) -> bool
     if one.len() != other.len() {
         return false;
     }
-    for (via, own) in one.iter().zip(other) {
-        if !are_same_vias(via, own) {
+    let mut index = 0;
+    while index < one.len() {
+        if !are_same_vias(&one[index], &other[index]) {
             return false;
         }
+        index += 1;
     }
     true
 }

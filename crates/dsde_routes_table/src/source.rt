@@ -11,7 +11,7 @@ use dsde_routes_wiring::given::bank::Handle;
 use std::cmp::Ordering;
 
 /// A port of a source.
-#[derive(Clone, Copy, Debug, PartialEq, Eq)]
+#[derive(Clone, Copy, PartialEq, Eq)]
 pub struct Source {
     birth: u64,
     slot: usize,
