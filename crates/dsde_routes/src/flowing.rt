@@ -80,8 +80,7 @@ fn carry_down(
     };
     let mut list = comes.take(alloc, name);
     carry(alloc, number, link, root, got, boss, kids, &mut list)?;
-    comes.put(alloc, name, list)?;
-    Ok(())
+    comes.put(alloc, name, list)
 }
 
 /// The ways that the links of a network carry to its components.
@@ -152,8 +151,7 @@ fn put_beneath<L: Ledger>(
     let comes = to_kids(alloc, net.links.as_slice(), root, got, net.boss, &kids)?;
     put_kids(alloc, net.kids.as_slice(), &comes, table, changes)?;
     let list = to_boss(alloc, net.links.as_slice(), root, got, net.boss, &kids)?;
-    put_rows(alloc, net.boss, list.as_slice(), table, changes)?;
-    Ok(())
+    put_rows(alloc, net.boss, list.as_slice(), table, changes)
 }
 
 /// The same of the components of a network.
@@ -187,13 +185,12 @@ fn put_kid<L: Ledger>(
     ensures ticks { OnOk result (changes.new + set.len table.old ≡ changes.old + set.len table.new) }
 {
     match &kid.below {
-        None => put_rows(alloc, kid.handle, got, table, changes)?,
+        None => put_rows(alloc, kid.handle, got, table, changes),
         Some(below) => {
             let got = GotWays::of(alloc, got)?;
-            put_beneath(alloc, below.get(), None, &got, table, changes)?;
+            put_beneath(alloc, below.get(), None, &got, table, changes)
         }
     }
-    Ok(())
 }
 
 /// The table of the rows of a wiring, with a change counted for each.

@@ -1,6 +1,6 @@
 //! Ways that go on over links.
 
-ghost use Rattle.std.specs.Prelude.{◌≡◌, ◌++◌, map, IfOk, OnOk};
+ghost use Rattle.std.specs.Prelude.{◌≡◌, ◌++◌, ◌∷◌, [], map, IfOk, OnOk};
 ghost use Rattle.dsde_routes_wiring.specs.Ways.{begin, onward};
 ghost use Rattle.dsde_routes.specs.Passing.{at_port, ways_in};
 ghost use Rattle.dsde_routes.specs.Ports.{numbers_at, way_at};
@@ -26,6 +26,22 @@ pub fn go_on(alloc: Global, number: usize, link: &Link, way: &Way) -> Result<Way
     })
 }
 
+/// Adds the way that goes on from this one over a link.
+fn push_on(
+    alloc: Global,
+    number: usize,
+    link: &Link,
+    way: &Way,
+    ways: &mut Seq<Passing>,
+) -> Result<(), Memory>
+    ensures { OnOk result (ways.new ≡ ways.old ++ at_port link.now.to.port (onward number link.now way.now) ∷ []) }
+{
+    ways.push(Passing {
+        port: link.to.port,
+        way: go_on(alloc, number, link, way)?,
+    })
+}
+
 /// The way that begins at a port of a source and goes over a link.
 pub fn begin_over(
     alloc: Global,
@@ -42,10 +58,7 @@ pub fn begin_over(
         rank: Rank::new(alloc),
         chain: Chain::new(alloc),
     };
-    ways.push(Passing {
-        port: link.to.port,
-        way: go_on(alloc, number, link, &first)?,
-    })
+    push_on(alloc, number, link, &first, ways)
 }
 
 /// Adds the way of a number, which goes on over a link.
@@ -61,10 +74,7 @@ fn go_numbered(
 {
     match come.get(own) {
         None => Ok(()),
-        Some(passing) => ways.push(Passing {
-            port: link.to.port,
-            way: go_on(alloc, number, link, &passing.way)?,
-        }),
+        Some(passing) => push_on(alloc, number, link, &passing.way, ways),
     }
 }
 

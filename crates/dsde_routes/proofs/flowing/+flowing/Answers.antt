@@ -10,6 +10,7 @@ use Rattle.dsde_routes.specs.Passing.{from_parts, ways_got, passing, rows_by}
 use Rattle.dsde_routes.specs.Putting.{put_all, rows_to_kid, rows_to_kids}
 use Rattle.dsde_routes.specs.Sending.{Sends}
 use Rattle.dsde_routes.proofs.Flows.{net-rows, put-append, kids-more, kids-done}
+use Rattle.dsde_routes.proofs.Numbered.{ok-map}
 use Rattle.dsde_routes.proofs.flowing.+flowing.Goals as goal
 
 pub put_beneath-returns-clause-rows : goal.put_beneath-returns-clause-rows
@@ -18,14 +19,20 @@ put_beneath-returns-clause-rows g t c =
     let come = ways_got c.args.root c.args.got.now in
     let boss = (out-Wiring net).boss in
     let from = from_parts come boss c.in_ok-kids.kids in
-    c.in_ok-put_rows.ensures.rows
+    ok-map c.put_rows.result _ _
+    (λ is. is
     ∙ ap (λ (list : List Passing). put_all c.put_kids.new.table (rows_by boss list)) c.as_slice-5.ensures
     ∙ ap (λ (table : Rows). put_all table (rows_by boss c.in_ok-list.list)) (c.in_ok-put_kids.ensures.rows ∙ ap (λ (kids : List WiredKid). put_all c.args.table.now (rows_to_kids c.in_ok-comes.comes kids)) c.as_slice-3.ensures)
     ∙ sym (put-append c.args.table.now (rows_to_kids c.in_ok-comes.comes (out-Wiring net).kids) (rows_by boss c.in_ok-list.list))
     ∙ ap (put_all c.args.table.now) (net-rows net come c.in_ok-kids.kids c.in_ok-comes.comes c.in_ok-list.list
     (subst (λ (kids : List WiredKid). Sends c.in_ok-kids.kids (map flow_of_kid kids)) c.as_slice.ensures c.in_ok-kids.ensures)
     (λ name. c.in_ok-comes.ensures name ∙ ap (λ (links : List Link). passing from 0 links (part.Kid name)) c.as_slice-2.ensures)
-    (c.in_ok-list.ensures ∙ ap (λ (links : List Link). passing from 0 links part.Boss) c.as_slice-4.ensures))
+    (c.in_ok-list.ensures ∙ ap (λ (links : List Link). passing from 0 links part.Boss) c.as_slice-4.ensures)))
+    c.put_rows.ensures.rows
+
+pub put_beneath-returns-clause-ticks : goal.put_beneath-returns-clause-ticks
+put_beneath-returns-clause-ticks g t c =
+    ok-map c.put_rows.result _ _ (λ is. omega (arith, is, c.in_ok-put_kids.ensures.ticks)) c.put_rows.ensures.ticks
 
 pub put_kids-loop-kid-preserved : goal.put_kids-loop-kid-preserved
 put_kids-loop-kid-preserved g t c = (
