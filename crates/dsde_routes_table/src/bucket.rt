@@ -62,7 +62,10 @@ impl Bucket {
         ensures kept { OnErr result (self.new ≡ self.old) }
     {
         match find(self.rows.as_slice(), &row) {
-            Place::Here(_) => Ok(false),
+            Place::Here(_) => {
+                drop(row);
+                Ok(false)
+            }
             Place::Free(index) => {
                 self.rows.insert(index, row)?;
                 Ok(true)
