@@ -58,7 +58,9 @@ pub fn begin_over(
         rank: Rank::new(alloc),
         chain: Chain::new(alloc),
     };
-    push_on(alloc, number, link, &first, ways)
+    let done = push_on(alloc, number, link, &first, ways);
+    drop(first);
+    done
 }
 
 /// Adds the way of a number, which goes on over a link.
