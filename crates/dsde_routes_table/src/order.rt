@@ -13,11 +13,14 @@ use std::cmp::Ordering;
 pub fn compare_targets(one: &Row, other: &Row) -> Ordering
     ensures { result ≡ target_cmp one.now other.now }
 {
-    one.target
-        .birth
-        .cmp(&other.target.birth)
-        .then(one.target_port.cmp(&other.target_port))
-        .then(one.rank.as_slice().cmp(other.rank.as_slice()))
+    // Ranks are compared only where the targets are the same.
+    match one.target.birth.cmp(&other.target.birth) {
+        Ordering::Equal => one
+            .target_port
+            .cmp(&other.target_port)
+            .then(one.rank.as_slice().cmp(other.rank.as_slice())),
+        order => order,
+    }
 }
 
 /// Whether two keys of translations are equal.

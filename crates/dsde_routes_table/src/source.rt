@@ -41,10 +41,11 @@ impl Ord for Source {
     ghost matches_eq = { Prim.search (comparing, rules) };
 
     fn cmp(&self, other: &Source) -> Ordering {
-        self.birth
-            .cmp(&other.birth)
-            .then(self.slot.cmp(&other.slot))
-            .then(self.port.cmp(&other.port))
+        // Nearly all births differ: the others are not looked at then.
+        match self.birth.cmp(&other.birth) {
+            Ordering::Equal => self.slot.cmp(&other.slot).then(self.port.cmp(&other.port)),
+            order => order,
+        }
     }
 }
 
