@@ -5,3 +5,4 @@ mod Phases
 mod Planted
 mod Resting
 mod Starting
+mod Outs

@@ -9,6 +9,7 @@ mod held;
 mod links;
 mod planting;
 mod showing;
+mod telling;
 mod turning;
 mod whole;
 

@@ -20,16 +20,16 @@ ghost use Rattle.dsde_queue.specs.Queue.{first_of, time_of};
 ghost use Rattle.dsde_core_moving.specs.given.core_flat.Scheduled.{IsScheduled, IsScheduledBut};
 ghost use Rattle.dsde_core_moving.specs.given.core_flat.Stands.{IsShallow};
 ghost use Rattle.dsde_core_moving.specs.given.core_moves.Flat.{delivery_of, tree_of, Stands};
-ghost use Rattle.dsde_core_moving.specs.given.core_moves.Movers.{handle_of, with_queue, AreMovers};
+ghost use Rattle.dsde_core_moving.specs.given.core_moves.Movers.{handle_of, list_of, ports_of, with_queue, AreMovers};
 ghost use Rattle.dsde_core_moving.specs.given.core_moves.Resting.{Rests};
 ghost use Rattle.dsde_core.specs.Turned.{with_turn};
 
+use crate::telling::tell_sent;
 use dsde_base::Steps;
 use dsde_core_moving::given::core_flat::{compact_schedule, due_time};
 use dsde_core_moving::given::core_moves::{Flat, Phase};
 use dsde_core_moving::given::program::Program;
 use dsde_core_moving::given::sim_movers::{room_is_kept, turns_move_one_by_one};
-use dsde_core_moving::given::sim_telling::tell_outs;
 use dsde_core_moving::movers_move;
 use dsde_core_outputs::turn_movers;
 use dsde_sim_tree::{Event, MOST_PARTS, TurnEnd};
@@ -81,22 +81,22 @@ fn move_phase<L: Ledger, M: Ledger>(
     requires moment { IsMoment time }
     requires stands { Stands program.now flat.old }
     requires within { parts (tree_of flat.old) ≤ MOST_PARTS }
-    requires movers { (items : List AnItem) × AreMovers program.now flat.old time items phase.movers }
-    requires waits { IsScheduledBut flat.old.grove (map handle_of phase.movers) flat.old.queue.pairs }
-    requires few { length phase.sent < 2 ^ 32 }
+    requires movers { (items : List AnItem) × AreMovers program.now flat.old time items (list_of phase.movers) }
+    requires waits { IsScheduledBut flat.old.grove (map handle_of (list_of phase.movers)) flat.old.queue.pairs }
+    requires few { length (ports_of phase.sent) < 2 ^ 32 }
     requires births { flat.old.grove.next_birth + 2 ^ 34 < 2 ^ 64 }
-    ensures told { Tells (free_phase (system program.now) (tree_of flat.old) time (map delivery_of phase.movers) phase.sent) events.old events.new (with_turn flat.new result) }
+    ensures told { Tells (free_phase (system program.now) (tree_of flat.old) time (map delivery_of (list_of phase.movers)) (ports_of phase.sent)) events.old events.new (with_turn flat.new result) }
     ensures stands { OnOk result (Stands program.now flat.new) }
     ensures within { OnOk result (parts (tree_of flat.new) ≤ MOST_PARTS) }
     ensures scheduled { OnOk result (IsScheduled flat.new.grove flat.new.queue.pairs) }
     ensures births { OnOk result (flat.new.grove.next_birth ≤ flat.old.grove.next_birth + 2 ^ 33) }
-    ensures many { OnOk result (length phase.movers + work events.old ≤ work events.new) }
+    ensures many { OnOk result (length (list_of phase.movers) + work events.old ≤ work events.new) }
     ensures paid { OnOk result (looks.new + 4 * length flat.new.queue.pairs + 16 * work events.old ≤ looks.old + 4 * length flat.old.queue.pairs + 16 * work events.new
-        + 4 * entries_each (system program.now) root time (map delivery_of phase.movers) (tree_of flat.old) (MOST_PARTS - parts (tree_of flat.old))) }
+        + 4 * entries_each (system program.now) root time (map delivery_of (list_of phase.movers)) (tree_of flat.old) (MOST_PARTS - parts (tree_of flat.old))) }
 {
     room_is_kept();
     let Phase { sent, movers } = phase;
-    tell_outs(alloc, sent.as_slice(), events)?;
+    tell_sent(alloc, sent, events)?;
     let room = MOST_PARTS - flat.grove.live();
     let _room = movers_move(
         alloc, program, flat, movers, time, room, events, looks, changes,

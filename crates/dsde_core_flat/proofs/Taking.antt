@@ -2,7 +2,7 @@
 use Rattle.std.proofs.Common.{◌≡◌, ◌≢◌, ◌⊎◌, inl, inr, ℕ, ◌+◌, ◌<◌, ◌≤◌, ◌==◌, ◌&&◌, not, nat_lt, ltb-true, ltb-false, eqb-true, eq-eqb, Bool, true, false, cond, List, [], ◌∷◌, ◌++◌, map, filter, Option, Some, None, IfSome, IsSome, MatchOption, IsPermutation, IsSorted, refl, sym, ap, subst, ◌∙◌, append_assoc, arith}
 use Rattle.std.proofs.lemmas.Cmp.{eq_by_cmp_equiv, tied_itself}
 use Rattle.std.proofs.lemmas.List.{append-nil}
-use Rattle.std.proofs.lemmas.List.Sorted.{Contains-permutation, IsPermutation-sym}
+use Rattle.std.proofs.lemmas.List.Sorted.{Contains-permutation, IsPermutation-refl, IsPermutation-sym}
 use Rattle.std.proofs.lemmas.List.Kept.{IsStrictlySortedBy-dedup}
 use Rattle.std.proofs.lemmas.Map.Keys.{IsDistinct-head, IsDistinct-tail, IsDistinct-cons, IsDistinct-IsPermutation}
 use Rattle.std.specs.Option.{option_map, option_map_or}
@@ -30,7 +30,7 @@ use Rattle.dsde_core_flat.specs.Scheduled.{is_next, IsScheduled, IsScheduledBut}
 use Rattle.dsde_core_flat.specs.lemmas.Keeping.{spot-got}
 use Rattle.dsde_core_flat.specs.lemmas.Groves.{spot-slot}
 use Rattle.dsde_core_flat.specs.lemmas.Moves.{one-handle-at}
-use Rattle.dsde_core_flat.specs.lemmas.Names.{path-exact}
+use Rattle.dsde_core_flat.specs.lemmas.Names.{path-exact, paths-total}
 use Rattle.dsde_core_flat.specs.lemmas.Pairs.{first-least, current-next, next-current}
 use Rattle.dsde_core_flat.specs.declared.due.Due.{Due}
 use Rattle.dsde_core_flat.specs.Due.{IsDue, AreDue, due_cmp, is_tied, due_at, due_after, is_again, is_new, at_time, after_time, handle_of}
@@ -338,3 +338,33 @@ module _ (own : Grove Spot) (time : ℕ) (tree : IsTree own) (pairs : List (ℕ 
 
   pub taken-left : IsScheduledBut own (map handle_of list) (after_time time pairs)
   taken-left = record { due = λ handle leaf next held at. waits-by handle leaf next (next == time) refl held at }
+
+-- where whoever is due has one path, at most one is taken
+one-taken : (path : Path) (list : List Due) → IsDistinct is_tied list → AllByRecursion (λ (due : Due). due.path ≡ path) list → IsSorted due_cmp list
+one-taken path [] apart all = λ k d low high. absurd (omega (arith, high))
+one-taken path (x ∷ []) apart all = λ k d low high. absurd (omega (arith, high))
+one-taken path (x ∷ y ∷ rest) apart all =
+    let no : is_tied x y ≡ false = (IsDistinct-head is_tied x (y ∷ rest) apart).0 in
+    let same : y.path ≡ x.path = all.1.0 ∙ sym all.0 in
+    let yes : is_tied x y ≡ true = ap (λ (path : Path). is_tied x (record { path = path; handle = y.handle })) same ∙ (eq_by_cmp_equiv paths-total).refl x.path in
+    absurd (let wrong : true ≡ false = sym yes ∙ no in cc)
+
+module _ (own : Grove Spot) (time : ℕ) (tree : IsTree own) (pairs : List (ℕ × Handle)) (scheduled : IsScheduled own pairs) (ordered : IsOrdered pairs)
+    (path : Path) (one : (due : Due) → IsDue own time due → due.path ≡ path) where
+  abbrev pub lone-taken : List Due
+  lone-taken = due_after own time None (handles (at_time time pairs))
+
+  with-path : (list : List Due) → AllByRecursion (IsDue own time) list → AllByRecursion (λ (due : Due). due.path ≡ path) list
+  with-path [] all = tt
+  with-path (due ∷ dues) all = (one due all.0, with-path dues all.1)
+
+  lone-sorted : IsSorted due_cmp lone-taken
+  lone-sorted =
+      let all = all-due own time None (handles (at_time time pairs)) in
+      one-taken path lone-taken (distinct own time tree lone-taken all (rises own time None (handles (at_time time pairs)) (climbs time pairs ordered) tt).1) (with-path lone-taken all)
+
+  pub lone-due : AreDue own time lone-taken
+  lone-due = taken-due own time tree pairs scheduled ordered lone-taken (IsPermutation-refl lone-taken) lone-sorted
+
+  pub lone-left : IsScheduledBut own (map handle_of lone-taken) (after_time time pairs)
+  lone-left = taken-left own time tree pairs scheduled ordered lone-taken (IsPermutation-refl lone-taken) lone-sorted

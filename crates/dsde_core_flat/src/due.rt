@@ -109,6 +109,15 @@ fn take_due<L: Ledger>(
     Ok(list)
 }
 
+/// Takes the pairs of a time out of a schedule in which none is earlier, without a look at who is due.
+pub fn pass_due(queue: &mut Queue, time: u64)
+    requires least { IfSome (option_map time_of (first_of queue.old.pairs)) (λ first. time ≤ first) }
+    ensures pairs { queue.new.pairs ≡ after_time time queue.old.pairs }
+    ensures shorter { length queue.new.pairs ≤ length queue.old.pairs }
+{
+    while let Some(_handle) = take_at(queue, time) {}
+}
+
 /// Takes the pairs of a turn's time out of the schedule, in which none is earlier. Gives who is due at that
 /// time, in path order, each once; they wait for their moves. Each pair that leaves pays for its looks
 /// with 4, and each who is due adds at most 65. `Memory` where there is none: then some pairs have left.

@@ -3,7 +3,7 @@
 ghost use Rattle.std.specs.Prelude.{◌≡◌, ℕ, List, map, Option};
 ghost use Rattle.dsde_bank.specs.declared.handle.Handle.{Handle};
 ghost use Rattle.dsde_values.specs.Path.{root};
-ghost use Rattle.dsde_grove.specs.Grove.{Grove};
+ghost use Rattle.dsde_grove.specs.Grove.{Grove, IsTree};
 ghost use Rattle.dsde_sim_tree.specs.given.formalism.System.{System};
 ghost use Rattle.dsde_sim_tree.specs.declared.sim.Sim.{Sim};
 ghost use Rattle.dsde_sim_tree.specs.Output.{output};
@@ -13,7 +13,10 @@ ghost use Rattle.dsde_routes_wiring.specs.declared.wiring.Wiring.{Wiring};
 ghost use Rattle.dsde_core_flat.specs.declared.spot.Spot.{Spot};
 ghost use Rattle.dsde_core_flat.specs.Stands.{StandsFor};
 ghost use Rattle.dsde_core_flat.specs.declared.due.Due.{Due};
-ghost use Rattle.dsde_core_flat.specs.Due.{AreDue, asked};
+ghost use Rattle.dsde_core_flat.specs.Due.{after_time, asked, handle_of, AreDue, IsDue};
+ghost use Rattle.dsde_core_flat.specs.Scheduled.{IsScheduled, IsScheduledBut};
+ghost use Rattle.dsde_queue.specs.Queue.{IsOrdered};
+ghost use Rattle.dsde_values.specs.declared.path.Path.{Path};
 
 use dsde_sim_movers::outputs_are_asked;
 
@@ -31,3 +34,10 @@ pub fn outputs_ask_the_due()
 {
     outputs_are_asked();
 }
+
+/// Where whoever is due at a time has this path, the pairs that are left when those of that time are taken out of a
+/// schedule serve all others.
+pub fn lone_due_wait()
+    ensures { (own : Grove Spot) (time : ℕ) (pairs : List (ℕ × Handle)) (path : Path) → IsTree own → IsScheduled own pairs → IsOrdered pairs → ((due : Due) → IsDue own time due → due.path ≡ path) →
+        (list : List Due) × AreDue own time list × IsScheduledBut own (map handle_of list) (after_time time pairs) }
+{}

@@ -16,8 +16,8 @@ mod spot;
 mod tree_laws;
 
 pub use compacting::compact_schedule;
-pub use due::{Due, turn_due};
-pub use due_laws::{due_leaves_are_asked, outputs_ask_the_due};
+pub use due::{Due, pass_due, turn_due};
+pub use due_laws::{due_leaves_are_asked, lone_due_wait, outputs_ask_the_due};
 pub use front::due_time;
 pub use grafting::{graft, graft_kids, schedule};
 pub use held::{is_due_at, leaf_at};

@@ -13,8 +13,8 @@ pub mod check_tables {
 /// Of `dsde_core_flat`.
 pub mod core_flat {
     pub use dsde_core_flat::{
-        Due, Planted, Spot, compact_schedule, due_time, graft_kids, leaf_at, outputs_ask_the_due,
-        paths_are_short, plant, turn_due,
+        Due, Planted, Spot, compact_schedule, due_time, graft_kids, leaf_at, lone_due_wait,
+        outputs_ask_the_due, pass_due, paths_are_short, plant, turn_due,
     };
 }
 

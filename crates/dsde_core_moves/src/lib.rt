@@ -21,4 +21,4 @@ pub use dsde_sim_moving::kind_of;
 pub use flat::{Flat, Mover};
 pub use move_held::{put_leaf, put_moved};
 pub use moving::component_moves;
-pub use phase::Phase;
+pub use phase::{Movers, Phase, Sent};

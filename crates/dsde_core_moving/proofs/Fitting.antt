@@ -1,8 +1,7 @@
 -- A wiring that shows a tree that fits a program is wired.
-use Rattle.std.proofs.Common.{◌≡◌, ◌&&◌, Bool, true, false, List, [], ◌∷◌, map, Option, Some, None, refl, sym, ap, subst, ◌∙◌}
+use Rattle.std.proofs.Common.{◌≡◌, ◌&&◌, false, List, [], ◌∷◌, map, Option, Some, None, refl, subst}
 use Rattle.std.specs.List.{AllByRecursion}
 use Rattle.dsde_bank.specs.declared.handle.Handle.{Handle}
-use Rattle.dsde_values.specs.declared.name.Name.{Name}
 use Rattle.dsde_syntax.specs.declared.decl.Model.{Model}
 use Rattle.dsde_language.specs.DeclaredModels.{Own}
 use Rattle.dsde_structure.specs.declared.plan.Entry.{Entry}
@@ -13,7 +12,6 @@ use Rattle.dsde_structure.specs.Gather.{is_part}
 use Rattle.dsde_structure.specs.Survival.{names, AreInOrder}
 use Rattle.dsde_sim_starting.specs.given.system.Plans.{FitsLink, IsThrough}
 use Rattle.dsde_grove.specs.Grove.{Grove, value_of}
-use Rattle.dsde_sim_tree.specs.declared.sim.Kid.{Kid}
 use Rattle.dsde_sim_tree.specs.declared.sim.Net.{Net}
 use Rattle.dsde_sim_tree.specs.declared.sim.Sim.{Sim}
 use Rattle.dsde_sim_tree.specs.declared.sim.Sim.TheVariants as sim

@@ -4,7 +4,6 @@ use Rattle.std.specs.Prelude.{is_some, IsPermutation}
 use Rattle.std.specs.Option.{option_to_list}
 use Rattle.std.specs.Ordering.{on}
 use Rattle.std.specs.Cmp.{IsTotalOrder}
-use Rattle.std.specs.List.{AllByRecursion}
 use Rattle.std.specs.List.Sorted.{IsStrictlySortedBy}
 use Rattle.std.proofs.lemmas.Cmp.{on_total}
 use Rattle.std.proofs.lemmas.List.Sorted.{IsPermutation-refl, IsPermutation-sym, IsPermutation-cons, IsPermutation-trans, IsPermutation-middle, Contains-permutation}
@@ -20,7 +19,7 @@ use Rattle.dsde_sim_tree.specs.declared.sim.Kid.{Kid}
 use Rattle.dsde_sim_tree.specs.Tree.{entry_of, name_of, started_as}
 use Rattle.dsde_sim_tree.specs.Move.{kept, survives, take_named}
 use Rattle.dsde_sim_changing.specs.Survivors.{is_next}
-use Rattle.dsde_sim_changing.proofs.Choosing.{chosen, taken, AllSurvive, Chosen}
+use Rattle.dsde_sim_changing.proofs.Choosing.{chosen, AllSurvive, Chosen}
 use Rattle.dsde_sim_changing.proofs.Keeping.{filter-passes, kids-in-order, order-filter}
 use Rattle.dsde_sim_movers.specs.lemmas.Named.{names-of}
 use Rattle.dsde_sim_movers.proofs.MoverTelling.{same-list}

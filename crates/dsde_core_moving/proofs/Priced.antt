@@ -8,7 +8,6 @@ use Rattle.dsde_sim_tree.specs.given.formalism.leaf_MoveKind.{MoveKind}
 use Rattle.dsde_sim_tree.specs.given.formalism.Leaf.{kind_of}
 use Rattle.dsde_sim_tree.specs.given.formalism.System.{System}
 use Rattle.dsde_structure.specs.declared.plan.Plan.{Plan}
-use Rattle.dsde_sim_starting.specs.given.system.Program.{system}
 use Rattle.dsde_sim_tree.specs.declared.event.Event.{Event}
 use Rattle.dsde_sim_tree.specs.declared.fault.TurnEnd.{TurnEnd}
 use Rattle.dsde_sim_tree.specs.Told.{Told, Tells}

@@ -1,5 +1,5 @@
 -- The components that stay, by their tests and by the names of those that go.
-use Rattle.std.proofs.Common.{◌≡◌, ℕ, ◌+◌, ◌≤◌, Bool, true, false, not, cond, List, [], ◌∷◌, length, map, filter, Less, refl, sym, ap, subst, ◌∙◌, arith}
+use Rattle.std.proofs.Common.{◌≡◌, ◌≤◌, Bool, true, false, not, cond, List, [], ◌∷◌, length, map, filter, Less, refl, sym, ap, subst, ◌∙◌, arith}
 use Rattle.std.specs.List.{AllByRecursion, list_any}
 use Rattle.std.specs.List.Sorted.{IsStrictlySortedBy}
 use Rattle.std.proofs.lemmas.Map.Keys.{sorted_head, sorted_tail}
@@ -10,7 +10,7 @@ use Rattle.dsde_structure.specs.Gather.{is_same_name}
 use Rattle.dsde_structure.specs.Survival.{names, AreInOrder}
 use Rattle.dsde_grove.specs.Grove.{Grove, value_of}
 use Rattle.dsde_sim_tree.specs.declared.sim.Kid.{Kid}
-use Rattle.dsde_sim_tree.specs.Tree.{parts_of_kid, parts_of_kids}
+use Rattle.dsde_sim_tree.specs.Tree.{parts_of_kids}
 use Rattle.dsde_sim_tree.specs.Move.{gone, kept, survives}
 use Rattle.dsde_sim_movers.proofs.MoverChanging.{each-called}
 use Rattle.dsde_routes_wiring.specs.declared.wiring.WiredKid.{WiredKid}

@@ -1,5 +1,5 @@
 -- What a change tells, part by part.
-use Rattle.std.proofs.Common.{◌≡◌, ℕ, ◌+◌, ◌≤◌, OnOk, arith, List, [], ◌++◌, length, map, Result, Ok, Err, refl, sym, ap, subst, ◌∙◌}
+use Rattle.std.proofs.Common.{◌≡◌, ℕ, ◌+◌, ◌≤◌, OnOk, arith, List, [], ◌++◌, map, Result, Ok, Err, sym, ap, subst, ◌∙◌}
 use Rattle.std.proofs.lemmas.List.Sums.{sum_by-append}
 use Rattle.std.proofs.Math.Seq.{take-append_seam}
 use Rattle.dsde_values.specs.declared.path.Path.{Path}
@@ -18,7 +18,6 @@ use Rattle.dsde_sim_tree.specs.Tree.{entry_of, parts_of_kids}
 use Rattle.dsde_sim_tree.specs.Start.{start, starts}
 use Rattle.dsde_sim_tree.specs.Move.{change, drop_of, gone, kept, left_behind}
 use Rattle.dsde_sim_movers.specs.Work.{work, work_of}
-use Rattle.dsde_routes_wiring.specs.declared.wiring.WiredKid.{WiredKid}
 use Rattle.dsde_core_moves.specs.given.core_flat.spot_Spot.{Spot}
 use Rattle.dsde_core_moves.specs.declared.flat.Flat.{Flat}
 use Rattle.dsde_core_moves.specs.Flat.{tree_of}
@@ -26,7 +25,7 @@ use Rattle.dsde_core_moves.specs.Chosen.{shown}
 use Rattle.dsde_core_moving.specs.Placed.{placed}
 use Rattle.dsde_core_moving.specs.Restructured.{with_room}
 use Rattle.dsde_core_moving.specs.declared.changing.Changed.{Changed}
-use Rattle.dsde_core_moving.specs.Changed.{as_shown, changed_to}
+use Rattle.dsde_core_moving.specs.Changed.{changed_to}
 
 -- where all was told and memory runs out behind it
 all-cut : (old events new : List Event) → new ≡ old ++ events → IsCut old events new

@@ -9,7 +9,7 @@ pub mod core_flat {
 
 /// Of `dsde_core_moves`.
 pub mod core_moves {
-    pub use dsde_core_moves::{Flat, Phase};
+    pub use dsde_core_moves::{Flat, Phase, Sent};
 }
 
 /// Of `dsde_program`.

@@ -1,5 +1,5 @@
 -- What is taken out of inboxes for some does not change what they bring to others.
-use Rattle.std.proofs.Common.{◌≡◌, ℕ, Bool, true, false, cond, List, [], ◌∷◌, ◌++◌, map, Option, Some, None, Ordering, Less, Equal, IsSorted, is_lt, refl, sym, ap, ◌∙◌, zero, suc, ◌+◌, ◌<◌, length, get_or, add-one, arith}
+use Rattle.std.proofs.Common.{◌≡◌, ℕ, Bool, true, false, cond, List, [], ◌∷◌, ◌++◌, map, Option, Some, None, Ordering, Less, Equal, IsSorted, is_lt, refl, sym, ap, ◌∙◌, zero, suc, ◌<◌, length, get_or, add-one, arith}
 use Rattle.std.specs.List.{AllByRecursion, flat_map}
 use Rattle.std.specs.List.Sorted.{IsStrictlySortedBy}
 use Rattle.std.specs.Ordering.{ordering_reverse}

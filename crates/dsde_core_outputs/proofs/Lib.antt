@@ -18,3 +18,4 @@ mod Typing
 mod Waiting
 mod Waits
 mod Whole
+mod AloneSending

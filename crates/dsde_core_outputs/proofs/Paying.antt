@@ -1,5 +1,5 @@
 -- How many who are due, and how many rows, a turn's looks are paid by.
-use Rattle.std.proofs.Common.{◌≡◌, ◌↔◌, ℕ, ◌+◌, ◌*◌, ◌≤◌, false, true, List, [], ◌∷◌, ◌++◌, length, map, IsPermutation, Result, Ok, Err, IfOk, OnOk, Contains, refl, sym, ◌∙◌, ap, subst, arith, length-append}
+use Rattle.std.proofs.Common.{◌≡◌, ℕ, ◌+◌, ◌*◌, ◌≤◌, false, true, List, [], ◌∷◌, ◌++◌, length, map, IsPermutation, Result, Ok, Err, IfOk, OnOk, refl, sym, ◌∙◌, ap, arith, length-append}
 use Rattle.std.specs.FinSet as set
 use Rattle.std.proofs.lemmas.List.{length-map}
 use Rattle.std.proofs.lemmas.List.Sorted.{length_permutation}
@@ -9,15 +9,13 @@ use Rattle.dsde_sim_tree.specs.given.formalism.System.{System}
 use Rattle.dsde_sim_tree.specs.declared.fault.TurnEnd.{TurnEnd}
 use Rattle.dsde_grove.specs.Grove.{Grove}
 use Rattle.dsde_queue.specs.Queue.{Queue}
-use Rattle.dsde_core_parcels.specs.given.routes_wiring.row_Row.{Row}
-use Rattle.dsde_core_parcels.specs.given.routes_wiring.Flatten.{is_from}
-use Rattle.dsde_core_parcels.specs.given.routes_wiring.Sets.{row_cmp, Rows}
+use Rattle.dsde_core_parcels.specs.given.routes_wiring.Sets.{row_cmp}
 use Rattle.dsde_core_parcels.specs.given.core_flat.spot_Spot.{Spot}
 use Rattle.dsde_core_parcels.specs.given.core_flat.due_Due.{Due}
 use Rattle.dsde_core_parcels.specs.given.core_moves.flat_Flat.{Flat}
 use Rattle.dsde_core_parcels.specs.given.core_moves.flat_Mover.{Mover}
 use Rattle.dsde_core_parcels.specs.given.core_moves.phase_Phase.{Phase}
-use Rattle.dsde_core_parcels.specs.given.core_moves.Movers.{with_queue}
+use Rattle.dsde_core_parcels.specs.given.core_moves.Movers.{list_of, with_queue}
 use Rattle.dsde_core_parcels.specs.declared.inbox.Inbox.{Inbox}
 use Rattle.dsde_core_parcels.specs.declared.parcel.Outlet.{Outlet}
 use Rattle.dsde_core_parcels.specs.Calling.{due_movers, emptied, left_by}
@@ -68,15 +66,15 @@ rows-with model flat queue time items rows has = record { dues = has.dues; due =
 -- what a turn's movers come to, with those who are due taken out of the schedule
 abbrev Paid : Model → Flat → ℕ → List Item → ℕ → ℕ → ℕ → ℕ → Result Phase TurnEnd → Type 0
 Paid model flat time items before pairs after left result =
-    IfOk result (λ phase. (rows : ℕ) × HasRows model flat time items rows × (after + 4 * left ≤ before + 2 + 4 * pairs + 69 * length phase.movers + 67 * rows))
+    IfOk result (λ phase. (rows : ℕ) × HasRows model flat time items rows × (after + 4 * left ≤ before + 2 + 4 * pairs + 69 * length (list_of phase.movers) + 67 * rows))
 
 pub net-paid : (model : Model) (flat : Flat) (queue : Queue) (time : ℕ) (items : List Item) (dues before mid after pairs left : ℕ) (result : Result Phase TurnEnd) → mid + 4 * left ≤ before + 4 * pairs + 65 * dues →
-    IfOk result (λ phase. dues ≤ length phase.movers) → OnOk result ((rows : ℕ) × HasRows model (with_queue flat queue) time items rows × (after ≤ mid + 2 + 4 * dues + 67 * rows)) → Paid model flat time items before pairs after left result
+    IfOk result (λ phase. dues ≤ length (list_of phase.movers)) → OnOk result ((rows : ℕ) × HasRows model (with_queue flat queue) time items rows × (after ≤ mid + 2 + 4 * dues + 67 * rows)) → Paid model flat time items before pairs after left result
 net-paid model flat queue time items dues before mid after pairs left (Err end) taken many counted = tt
 net-paid model flat queue time items dues before mid after pairs left (Ok phase) taken many counted =
     (counted.0, rows-with model flat queue time items counted.0 counted.1, (let less = counted.2 in omega (arith, taken, many, less)))
 
 pub lone-paid : (model : Model) (flat : Flat) (queue : Queue) (time : ℕ) (items : List Item) (dues before mid after pairs left : ℕ) (result : Result Phase TurnEnd) → mid + 4 * left ≤ before + 4 * pairs + 65 * dues →
-    IfOk result (λ phase. dues ≤ length phase.movers) → after ≤ mid + 2 → OnOk result (HasRows model (with_queue flat queue) time items 0) → Paid model flat time items before pairs after left result
+    IfOk result (λ phase. dues ≤ length (list_of phase.movers)) → after ≤ mid + 2 → OnOk result (HasRows model (with_queue flat queue) time items 0) → Paid model flat time items before pairs after left result
 lone-paid model flat queue time items dues before mid after pairs left (Err end) taken many few rows = tt
 lone-paid model flat queue time items dues before mid after pairs left (Ok phase) taken many few rows = (0, rows-with model flat queue time items 0 rows, omega (arith, taken, many, few))

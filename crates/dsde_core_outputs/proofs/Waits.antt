@@ -1,5 +1,5 @@
 -- Who is due where a component is the whole model is the component.
-use Rattle.std.proofs.Common.{◌≡◌, ℕ, ◌≤◌, ◌||◌, Bool, true, false, if◌then◌else◌, List, [], ◌∷◌, length, map, Option, Some, None, IsNone, Less, Equal, refl, sym, ap, subst, ◌∙◌, inl, inr, arith}
+use Rattle.std.proofs.Common.{◌≡◌, ℕ, ◌≤◌, ◌||◌, Bool, true, false, if◌then◌else◌, List, [], ◌∷◌, length, map, Option, Some, None, IsNone, IsSome, Less, Equal, refl, sym, ap, subst, ◌∙◌, inl, inr, arith}
 use Rattle.std.proofs.lemmas.List.Elements.{All-from_recursion}
 use Rattle.std.proofs.lemmas.Map.Keys.{sorted_head}
 use Rattle.std.specs.Cmp.{tied_itself, IsTotalOrder}
@@ -26,9 +26,10 @@ use Rattle.dsde_core_parcels.specs.given.core_flat.spot_Spot.{Spot}
 use Rattle.dsde_core_parcels.specs.given.core_flat.spot_Spot_TheVariants as variant
 use Rattle.dsde_core_parcels.specs.given.core_flat.Places.{place, Place}
 use Rattle.dsde_core_parcels.specs.given.core_flat.lemmas_Fitting.{tree-named}
+use Rattle.dsde_core_parcels.specs.given.core_flat.Scheduled.{held_leaf}
 use Rattle.dsde_core_parcels.specs.given.core_flat.due_Due.{Due}
 use Rattle.dsde_core_parcels.specs.given.core_flat.Due as due
-use Rattle.dsde_core_parcels.specs.given.core_flat.Due.{AreDue}
+use Rattle.dsde_core_parcels.specs.given.core_flat.Due.{AreDue, IsDue}
 use Rattle.dsde_core_parcels.specs.lemmas.Living.{living, place-path}
 use Rattle.dsde_core_parcels.specs.given.core_moves.flat_Flat.{Flat}
 use Rattle.dsde_core_parcels.specs.given.core_moves.flat_Mover.{Mover}
@@ -39,7 +40,7 @@ use Rattle.dsde_core_outputs.specs.Alone.{one_called, IsAlone}
 use Rattle.dsde_core_outputs.specs.Rows.{HasRows}
 use Rattle.dsde_core_outputs.proofs.AloneCalling.{due-called}
 use Rattle.dsde_core_outputs.proofs.Paying.{none-counted}
-use Rattle.dsde_core_outputs.proofs.Whole.{stands-alone, tree-fits}
+use Rattle.dsde_core_outputs.proofs.Whole.{lives, stands-alone, tree-fits}
 
 no-wiring : (wiring : Option Wiring) → IsNone wiring → wiring ≡ None
 no-wiring None none = refl
@@ -71,6 +72,12 @@ module _ (model : Model) (flat : Flat) (stands : Stands model flat) (leaf : Leaf
       (is.path ∙ ap (path_at flat.grove) its.0, ap (λ (one : Leaf). is_due one time) (sym its.1) ∙ lives.2)
 
   -- and has the root's path
+  path-here : (time : ℕ) (own : Due) → IsDue flat.grove time own → own.path ≡ root
+  path-here time own is =
+      let here : root ≡ path_at flat.grove flat.root = place-path flat.grove (place flat.root root false) (stands-alone flat leaf alone model stands).live.0 in
+      let lives = due-held flat.grove time own.handle is.next in
+      is.path ∙ ap (path_at flat.grove) (only own.handle lives.0 lives.1).0 ∙ sym here
+
   pub paths : (time : ℕ) (dues : List Due) → AreDue flat.grove time dues → All (λ (own : Due). own.path ≡ root) dues
   paths time dues are =
       let here : root ≡ path_at flat.grove flat.root = place-path flat.grove (place flat.root root false) (stands-alone flat leaf alone model stands).live.0 in
@@ -109,3 +116,14 @@ module _ (model : Model) (flat : Flat) (stands : Stands model flat) (leaf : Leaf
       let now : is_due leaf time ≡ true = ap (λ (own : Leaf). is_due own time) (sym its.1) ∙ lives.2 in
       contains-from (map handle_of (one_called leaf flat.root root time got)) handle
       (subst (λ (own : Handle). Among own (map handle_of (one_called leaf flat.root root time got))) (sym (found.2 ∙ its.0)) (due-called leaf flat.root root time got now))
+
+-- where nothing is wired whoever is due has the root's path
+pub due-path : (model : Model) (flat : Flat) → Stands model flat → IsNone flat.wiring → (time : ℕ) (own : Due) → IsDue flat.grove time own → own.path ≡ root
+due-path model flat stands none time own is =
+    let found = found-leaf (value_of flat.grove flat.root) (lives model flat stands none) in
+    path-here model flat stands found.0 (record { none = none; held = found.1 }) time own is
+  where
+    found-leaf : (spot : Option Spot) → IsSome (held_leaf spot) → (leaf : Leaf) × (spot ≡ Some (variant.Leaf leaf))
+    found-leaf None some = absurd (let e : false ≡ true = some in cc)
+    found-leaf (Some (variant.Leaf leaf)) some = (leaf, refl)
+    found-leaf (Some (variant.Net model args)) some = absurd (let e : false ≡ true = some in cc)

@@ -18,7 +18,7 @@ ghost use Rattle.dsde_sim_tree.specs.Tree.{model_of};
 ghost use Rattle.dsde_sim_working.specs.Working.{FitsItems};
 ghost use Rattle.dsde_core_parcels.specs.given.core_flat.Scheduled.{held_leaf};
 ghost use Rattle.dsde_core_parcels.specs.given.core_flat.due_Due.{Due};
-ghost use Rattle.dsde_core_parcels.specs.given.core_flat.Due.{AreDue};
+ghost use Rattle.dsde_core_parcels.specs.given.core_flat.Due.{AreDue, IsDue};
 ghost use Rattle.dsde_core_parcels.specs.given.core_moves.flat_Flat.{Flat};
 ghost use Rattle.dsde_core_parcels.specs.given.core_moves.Flat.{tree_of, Stands};
 ghost use Rattle.dsde_core_parcels.specs.given.core_moves.Movers.{AreMovers, Wait};
@@ -43,6 +43,7 @@ pub(crate) fn lone_components_move()
     ensures many { (model : Model) (flat : Flat) (leaf : Leaf) (time : ℕ) (got : Ports) (dues : List Due) → Stands model flat → IsAlone flat leaf → AreDue flat.grove time dues →
         length dues ≤ length (one_called leaf flat.root root time got) }
     ensures paths { (model : Model) (flat : Flat) (leaf : Leaf) (time : ℕ) (dues : List Due) → Stands model flat → IsAlone flat leaf → AreDue flat.grove time dues → All (λ due. due.path ≡ root) dues }
+    ensures dues { (model : Model) (flat : Flat) (time : ℕ) → Stands model flat → IsNone flat.wiring → (due : Due) → IsDue flat.grove time due → due.path ≡ root }
     ensures rows { (model : Model) (flat : Flat) (leaf : Leaf) (time : ℕ) (items : List Item) (dues : List Due) → Stands model flat → IsAlone flat leaf → AreDue flat.grove time dues → HasRows model flat time items 0 }
 {
     sent_fits();

@@ -22,7 +22,7 @@ ghost use Rattle.dsde_core_parcels.specs.Asking.{ended};
 ghost use Rattle.dsde_core_parcels.specs.Counted.{CountsRows};
 ghost use Rattle.dsde_core_parcels.specs.Calling.{due_movers, emptied, gets_for, mover_cmp, IsFew};
 ghost use Rattle.dsde_core_parcels.specs.given.core_moves.Flat.{tree_of, Stands};
-ghost use Rattle.dsde_core_parcels.specs.given.core_moves.Movers.{sent_of, AreMovers, Wait};
+ghost use Rattle.dsde_core_parcels.specs.given.core_moves.Movers.{list_of, ports_of, sent_of, AreMovers, Wait};
 ghost use Rattle.dsde_core_outputs.specs.Rows.{HasRows};
 ghost use Rattle.dsde_core_outputs.specs.Rooting.{outs_of, taken_by, AreReady, AreSent, FillInboxes};
 
@@ -32,7 +32,7 @@ use crate::{
 };
 use dsde_base::Steps;
 use dsde_core_parcels::given::core_flat::{Due, Spot};
-use dsde_core_parcels::given::core_moves::{Flat, Mover, Phase};
+use dsde_core_parcels::given::core_moves::{Flat, Mover, Movers, Phase, Sent};
 use dsde_core_parcels::given::routes_table::RouteTable;
 use dsde_core_parcels::{
     Get, Inbox, Outlet, inboxes, inboxes_are_few, inboxes_are_received, live_leaves_fit, push_all,
@@ -254,10 +254,10 @@ pub fn net_movers<L: Ledger>(
     requires depth { IsShallow flat.now.grove }
     requires items { FitsItems program.now (model_of (tree_of flat.now)).0 items.now }
     ensures comes { Comes (output (system program.now) (tree_of flat.now) root time) (sent_of result) }
-    ensures few { IfOk result (λ phase. length phase.sent < 2 ^ 32) }
-    ensures movers { IfOk result (λ phase. AreMovers program.now flat.now time items.now phase.movers) }
-    ensures wait { IfOk result (λ phase. Wait due.items phase.movers) }
-    ensures many { IfOk result (λ phase. length due.items ≤ length phase.movers) }
+    ensures few { IfOk result (λ phase. length (ports_of phase.sent) < 2 ^ 32) }
+    ensures movers { IfOk result (λ phase. AreMovers program.now flat.now time items.now (list_of phase.movers)) }
+    ensures wait { IfOk result (λ phase. Wait due.items (list_of phase.movers)) }
+    ensures many { IfOk result (λ phase. length due.items ≤ length (list_of phase.movers)) }
     ensures ticks { OnOk result ((rows : ℕ) × HasRows program.now flat.now time items.now rows × (looks.new ≤ looks.old + 2 + 4 * length due.items + 67 * rows)) }
 {
     program.right();
@@ -268,5 +268,8 @@ pub fn net_movers<L: Ledger>(
     let mut boxes = filled(alloc, program, flat, model, due_now, time, items, looks)?;
     let sent = root_sends(alloc, program, flat, model, &mut boxes)?;
     let movers = all_called(alloc, program, flat, due, time, boxes, looks)?;
-    Ok(Phase { sent, movers })
+    Ok(Phase {
+        sent: Sent::Ports(sent),
+        movers: Movers::Many(movers),
+    })
 }

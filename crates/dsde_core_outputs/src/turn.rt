@@ -14,12 +14,13 @@ ghost use Rattle.dsde_core_parcels.specs.given.core_flat.Scheduled.{IsScheduled,
 ghost use Rattle.dsde_core_parcels.specs.given.core_flat.Stands.{IsShallow};
 ghost use Rattle.dsde_core_parcels.specs.given.core_moves.Flat.{tree_of, Stands};
 ghost use Rattle.dsde_core_outputs.specs.Rows.{HasRows};
-ghost use Rattle.dsde_core_parcels.specs.given.core_moves.Movers.{handle_of, sent_of, with_queue, AreMovers};
+ghost use Rattle.dsde_core_parcels.specs.given.core_moves.Movers.{handle_of, list_of, ports_of, sent_of, with_queue, AreMovers};
 
+use crate::alone_laws::lone_components_move;
 use crate::net_movers;
 use crate::single::root_movers;
 use dsde_base::Steps;
-use dsde_core_parcels::given::core_flat::turn_due;
+use dsde_core_parcels::given::core_flat::{lone_due_wait, pass_due, turn_due};
 use dsde_core_parcels::given::core_moves::{Flat, Phase};
 use dsde_sim_tree::TurnEnd;
 use dsde_sim_working::given::program::Program;
@@ -49,16 +50,19 @@ pub fn turn_movers<L: Ledger>(
     requires shallow { IsShallow flat.old.grove }
     requires items { FitsItems program.now (model_of (tree_of flat.old)).0 items.now }
     ensures comes { Comes (output (system program.now) (tree_of flat.old) root time) (sent_of result) }
-    ensures few { IfOk result (λ phase. length phase.sent < 2 ^ 32) }
-    ensures movers { IfOk result (λ phase. AreMovers program.now flat.new time items.now phase.movers) }
+    ensures few { IfOk result (λ phase. length (ports_of phase.sent) < 2 ^ 32) }
+    ensures movers { IfOk result (λ phase. AreMovers program.now flat.new time items.now (list_of phase.movers)) }
     ensures same { OnOk result (flat.new ≡ with_queue flat.old flat.new.queue) }
-    ensures waits { IfOk result (λ phase. IsScheduledBut flat.new.grove (map handle_of phase.movers) flat.new.queue.pairs) }
+    ensures waits { IfOk result (λ phase. IsScheduledBut flat.new.grove (map handle_of (list_of phase.movers)) flat.new.queue.pairs) }
     ensures paid { IfOk result (λ phase. (rows : ℕ) × HasRows program.now flat.old time items.now rows
-        × (looks.new + 4 * length flat.new.queue.pairs ≤ looks.old + 2 + 4 * length flat.old.queue.pairs + 69 * length phase.movers + 67 * rows)) }
+        × (looks.new + 4 * length flat.new.queue.pairs ≤ looks.old + 2 + 4 * length flat.old.queue.pairs + 69 * length (list_of phase.movers) + 67 * rows)) }
 {
-    let due = turn_due(alloc, &flat.grove, &mut flat.queue, time, looks)?;
-    if flat.wiring.is_some() {
-        return net_movers(alloc, program, flat, due, time, items, looks);
+    lone_due_wait();
+    lone_components_move();
+    if flat.wiring.is_none() {
+        pass_due(&mut flat.queue, time);
+        return root_movers(alloc, program, flat, time, items, looks);
     }
-    root_movers(alloc, program, flat, due, time, items, looks)
+    let due = turn_due(alloc, &flat.grove, &mut flat.queue, time, looks)?;
+    net_movers(alloc, program, flat, due, time, items, looks)
 }

@@ -32,7 +32,7 @@ fn put_each(ports: Seq<Values>, items: Seq<Item>) -> Result<Seq<Values>, Memory>
 }
 
 /// The values of items, port by port, in one pass.
-pub(crate) fn into_ports(alloc: Global, ports: u32, items: Seq<Item>) -> Result<Seq<Values>, Memory>
+pub fn into_ports(alloc: Global, ports: u32, items: Seq<Item>) -> Result<Seq<Values>, Memory>
     ensures value { IfOk result (λ got. got ≡ by_port ports items) }
     ensures few { IfOk result (λ got. length got < 2 ^ 32) }
 {

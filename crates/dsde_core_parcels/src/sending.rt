@@ -29,7 +29,12 @@ use std::alloc::Global;
 use std::sync::ledger::Ledger;
 
 /// What is sent at this time: the output where it is due, else nothing.
-fn sent_at(alloc: Global, program: &Program, leaf: &Leaf, time: u64) -> Result<Seq<Item>, LeafEnd>
+pub fn sent_at(
+    alloc: Global,
+    program: &Program,
+    leaf: &Leaf,
+    time: u64,
+) -> Result<Seq<Item>, LeafEnd>
     requires { FitsLeaf program.now leaf.now }
     ensures gives { Gives (sent_at (system program.now) leaf.now time) result }
     ensures fits { IfOk result (λ items. FitsSends program.now leaf.now.model.0 items) }

@@ -1,24 +1,20 @@
-use Rattle.std.proofs.Common.{rules, ◌≡◌, ℕ, ◌+◌, ◌*◌, ◌^◌, ◌<◌, ◌≤◌, ◌++◌, Bool, List, [], length, map, not, true, false, Result, Ok, Err, OnErr, refl, sym, ap, subst, ◌∙◌, arith}
+use Rattle.std.proofs.Common.{◌≡◌, ℕ, ◌+◌, ◌++◌, Bool, List, [], length, map, not, true, false, Ok, Err, sym, ap, subst, ◌∙◌, arith}
 use Rattle.std.specs.List.{AllByRecursion, list_any}
 use Rattle.std.proofs.lemmas.List.{length-map}
 use Rattle.std.proofs.lemmas.Result.{err_from_is_err_and}
-use Rattle.dsde_values.specs.declared.name.Name.{Name}
 use Rattle.dsde_values.specs.Path.{EXEC}
 use Rattle.dsde_structure.specs.declared.plan.Entry.{Entry}
 use Rattle.dsde_structure.specs.Gather.{is_same_name}
-use Rattle.dsde_structure.specs.Survival.{fresh, names, survives as stays, IsInOrder}
-use Rattle.dsde_sim_tree.specs.declared.event.Event.{Event}
-use Rattle.dsde_sim_tree.specs.declared.fault.TurnEnd.{TurnEnd}
+use Rattle.dsde_structure.specs.Survival.{fresh, survives as stays, IsInOrder}
 use Rattle.dsde_sim_tree.specs.Told.{IsCut, Tells}
 use Rattle.dsde_sim_starting.specs.given.system.Program.{system}
 use Rattle.dsde_grove.specs.Grove.{value_of}
 use Rattle.dsde_sim_tree.specs.declared.sim.Kid.{Kid}
-use Rattle.dsde_sim_tree.specs.Tree.{entry_of, parts_of_kids, started_as}
+use Rattle.dsde_sim_tree.specs.Tree.{parts_of_kids, started_as}
 use Rattle.dsde_sim_tree.specs.Start.{start, starts}
-use Rattle.dsde_sim_tree.specs.Move.{change, drop_of, gone, kept, left_behind, survives}
+use Rattle.dsde_sim_tree.specs.Move.{change, drop_of, kept, left_behind, survives}
 use Rattle.dsde_routes_wiring.specs.declared.wiring.WiredKid.{WiredKid}
 use Rattle.dsde_routes_wiring.specs.declared.wiring.WiredKid.TheViews.{out-Wiring}
-use Rattle.dsde_routes_wiring.specs.Places.{staying}
 use Rattle.dsde_repair_walks.specs.Found.{name_of}
 use Rattle.dsde_core_moves.specs.given.core_flat.Shown.{kid_under}
 use Rattle.dsde_core_moves.specs.given.core_flat.Stands.{NetStands}
@@ -29,7 +25,7 @@ use Rattle.dsde_core_moves.specs.given.core_flat.lemmas_Meeting.{told-apart}
 use Rattle.dsde_sim_changing.proofs.Keeping.{each-filter}
 use Rattle.dsde_sim_starting.specs.given.system.Plans.{FitsEntry}
 use Rattle.dsde_core_moves.specs.Chosen.{chosen, lost, shown}
-use Rattle.dsde_core_moves.specs.Compared.{entries_of, tests_of}
+use Rattle.dsde_core_moves.specs.Compared.{entries_of}
 use Rattle.dsde_core_moving.proofs.Needed.{fresh-without, is_without}
 use Rattle.dsde_core_moves.specs.given.core_flat.lemmas_Fitting.{kids-own-names}
 use Rattle.dsde_core_moving.proofs.Room.{all-held, graft-changes, net-live, net-path, room-there, value-kept}

@@ -1,19 +1,18 @@
-use Rattle.std.proofs.Common.{◌≡◌, ℕ, ◌+◌, ◌*◌, ◌≤◌, List, [], length, map, Result, Ok, Err, refl, sym, ap, subst, ◌∙◌, arith}
+use Rattle.std.proofs.Common.{ℕ, ◌+◌, ◌*◌, ◌≤◌, List, [], length, map, Result, Ok, Err, refl, sym, ap, subst, ◌∙◌}
 use Rattle.std.specs.List.{AllByRecursion}
 use Rattle.std.proofs.lemmas.Result.{err_from_is_err_and}
 use Rattle.dsde_values.specs.declared.path.Path.{Path}
-use Rattle.dsde_structure.specs.declared.plan.Entry.{Entry}
 use Rattle.dsde_sim_tree.specs.declared.fault.TurnEnd.{TurnEnd}
 use Rattle.dsde_sim_tree.specs.Told.{Tells}
 use Rattle.dsde_sim_starting.specs.given.system.Program.{system}
 use Rattle.dsde_sim_tree.specs.declared.sim.Kid.{Kid}
-use Rattle.dsde_sim_tree.specs.Tree.{entry_of, parts_of_kids, started_as}
+use Rattle.dsde_sim_tree.specs.Tree.{entry_of, parts_of_kids}
 use Rattle.dsde_sim_tree.specs.Start.{start, starts}
 use Rattle.dsde_sim_tree.specs.Move.{left_behind}
 use Rattle.dsde_sim_starting.specs.Fitting.{FitsKid}
 use Rattle.dsde_routes_wiring.specs.declared.wiring.WiredKid.{WiredKid}
 use Rattle.dsde_core_moves.specs.given.core_flat.Grafts.{AreGrafted, IsRoomFor}
-use Rattle.dsde_core_moving.specs.Changed.{as_shown, IsRoomAs}
+use Rattle.dsde_core_moving.specs.Changed.{as_shown}
 use Rattle.dsde_core_moving.proofs.Names.{room-for, started-apart}
 use Rattle.dsde_core_moves.specs.given.core_flat.lemmas_Fitting.{kids-own-names}
 use Rattle.dsde_core_moving.proofs.Whole.{lacks-behind}

@@ -1,7 +1,7 @@
 use Rattle.dsde_values.specs.Path.{root}
 use Rattle.dsde_sim_working.specs.given.system.Program.{system}
 use Rattle.dsde_core_outputs.proofs.Moves.{are-movers}
-use Rattle.dsde_core_outputs.proofs.Waits.{many, paths, rows, waits}
+use Rattle.dsde_core_outputs.proofs.Waits.{due-path, many, paths, rows, waits}
 use Rattle.dsde_core_outputs.proofs.Whole as whole
 use Rattle.dsde_core_outputs.proofs.alone_laws.lone_components_move.Goals as goal
 
@@ -30,3 +30,6 @@ returns-clause-paths c = λ model flat leaf time dues stands alone are. paths mo
 
 pub returns-clause-rows : goal.returns-clause-rows
 returns-clause-rows c = λ model flat leaf time items dues stands alone are. rows model flat stands leaf alone time items dues are
+
+pub returns-clause-dues : goal.returns-clause-dues
+returns-clause-dues c = λ model flat time stands none due is. due-path model flat stands none time due is

@@ -1,20 +1,17 @@
-use Rattle.std.proofs.Common.{◌∷◌, ◌++◌, [], List, ap, sym, ◌∙◌}
+use Rattle.std.proofs.Common.{ap, sym, ◌∙◌}
 use Rattle.dsde_sim_tree.specs.given.formalism.Leaf.{kind_of}
 use Rattle.dsde_sim_tree.specs.given.formalism.System.{Ports}
-use Rattle.dsde_core_parcels.specs.given.core_moves.flat_Mover.{Mover}
-use Rattle.dsde_core_outputs.proofs.AloneCalling.{mover, none-called, some-called}
+use Rattle.dsde_core_outputs.proofs.AloneCalling.{none-called, some-called}
 use Rattle.dsde_core_outputs.proofs.single.called.Goals as goal
 
-pub returns-in_ok-push-in-Some : goal.returns-in_ok-push-in-Some
-returns-in_ok-push-in-Some c =
+pub returns-in-Some : goal.returns-in-Some
+returns-in-Some c =
     let a = c.args in
     let kind = ap (λ (got : Ports). kind_of a.leaf.now a.time got) (sym c.as_slice.ensures) ∙ sym c.kind_of.ensures ∙ c.in-Some.is in
-    c.in_ok-push-in-Some.ensures.ok
-    ∙ ap (λ (own : List Mover). own ++ mover a.leaf.now a.handle a.path a.time a.got ∷ []) c.new-movers.ensures
-    ∙ sym (some-called a.leaf.now a.handle a.path a.time a.got c.in-Some.field-0 kind)
+    sym (some-called a.leaf.now a.handle a.path a.time a.got c.in-Some.field-0 kind)
 
 pub returns-in-None : goal.returns-in-None
 returns-in-None c =
     let a = c.args in
     let none = ap (λ (got : Ports). kind_of a.leaf.now a.time got) (sym c.as_slice.ensures) ∙ sym c.kind_of.ensures ∙ c.in-None.is in
-    c.new.ensures ∙ sym (none-called a.leaf.now a.handle a.path a.time a.got none)
+    sym (none-called a.leaf.now a.handle a.path a.time a.got none)

@@ -11,7 +11,7 @@ use Rattle.dsde_core_moves.specs.Flat.{delivery_of, tree_of}
 use Rattle.dsde_core_moving.specs.Restructured.{with_room}
 use Rattle.dsde_core_moving.proofs.Going.{Gone, all-gone, all-scheduled, births-few, births-left, gone-none, next-called, next-fits, next-gone, next-stops, next-there, none-later, room-left}
 use Rattle.dsde_core_moving.proofs.Priced.{entries-next}
-use Rattle.dsde_core_moving.proofs.each.movers_move.Goals as goal
+use Rattle.dsde_core_moving.proofs.each.all_move.Goals as goal
 
 pub loop-mover-init : goal.loop-mover-init
 loop-mover-init g c =

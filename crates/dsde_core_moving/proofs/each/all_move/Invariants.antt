@@ -4,7 +4,7 @@ use Rattle.dsde_sim_starting.specs.given.system.Program.{system}
 use Rattle.dsde_sim_movers.specs.Work.{entries_each, work}
 use Rattle.dsde_core_moves.specs.Flat.{delivery_of, tree_of}
 use Rattle.dsde_core_moving.proofs.Going.{Gone}
-use Rattle.dsde_core_moving.proofs.each.movers_move.Given as goal
+use Rattle.dsde_core_moving.proofs.each.all_move.Given as goal
 
 abbrev pub invariant-loop-mover : goal.invariant-loop-mover
 invariant-loop-mover g l =
