@@ -1,8 +1,9 @@
 //! `dsde_test_calls`: gives the lines of files to single calls, and writes what they answer.
 //!
 //! The words after the program's name are names of files. A file that begins with an empty line has lines that ask for
-//! something; before those of others stands the text of a model, with an empty line behind it. Lines that ask for nothing
-//! are written as they stand.
+//! something; one whose first line is `routes` has lines that tell wirings, which `dsde_test_routes` takes; before those
+//! of others stands the text of a model, with an empty line behind it. Lines that ask for nothing are written as they
+//! stand.
 //!
 //! In a text `|` stands for a line feed and `^` for a carriage return, and `<9 TEXT>` for nine times that text.
 #![tactic(auto)]
@@ -43,9 +44,10 @@ fn show(rt: &(impl Files + Print + AllocGlobal), name: &str) -> io::Result<()> {
 
 fn answers(alloc: Global, file: &str) -> Result<String, Memory> {
     let mut answers = String::new(alloc);
-    match file.strip_prefix('\n') {
-        Some(lines) => calls::append_all(alloc, &mut answers, lines)?,
-        None => asked::append_all(alloc, &mut answers, file)?,
+    match file.split_once('\n').unwrap_or((file, "")) {
+        ("", lines) => calls::append_all(alloc, &mut answers, lines)?,
+        ("routes", lines) => dsde_test_routes::append_all(alloc, &mut answers, lines)?,
+        _ => asked::append_all(alloc, &mut answers, file)?,
     }
     Ok(answers)
 }

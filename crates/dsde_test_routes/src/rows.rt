@@ -1,20 +1,13 @@
 //! Rows: as lines, and how those of two tables differ.
 
-use dsde_bank::Handle;
+use crate::parts::handle_of;
 use dsde_base::Steps;
 use dsde_lists::Memory;
 use dsde_routes_table::RouteTable;
 use dsde_routes_wiring::Row;
 use dsde_structure::Via;
-use std::alloc::Global;
+use std::alloc::{AllocError, Global};
 use std::sync::ledger::Ledger;
-
-/// How many rows only one table has, and how many only another.
-#[derive(Clone, Copy)]
-pub struct Difference {
-    pub gone: u64,
-    pub fresh: u64,
-}
 
 /// Takes rows out of a table; how many of them it did not have.
 fn take_out<L: Ledger>(table: &mut RouteTable, rows: &[Row], changes: &mut Steps<L>) -> u64 {
@@ -27,57 +20,40 @@ fn take_out<L: Ledger>(table: &mut RouteTable, rows: &[Row], changes: &mut Steps
     lacking
 }
 
-/// How two tables differ in the rows from these sources.
+/// Takes the rows of one table out of another, those of sources up to a birth. How many rows only the one
+/// has, and how many the other, which are left.
 pub fn compare<L: Ledger>(
     one: &RouteTable,
-    mut other: RouteTable,
-    sources: &[Handle],
+    other: &mut RouteTable,
+    last: u64,
     changes: &mut Steps<L>,
-) -> Difference {
-    let mut gone: u64 = 0;
-    let mut fresh: u64 = 0;
-    for source in sources {
-        for port in 0..2 {
-            let lacking = take_out(&mut other, one.rows_from(*source, port), changes);
-            gone = gone.saturating_add(lacking);
-            fresh = fresh.saturating_add(other.rows_from(*source, port).len() as u64);
-        }
+) -> (u64, u64) {
+    let mut own: u64 = 0;
+    let mut others: u64 = 0;
+    for end in 0..last.saturating_mul(2).saturating_add(2) {
+        let source = handle_of(end / 2);
+        let port = (end % 2) as u32;
+        own = own.saturating_add(take_out(other, one.rows_from(source, port), changes));
+        others = others.saturating_add(other.rows_from(source, port).len() as u64);
     }
-    Difference { gone, fresh }
+    (own, others)
 }
 
-/// A line with the number of the rows from these sources.
-pub fn count<L: Ledger>(
-    alloc: Global,
-    table: RouteTable,
-    sources: &[Handle],
-    changes: &mut Steps<L>,
-    lines: &mut String,
-) -> Result<(), Memory> {
-    let none = RouteTable::new(alloc);
-    let count = compare(&none, table, sources, changes).fresh;
-    writeln!(lines, "{count} rows")?;
-    Ok(())
+/// A line as it stands.
+pub fn show_line(lines: &mut String, line: &str) -> Result<(), Memory> {
+    Ok(writeln!(lines, "{line}")?)
 }
 
-/// A line for each row from these sources.
-pub fn show(lines: &mut String, table: &RouteTable, sources: &[Handle]) -> Result<(), Memory> {
-    for source in sources {
-        show_rows(lines, table.rows_from(*source, 0))?;
-        show_rows(lines, table.rows_from(*source, 1))?;
-    }
-    Ok(())
-}
-
-fn show_rows(lines: &mut String, rows: &[Row]) -> Result<(), Memory> {
+/// A line for each of some rows.
+pub fn show_all(lines: &mut String, rows: &[Row]) -> Result<(), AllocError> {
     for row in rows {
-        show_row(lines, row)?;
+        show(lines, row)?;
     }
     Ok(())
 }
 
 /// The source and the target of a row by birth and port, its rank, and its translations.
-fn show_row(lines: &mut String, row: &Row) -> Result<(), Memory> {
+fn show(lines: &mut String, row: &Row) -> Result<(), AllocError> {
     let source = row.source.birth;
     let out = row.source_port;
     let target = row.target.birth;
@@ -87,25 +63,23 @@ fn show_row(lines: &mut String, row: &Row) -> Result<(), Memory> {
     show_chain(lines, row.chain.as_slice())
 }
 
-fn show_rank(lines: &mut String, rank: &[usize]) -> Result<(), Memory> {
+fn show_rank(lines: &mut String, rank: &[usize]) -> Result<(), AllocError> {
     for number in rank {
         write!(lines, " {number}")?;
     }
-    Ok(())
+    lines.push_str(" chain")
 }
 
-fn show_chain(lines: &mut String, chain: &[Via]) -> Result<(), Memory> {
-    lines.push_str(" chain")?;
+fn show_chain(lines: &mut String, chain: &[Via]) -> Result<(), AllocError> {
     for via in chain {
         let id = via.id.0;
         write!(lines, " {id}")?;
     }
-    lines.push_str("\n")?;
-    Ok(())
+    lines.push_str("\n")
 }
 
 /// Takes a row out of a table and puts it in, twice each; writes what the table answers.
-pub fn turn_row<L: Ledger>(
+pub fn turn<L: Ledger>(
     alloc: Global,
     table: &mut RouteTable,
     row: &Row,
@@ -116,11 +90,12 @@ pub fn turn_row<L: Ledger>(
     let again = table.remove_row(row, changes);
     let fresh = put_copy(alloc, table, row, changes)?;
     let twice = put_copy(alloc, table, row, changes)?;
-    writeln!(
-        lines,
-        "out {gone}, again {again}; in {fresh}, again {twice}"
-    )?;
-    Ok(())
+    let answer = if gone && !again && fresh && !twice {
+        "out true, again false; in true, again false"
+    } else {
+        "out or in, or again, is not answered so"
+    };
+    show_line(lines, answer)
 }
 
 /// Puts a row equal to this one into a table; whether it was not there.
