@@ -9,7 +9,7 @@ use std::marker::Model;
 
 /// A list with reserved room: what is added goes into room that was made before, so that adding
 /// cannot fail.
-#[derive(Debug, Drop)]
+#[derive(Drop)]
 pub struct Batch<T> {
     items: Vec<T>,
 }

@@ -4,7 +4,7 @@ use dsde_language::WrongKind;
 use dsde_lists::Memory;
 
 /// Why a model is refused.
-#[derive(Clone, Copy, Debug, PartialEq, Eq)]
+#[derive(Clone, Copy)]
 pub enum CheckError {
     /// The first thing that is wrong in it, and its place, which is the index of a token.
     Wrong(WrongKind, u32),

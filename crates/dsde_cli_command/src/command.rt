@@ -7,7 +7,7 @@ ghost use Rattle.dsde_cli_command.specs.Commands.{IsBounded, task_of, command_of
 use crate::given::read_words;
 
 /// What the words ask for.
-#[derive(Clone, Copy, Debug, PartialEq, Eq)]
+#[derive(Clone, Copy)]
 pub enum Command<'w> {
     /// `check MODEL [--print]`
     Check {
@@ -37,7 +37,7 @@ pub enum Command<'w> {
 
 /// What a run is asked to be: the name of its model, the most turns, which lines of its trace are
 /// kept, where not all are, and the name under which its image is stored, where it is.
-#[derive(Clone, Copy, Debug, PartialEq, Eq)]
+#[derive(Clone, Copy)]
 pub struct RunWords<'w> {
     pub model: &'w str,
     pub turns: u64,
@@ -46,7 +46,7 @@ pub struct RunWords<'w> {
 }
 
 /// Which lines of a trace are kept, where not all are.
-#[derive(Clone, Copy, Debug, PartialEq, Eq)]
+#[derive(Clone, Copy)]
 pub enum Only {
     Outputs,
     Structure,

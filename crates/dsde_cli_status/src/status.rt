@@ -5,7 +5,7 @@ use dsde_sim_tree::{Fault, InputKind};
 use dsde_values::Path;
 
 /// How a command ends.
-#[derive(Debug, Drop)]
+#[derive(Drop)]
 pub enum Status {
     /// The run came to its bound or fell quiet, or the model is accepted, and all was written.
     Done,
@@ -35,7 +35,7 @@ pub enum Status {
 }
 
 /// What is read or written.
-#[derive(Clone, Copy, Debug, PartialEq, Eq)]
+#[derive(Clone, Copy)]
 pub enum What {
     Model,
     Save,
@@ -44,7 +44,7 @@ pub enum What {
 }
 
 /// Why something was not read.
-#[derive(Clone, Copy, Debug, PartialEq, Eq)]
+#[derive(Clone, Copy)]
 pub enum Why {
     Absent,
     TooLong,
@@ -52,7 +52,7 @@ pub enum Why {
 }
 
 /// What is wrong with a saved run.
-#[derive(Debug, Drop)]
+#[derive(Drop)]
 pub enum SaveFault {
     NotJson,
     WrongForm,

@@ -4,7 +4,7 @@ use dsde_language::WrongKind;
 use dsde_lists::Memory;
 
 /// Why a model is refused.
-#[derive(Clone, Copy, Debug, PartialEq, Eq)]
+#[derive(Clone, Copy)]
 pub enum Refusal {
     /// No token begins with a byte, and it separates none.
     BadByte,
@@ -19,7 +19,7 @@ pub enum Refusal {
 }
 
 /// Why a text gives no model.
-#[derive(Clone, Copy, Debug, PartialEq, Eq)]
+#[derive(Clone, Copy)]
 pub enum ReadModel {
     /// It is refused, at a line and a column, both counted from 1, columns in bytes.
     Refused {

@@ -21,7 +21,7 @@ use std::alloc::Global;
 use std::sync::ledger::Ledger;
 
 /// A component or an executive that is due: its path and its handle.
-#[derive(Debug, Drop)]
+#[derive(Drop)]
 pub struct Due {
     pub path: Path,
     pub handle: Handle,

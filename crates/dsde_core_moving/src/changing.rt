@@ -43,7 +43,7 @@ use std::sync::ledger::Ledger;
 
 /// What became of a network's components: the names of those that left, those that have started, and the room
 /// that is left.
-#[derive(Debug, Drop)]
+#[derive(Drop)]
 pub struct Changed {
     pub gone: Seq<Name>,
     pub fresh: Seq<WiredKid>,

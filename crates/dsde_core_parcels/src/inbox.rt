@@ -11,14 +11,14 @@ use dsde_values::{Seq, Values};
 use std::alloc::Global;
 
 /// What comes to a port.
-#[derive(Debug, Drop)]
+#[derive(Drop)]
 pub struct Get {
     pub port: u32,
     pub values: Values,
 }
 
 /// What comes to a target: nothing for a port that is not named.
-#[derive(Debug, Drop)]
+#[derive(Drop)]
 pub struct Inbox {
     pub target: Handle,
     pub gets: Seq<Get>,

@@ -17,7 +17,7 @@ use std::alloc::Global;
 use std::cmp::Ordering;
 
 /// What comes out of a port of a source.
-#[derive(Debug, Drop)]
+#[derive(Drop)]
 pub struct Outlet {
     pub source: Handle,
     pub port: u32,
@@ -25,7 +25,7 @@ pub struct Outlet {
 }
 
 /// What is pushed along a row.
-#[derive(Debug, Drop)]
+#[derive(Drop)]
 pub struct Parcel {
     pub target: Handle,
     pub port: u32,

@@ -18,7 +18,7 @@ use dsde_values::{Item, Seq, Value, Values};
 use std::alloc::Global;
 
 /// The values that an expression or a block sees, each in its slot.
-#[derive(Debug, Drop)]
+#[derive(Drop)]
 pub struct Env {
     pub slots: Values,
 }

@@ -8,7 +8,7 @@ use dsde_language::{Binary, Builtin, ExprId, Node};
 use dsde_values::Seq;
 
 /// What is done to a list with one value.
-#[derive(Clone, Copy, Debug)]
+#[derive(Clone, Copy)]
 pub enum Which {
     /// The value is put behind its items.
     Push,
@@ -22,7 +22,7 @@ pub enum Which {
 
 /// How an expression makes a list anew from the list in a slot, with the place of the builtin or the
 /// operator, and the numbers of the expressions beside the list.
-#[derive(Clone, Copy, Debug)]
+#[derive(Clone, Copy)]
 pub enum Change {
     By(Which, u32, ExprId),
     /// The item at an index is replaced.

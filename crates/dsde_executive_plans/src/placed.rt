@@ -3,7 +3,7 @@
 use dsde_structure::Link;
 
 /// A link, with the place of its word `link`.
-#[derive(Debug, Drop)]
+#[derive(Drop)]
 pub struct PlacedLink {
     pub at: u32,
     pub link: Link,

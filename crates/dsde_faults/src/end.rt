@@ -9,7 +9,7 @@ use dsde_lists::Memory;
 
 /// Why an expression has no value, or a block did not come to its end. The number is the place of
 /// the fault, which is the index of a token.
-#[derive(Clone, Copy, Debug, PartialEq, Eq)]
+#[derive(Clone, Copy)]
 pub enum EvalEnd {
     Fault(FaultKind, u32),
     Memory,
@@ -17,7 +17,7 @@ pub enum EvalEnd {
 
 /// Why a component's start, output or move did not come to its end: a fault with the part of the
 /// component in which it came and its place, which is the index of a token.
-#[derive(Clone, Copy, Debug, PartialEq, Eq)]
+#[derive(Clone, Copy)]
 pub enum LeafEnd {
     Fault(Site, FaultKind, u32),
     Memory,

@@ -1,7 +1,7 @@
 //! Kinds of faults, and the parts of a component in which they come.
 
 /// Why an expression or a structure has no value.
-#[derive(Clone, Copy, Debug, PartialEq, Eq)]
+#[derive(Clone, Copy)]
 pub enum FaultKind {
     Overflow,
     DivideByZero,
@@ -19,7 +19,7 @@ pub enum FaultKind {
 }
 
 /// The part of a component in which a fault comes.
-#[derive(Clone, Copy, Debug, PartialEq, Eq)]
+#[derive(Clone, Copy)]
 pub enum Site {
     Top,
     Start,

@@ -22,7 +22,7 @@ pub struct Leaf {
 }
 
 /// The values that come to a component at one time: a list for each in port, in declaration order.
-#[derive(Debug, Drop)]
+#[derive(Drop)]
 pub struct Inputs {
     pub ports: Seq<Values>,
 }
@@ -30,7 +30,7 @@ pub struct Inputs {
 /// Which transition a component takes: the internal one where it is due without input, the external
 /// one where it has input and is not due, the confluent one where it is due with input
 /// (A. C. Chow and B. P. Zeigler, "Parallel DEVS", WSC 1994).
-#[derive(Clone, Copy, Debug, PartialEq, Eq)]
+#[derive(Clone, Copy)]
 pub enum MoveKind {
     Internal,
     External,

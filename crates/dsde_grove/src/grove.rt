@@ -31,7 +31,7 @@ pub struct Grove<T> {
 }
 
 /// Why a part did not grow.
-#[derive(Clone, Copy, Debug, PartialEq, Eq)]
+#[derive(Clone, Copy)]
 pub enum GrowEnd {
     /// The parent is not live.
     Stale,

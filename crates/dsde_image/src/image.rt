@@ -3,7 +3,7 @@
 use dsde_values::{Seq, Text, When};
 
 /// A run between two of its turns.
-#[derive(Debug, Drop)]
+#[derive(Drop)]
 pub struct Image {
     /// How its rows say where their parts stand.
     pub version: Version,
@@ -20,14 +20,14 @@ pub struct Image {
 
 /// The version of an image. Version 1 has whole paths, and is read alone; version 2 has the last
 /// name of each path and the number of its names, so that deep trees make no long images.
-#[derive(Clone, Copy, Debug, PartialEq, Eq)]
+#[derive(Clone, Copy)]
 pub enum Version {
     One,
     Two,
 }
 
 /// A part of a tree.
-#[derive(Debug, Drop)]
+#[derive(Drop)]
 pub struct Row {
     pub location: Location,
     /// The name of its model; of an executive, of its network's.
@@ -36,7 +36,7 @@ pub struct Row {
 }
 
 /// Where a part stands in its tree, as it is written.
-#[derive(Debug, Drop)]
+#[derive(Drop)]
 pub enum Location {
     /// Its path, in version 1.
     Path(Text),
@@ -45,7 +45,7 @@ pub enum Location {
 }
 
 /// What an image says of a part by its kind. Arguments are values as they are written.
-#[derive(Debug, Drop)]
+#[derive(Drop)]
 pub enum Body {
     Atomic { args: Seq<Text>, standing: Standing },
     Net { args: Seq<Text> },
@@ -53,7 +53,7 @@ pub enum Body {
 }
 
 /// The state of a component or an executive, as its values are written, and its times.
-#[derive(Debug, Drop)]
+#[derive(Drop)]
 pub struct Standing {
     pub state: Seq<Text>,
     /// The time of its last event.

@@ -19,7 +19,7 @@ use serde_json::{Category, Value};
 use std::alloc::Global;
 
 /// Why no image was read.
-#[derive(Clone, Copy, Debug, PartialEq, Eq)]
+#[derive(Clone, Copy)]
 pub enum ReadImage {
     /// The bytes say no JSON value.
     NotJson,

@@ -14,7 +14,7 @@ use std::marker::Model;
 pub const PIECE: usize = 4_096;
 
 /// The bytes that were read and not given yet, with room for the longest line and one read more.
-#[derive(Debug, Drop)]
+#[derive(Drop)]
 pub struct Held {
     /// Those that are held stand from `start` to `end`.
     room: Vec<u8>,

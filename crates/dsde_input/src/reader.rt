@@ -18,7 +18,7 @@ use std::alloc::Global;
 use std::marker::Model;
 
 /// Reads the records of an input one after the other, from a source that is handed in.
-#[derive(Debug, Drop)]
+#[derive(Drop)]
 pub struct InputReader {
     alloc: Global,
     /// What was read and not given: bytes of the wanted line, and what came behind it.

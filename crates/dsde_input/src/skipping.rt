@@ -15,7 +15,7 @@ use dsde_values::{Field, Memory, Seq, Types};
 use std::alloc::Global;
 
 /// Why records of an input cannot be skipped.
-#[derive(Clone, Copy, Debug, PartialEq, Eq)]
+#[derive(Clone, Copy)]
 pub enum SkipEnd {
     /// The input ends before so many.
     Few,

@@ -4,7 +4,7 @@ use dsde_io::Failed;
 use dsde_values::Memory;
 
 /// Why no record was given. The numbers are those of lines, counted from 1.
-#[derive(Clone, Copy, Debug, PartialEq, Eq)]
+#[derive(Clone, Copy)]
 pub enum InputEnd {
     /// The line is no record.
     BadLine(u64),

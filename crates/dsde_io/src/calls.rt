@@ -5,7 +5,7 @@ ghost use Rattle.std.specs.Prelude.{◌≡◌, ◌≤◌, ◌↔◌, IsTrue, Mat
 use dsde_values::Seq;
 
 /// The calls that an object in memory has answered, and those that are to fail.
-#[derive(Debug, Drop)]
+#[derive(Drop)]
 pub struct Calls {
     /// The numbers, counted from 1, of the calls that fail.
     pub failing: Seq<u64>,

@@ -13,7 +13,7 @@ use std::alloc::Global;
 use std::marker::Model;
 
 /// A shelf in memory, some of whose calls fail.
-#[derive(Debug, Drop)]
+#[derive(Drop)]
 pub struct MemoryShelf {
     contents: Seq<Stored>,
     calls: Calls,
@@ -114,7 +114,7 @@ impl Shelf for MemoryShelf {
 }
 
 /// A shelf in memory whose calls never fail, but for want of memory.
-#[derive(Debug, Drop)]
+#[derive(Drop)]
 pub struct SureShelf {
     inner: MemoryShelf,
 }

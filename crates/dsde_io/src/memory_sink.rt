@@ -10,7 +10,7 @@ use dsde_values::{Seq, Text};
 use std::marker::Model;
 
 /// A sink in memory, some of whose writes fail.
-#[derive(Debug, Drop)]
+#[derive(Drop)]
 pub struct MemorySink {
     bytes: Text,
     calls: Calls,
@@ -81,7 +81,7 @@ impl Sink for MemorySink {
 }
 
 /// A sink in memory whose writes never fail, but for want of memory.
-#[derive(Debug, Drop)]
+#[derive(Drop)]
 pub struct SureSink {
     inner: MemorySink,
 }

@@ -10,7 +10,7 @@ use dsde_values::{Seq, Text};
 use std::marker::Model;
 
 /// A source in memory, some of whose reads fail.
-#[derive(Debug, Drop)]
+#[derive(Drop)]
 pub struct MemorySource {
     bytes: Text,
     /// How many of the bytes are read.
@@ -118,7 +118,7 @@ fn copy_front(from: &[u8], to: &mut [u8], largest: usize) -> usize
 }
 
 /// A source in memory whose reads never fail.
-#[derive(Debug, Drop)]
+#[derive(Drop)]
 pub struct SureSource {
     inner: MemorySource,
 }

@@ -8,7 +8,7 @@ use dsde_values::{Memory, Text};
 use std::alloc::Global;
 
 /// Why a shelf loaded or stored nothing.
-#[derive(Clone, Copy, Debug, PartialEq, Eq)]
+#[derive(Clone, Copy)]
 pub enum ShelfEnd {
     /// There is nothing under the name.
     Absent,

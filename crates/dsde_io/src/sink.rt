@@ -7,7 +7,7 @@ ghost use Rattle.dsde_io.specs.Bytes.{Gains, GainsFront, Keeps};
 use dsde_values::Memory;
 
 /// Why a write took nothing.
-#[derive(Clone, Copy, Debug, PartialEq, Eq)]
+#[derive(Clone, Copy)]
 pub enum SinkEnd {
     Failed,
     Memory,

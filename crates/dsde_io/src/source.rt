@@ -5,7 +5,7 @@ ghost use Rattle.dsde_io.specs.Fault.{Rose};
 ghost use Rattle.dsde_io.specs.Bytes.{Keeps, Takes};
 
 /// A read failed.
-#[derive(Clone, Copy, Debug, PartialEq, Eq)]
+#[derive(Clone, Copy)]
 pub struct Failed;
 
 /// Where a run's input comes from.

@@ -3,7 +3,7 @@
 use dsde_values::Text;
 
 /// Bytes under a name.
-#[derive(Debug, Drop)]
+#[derive(Drop)]
 pub struct Stored {
     pub name: Text,
     pub bytes: Text,

@@ -4,7 +4,7 @@ use crate::{BlockId, ExprId};
 use dsde_values::Seq;
 
 /// A statement with numbers for names, expressions and blocks.
-#[derive(Debug, Drop)]
+#[derive(Drop)]
 pub enum Act {
     /// The value of the next slot.
     Let(ExprId),
@@ -18,7 +18,7 @@ pub enum Act {
 }
 
 /// A condition, and the block behind it.
-#[derive(Clone, Copy, Debug)]
+#[derive(Clone, Copy)]
 pub struct ActArm {
     pub cond: ExprId,
     pub then: BlockId,

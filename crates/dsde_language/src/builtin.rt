@@ -3,7 +3,7 @@
 use dsde_values::Seq;
 
 /// What an argument of a builtin is to be. `T` is what the arguments before it said.
-#[derive(Clone, Copy, Debug, PartialEq, Eq)]
+#[derive(Clone, Copy)]
 pub enum Part {
     /// Of any type, which is `T`.
     Any,
@@ -17,7 +17,7 @@ pub enum Part {
 }
 
 /// The type of what a builtin gives.
-#[derive(Clone, Copy, Debug, PartialEq, Eq)]
+#[derive(Clone, Copy)]
 pub enum Gives {
     Int,
     Bool,
@@ -30,7 +30,7 @@ pub enum Gives {
 }
 
 /// A row of the table of builtins.
-#[derive(Debug, Drop)]
+#[derive(Drop)]
 pub struct Row {
     pub parts: Seq<Part>,
     pub gives: Gives,

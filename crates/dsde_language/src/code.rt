@@ -4,14 +4,14 @@ use crate::{BlockId, ExprId};
 use dsde_values::Seq;
 
 /// A function: the block before its `return`, and its value.
-#[derive(Clone, Copy, Debug)]
+#[derive(Clone, Copy)]
 pub struct FnCode {
     pub block: BlockId,
     pub value: ExprId,
 }
 
 /// A body. The place of a block that is absent is 0.
-#[derive(Debug, Drop)]
+#[derive(Drop)]
 pub struct Code {
     /// The place of `atomic`, or of `exec`.
     pub start_at: u32,
@@ -28,7 +28,7 @@ pub struct Code {
 }
 
 /// A translation: its value is in slot 0, and its key, if it has one, in slot 1.
-#[derive(Clone, Copy, Debug)]
+#[derive(Clone, Copy)]
 pub struct ViaCode {
     pub key: bool,
     pub body: ExprId,

@@ -4,7 +4,7 @@ use dsde_values::{Field, Seq, Text};
 
 /// What a model declares. The two lists of `boss` are those of a network's executive, and empty for
 /// an atomic model.
-#[derive(Debug, Drop)]
+#[derive(Drop)]
 pub struct Info {
     pub name: Text,
     /// The place of `atomic` or `network`.

@@ -4,7 +4,7 @@ use crate::{Family, Func, ModelSig, Port, TypeWord};
 use dsde_values::{Seq, Shape, Text};
 
 /// What is known of a file at a place in it.
-#[derive(Debug, Drop)]
+#[derive(Drop)]
 pub struct Known {
     /// The identifiers of types, each at its number: those that the file declares, and then the
     /// others that its models and records name.
@@ -22,7 +22,7 @@ pub struct Known {
 }
 
 /// What stands round an expression or a statement.
-#[derive(Debug, Drop)]
+#[derive(Drop)]
 pub struct Around {
     pub known: Known,
     /// The names of its body, which no bound name may have. Those of a function are all in scope.
@@ -36,7 +36,7 @@ pub struct Around {
 }
 
 /// Where an item of a structure stands.
-#[derive(Debug, Drop)]
+#[derive(Drop)]
 pub struct Site {
     pub around: Around,
     /// The ports of the network.

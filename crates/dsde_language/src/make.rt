@@ -5,7 +5,7 @@ use dsde_values::{Seq, Text};
 
 /// An item of a structure with numbers for names, expressions, ports and models.
 #[cycle(make)]
-#[derive(Debug, Drop)]
+#[derive(Drop)]
 pub enum Make {
     /// With the place of `comp`. It is soft where it is written with `:`.
     Comp {
@@ -32,21 +32,21 @@ pub enum Make {
 
 /// A condition, and the items behind it.
 #[cycle(make)]
-#[derive(Debug, Drop)]
+#[derive(Drop)]
 pub struct MakeArm {
     pub cond: ExprId,
     pub makes: Seq<Make>,
 }
 
 /// An index, with the place of `[`.
-#[derive(Clone, Copy, Debug)]
+#[derive(Clone, Copy)]
 pub struct MakeIndex {
     pub at: u32,
     pub value: ExprId,
 }
 
 /// Whose port an end of a link is.
-#[derive(Debug, Drop)]
+#[derive(Drop)]
 pub enum MakePart {
     Net,
     Boss,
@@ -57,7 +57,7 @@ pub enum MakePart {
 }
 
 /// An end of a link.
-#[derive(Debug, Drop)]
+#[derive(Drop)]
 pub struct MakeEnd {
     pub part: MakePart,
     /// The number of the port among those of its direction.
@@ -65,7 +65,7 @@ pub struct MakeEnd {
 }
 
 /// The translation of a link, and its key.
-#[derive(Clone, Copy, Debug)]
+#[derive(Clone, Copy)]
 pub struct MakeVia {
     pub id: ViaId,
     pub key: Option<ExprId>,

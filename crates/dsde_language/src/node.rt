@@ -4,7 +4,7 @@ use crate::{Binary, Builtin, ExprId};
 use dsde_values::Seq;
 
 /// An expression with numbers for names and parts. A place is the index of a token.
-#[derive(Debug, Drop)]
+#[derive(Drop)]
 pub enum Node {
     /// A name that is seen, or `elapsed`, by its slot.
     Slot(u32),
@@ -48,7 +48,7 @@ pub enum Node {
 }
 
 /// A condition, and the value behind it.
-#[derive(Clone, Copy, Debug)]
+#[derive(Clone, Copy)]
 pub struct NodeArm {
     pub cond: ExprId,
     pub value: ExprId,

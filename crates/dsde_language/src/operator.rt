@@ -1,7 +1,7 @@
 //! Builtins, and operators of two parts.
 
 /// A builtin, but `some`.
-#[derive(Clone, Copy, Debug)]
+#[derive(Clone, Copy)]
 pub enum Builtin {
     Len,
     Range,
@@ -15,7 +15,7 @@ pub enum Builtin {
 }
 
 /// An operator of two parts.
-#[derive(Clone, Copy, Debug)]
+#[derive(Clone, Copy)]
 pub enum Binary {
     Or,
     And,

@@ -3,7 +3,7 @@
 use dsde_values::{Text, Ty};
 
 /// What is seen of an expression.
-#[derive(Debug, Drop)]
+#[derive(Drop)]
 pub struct Seen {
     pub ty: Ty,
     /// How many expressions stand in each other, the bodies of called functions counted; counted up
@@ -14,7 +14,7 @@ pub struct Seen {
 }
 
 /// What is seen of a type as it is written.
-#[derive(Debug, Drop)]
+#[derive(Drop)]
 pub struct TypeSeen {
     pub ty: Ty,
     /// How deep it is; counted up to 65.
@@ -22,7 +22,7 @@ pub struct TypeSeen {
 }
 
 /// What is seen of the arguments of a builtin.
-#[derive(Debug, Drop)]
+#[derive(Drop)]
 pub struct Fitted {
     /// What they say `T` is.
     pub ty: Ty,
@@ -31,7 +31,7 @@ pub struct Fitted {
 }
 
 /// What is seen of an end of a link.
-#[derive(Debug, Drop)]
+#[derive(Drop)]
 pub struct EndSeen {
     /// The type of its port.
     pub ty: Ty,
@@ -42,7 +42,7 @@ pub struct EndSeen {
 }
 
 /// A name that is seen.
-#[derive(Debug, Drop)]
+#[derive(Drop)]
 pub struct Binding {
     pub name: Text,
     pub ty: Ty,
@@ -50,7 +50,7 @@ pub struct Binding {
 }
 
 /// Whether a name that is seen may be assigned to.
-#[derive(Clone, Copy, Debug, PartialEq, Eq)]
+#[derive(Clone, Copy)]
 pub enum BindingKind {
     Fixed,
     Var,

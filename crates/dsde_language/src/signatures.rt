@@ -3,7 +3,7 @@
 use dsde_values::{Seq, Text, Ty};
 
 /// The identifier of a type.
-#[derive(Debug, Drop)]
+#[derive(Drop)]
 pub struct TypeWord {
     pub name: Text,
     /// Whether the file declares it as an enum.
@@ -11,7 +11,7 @@ pub struct TypeWord {
 }
 
 /// A function that is declared.
-#[derive(Debug, Drop)]
+#[derive(Drop)]
 pub struct Func {
     pub name: Text,
     pub params: Seq<Ty>,
@@ -21,7 +21,7 @@ pub struct Func {
 }
 
 /// A port.
-#[derive(Debug, Drop)]
+#[derive(Drop)]
 pub struct Port {
     pub out: bool,
     pub name: Text,
@@ -29,7 +29,7 @@ pub struct Port {
 }
 
 /// A model of a file, atomic or a network, by its text.
-#[derive(Debug, Drop)]
+#[derive(Drop)]
 pub struct ModelSig {
     pub name: Text,
     pub params: Seq<Ty>,
@@ -37,7 +37,7 @@ pub struct ModelSig {
 }
 
 /// The identifier of components of a structure, and the number of their one model.
-#[derive(Debug, Drop)]
+#[derive(Drop)]
 pub struct Family {
     pub name: Text,
     pub model: u32,

@@ -1,7 +1,7 @@
 //! What may be wrong in a model.
 
 /// What kind of wrong thing stands at a place.
-#[derive(Clone, Copy, Debug, PartialEq, Eq)]
+#[derive(Clone, Copy)]
 pub enum WrongKind {
     /// A name that another one has already, or a second `top`.
     Duplicate,
@@ -24,7 +24,7 @@ pub enum WrongKind {
 }
 
 /// What is wrong, and the place of it, which is the index of a token.
-#[derive(Clone, Copy, Debug, PartialEq, Eq)]
+#[derive(Clone, Copy)]
 pub struct Wrong {
     pub kind: WrongKind,
     pub at: u32,

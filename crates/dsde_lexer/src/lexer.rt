@@ -12,7 +12,7 @@ use dsde_words::{is_word_byte, word_size};
 use std::alloc::Global;
 
 /// Why a text has no tokens. Each place is the offset of a byte.
-#[derive(Clone, Copy, Debug, PartialEq, Eq)]
+#[derive(Clone, Copy)]
 pub enum LexError {
     /// More than 1,048,576 bytes.
     TooLong,

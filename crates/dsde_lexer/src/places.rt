@@ -11,7 +11,7 @@ use std::marker::Model;
 
 /// The line and the column of each place of a text. A place is the index of a token, or the number
 /// of the tokens for the end of the text. Contracts see the list of the lines and columns.
-#[derive(Debug, Drop)]
+#[derive(Drop)]
 pub struct Places {
     spots: Items<(u32, u32)>,
 }

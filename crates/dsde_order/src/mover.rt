@@ -9,7 +9,7 @@ use dsde_values::{Path, Seq, Values};
 use std::marker::Model;
 
 /// A component or an executive that moves in a turn, with what comes to it, port by port.
-#[derive(Debug, Drop)]
+#[derive(Drop)]
 pub struct Mover {
     pub path: Path,
     pub model: ModelId,

@@ -22,7 +22,7 @@ use std::marker::Model;
 
 /// Why tokens give no model. Each place is the index of a token, or the number of the tokens for
 /// the end of the text.
-#[derive(Clone, Copy, Debug, PartialEq, Eq)]
+#[derive(Clone, Copy)]
 pub enum ParseError {
     /// No model has a token like this here.
     Syntax(u32),

@@ -48,7 +48,7 @@ impl<'m> Resolver<'m> {
 }
 
 /// The number of an expression that is laid, and its type.
-#[derive(Debug, Drop)]
+#[derive(Drop)]
 pub struct Laid {
     pub number: ExprId,
     pub ty: Ty,

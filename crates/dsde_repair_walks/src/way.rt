@@ -10,7 +10,7 @@ use std::alloc::Global;
 
 /// A way from a source on, or on to a target: the numbers of its links, the last one first, and its
 /// translations, the first one first.
-#[derive(Debug, Drop)]
+#[derive(Drop)]
 pub struct Way {
     pub handle: Handle,
     pub port: u32,

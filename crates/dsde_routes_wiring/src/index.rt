@@ -14,7 +14,7 @@ use std::alloc::Global;
 use std::collections::BTreeMap;
 
 /// The numbers of the links of a network by the component at one of their ends.
-#[derive(Debug, Drop)]
+#[derive(Drop)]
 pub struct Index {
     kids: BTreeMap<Name, Seq<usize>>,
 }

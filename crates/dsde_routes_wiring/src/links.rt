@@ -16,7 +16,7 @@ use std::marker::Model;
 /// The links of a network, which contracts see as their list. Those that lead from a port of the network
 /// or to it are found without a look at the others, and those of a component where an index was made of
 /// them: a network whose structure changes again and again mostly needs none.
-#[derive(Debug, Drop)]
+#[derive(Drop)]
 pub struct Links {
     items: Seq<Link>,
     from_net: Seq<usize>,
@@ -25,7 +25,7 @@ pub struct Links {
 }
 
 /// The numbers of links by the component that they lead from, and by that which they lead to.
-#[derive(Debug, Drop)]
+#[derive(Drop)]
 struct Ends {
     from: Index,
     to: Index,

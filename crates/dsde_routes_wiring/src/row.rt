@@ -5,7 +5,7 @@ use dsde_bank::Handle;
 
 /// One route through the links of a tree, from an out port of an atomic component or an executive, or
 /// from an in port of the root, to an in port of one of these or to an out port of the root.
-#[derive(Debug, Drop)]
+#[derive(Drop)]
 pub struct Row {
     pub source: Handle,
     pub source_port: u32,
@@ -18,7 +18,7 @@ pub struct Row {
 }
 
 /// A way over links from a port of a source: part of a route, or a whole one.
-#[derive(Debug, Drop)]
+#[derive(Drop)]
 pub struct Way {
     pub source: Handle,
     pub port: u32,
@@ -29,7 +29,7 @@ pub struct Way {
 }
 
 /// A way that ends at a port.
-#[derive(Debug, Drop)]
+#[derive(Drop)]
 pub struct Passing {
     pub port: u32,
     pub way: Way,

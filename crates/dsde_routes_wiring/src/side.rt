@@ -6,7 +6,7 @@ ghost use Rattle.dsde_routes_wiring.specs.Side as ends;
 use dsde_structure::{End, Link};
 
 /// The side of a part on which a way stands: it comes out of the part, or goes into it.
-#[derive(Clone, Copy, Debug)]
+#[derive(Clone, Copy)]
 pub enum Side {
     Out,
     Into,

@@ -10,7 +10,7 @@ use std::alloc::Global;
 use std::marker::Model;
 
 /// The link numbers of a route, from its target back to its source.
-#[derive(Debug, Drop)]
+#[derive(Drop)]
 pub struct Rank {
     numbers: SmallVec<usize, 4>,
 }
@@ -88,7 +88,7 @@ impl Rank {
 }
 
 /// The translations of a route, from its source on.
-#[derive(Debug, Drop)]
+#[derive(Drop)]
 pub struct Chain {
     vias: SmallVec<Via, 2>,
 }

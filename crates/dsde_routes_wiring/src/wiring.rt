@@ -7,7 +7,7 @@ use dsde_values::{Name, Seq};
 
 /// A network: its own handle, its executive's, its links, and its components in the order of their
 /// names.
-#[derive(Debug, Drop)]
+#[derive(Drop)]
 #[cycle(wiring)]
 pub struct Wiring {
     pub me: Handle,
@@ -17,7 +17,7 @@ pub struct Wiring {
 }
 
 /// A component of a network, and what is wired beneath it where it is a network itself.
-#[derive(Debug, Drop)]
+#[derive(Drop)]
 #[cycle(wiring)]
 pub struct WiredKid {
     pub name: Name,

@@ -14,7 +14,7 @@ use dsde_values::{Memory, Seq};
 use std::alloc::Global;
 
 /// How many events of each kind a run told, and how it ended: after how many turns, and when.
-#[derive(Debug, Drop)]
+#[derive(Drop)]
 pub struct Counted {
     pub summary: Summary,
     pub how: Finish,

@@ -17,7 +17,7 @@ use dsde_trace::Pick;
 use std::alloc::Global;
 
 /// How the turns of a run end.
-#[derive(Debug, Drop)]
+#[derive(Drop)]
 pub enum RunEnd {
     Bound,
     Quiet,

@@ -16,7 +16,7 @@ use dsde_values::{Memory, Path};
 use std::alloc::Global;
 
 /// Why no engine was restored, in the order in which it is looked for.
-#[derive(Debug, Drop)]
+#[derive(Drop)]
 pub enum RestoreError {
     /// The bytes say no JSON value that nests at most 127 deep.
     NotJson,

@@ -18,7 +18,7 @@ use dsde_trace::Pick;
 use std::alloc::Global;
 
 /// Why a run that is taken up again has no end.
-#[derive(Clone, Copy, Debug, PartialEq, Eq)]
+#[derive(Clone, Copy)]
 pub enum Unresumed {
     /// The input ends before the records that the engine took.
     FewRecords,

@@ -24,7 +24,7 @@ use std::alloc::Global;
 const MOST_KEPT: usize = 65_536;
 
 /// Why a run is cut short.
-#[derive(Clone, Copy, Debug, PartialEq, Eq)]
+#[derive(Clone, Copy)]
 pub enum Cut {
     /// A read of the input failed.
     ReadFault,

@@ -23,7 +23,7 @@ use dsde_values::{Memory, Seq, Values, one_name};
 use std::alloc::Global;
 
 /// What comes to the parts inside a network at one time, each a list of values for each in port.
-#[derive(Debug, Drop)]
+#[derive(Drop)]
 pub struct Inboxes {
     /// What comes to its executive.
     pub boss: Seq<Values>,

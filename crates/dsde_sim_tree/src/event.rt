@@ -8,7 +8,7 @@ use dsde_values::{Path, Value, Values, When};
 /// What a run tells: a line of its trace each. A component is told by its path. The model of an
 /// executive is its network. Times are in the model's whole time units; ports are numbered from 0 in
 /// declaration order.
-#[derive(Debug, Drop)]
+#[derive(Drop)]
 pub enum Event {
     /// A network starts; its executive and its components come behind it.
     AddNet {
@@ -61,7 +61,7 @@ pub enum Event {
 }
 
 /// How a run ends.
-#[derive(Debug, Drop)]
+#[derive(Drop)]
 pub enum Finish {
     /// All its turns are done.
     Bound,
@@ -74,7 +74,7 @@ pub enum Finish {
 }
 
 /// What is wrong with a line of the input.
-#[derive(Clone, Copy, Debug, PartialEq, Eq)]
+#[derive(Clone, Copy)]
 pub enum InputKind {
     BadLine,
     Backwards,

@@ -8,7 +8,7 @@ use dsde_values::{Memory, Path};
 
 /// A fault as a trace tells it: the component's path, and the place in the model's text as a line
 /// and a column, both counted from 1, columns in bytes.
-#[derive(Debug, Drop)]
+#[derive(Drop)]
 pub struct Fault {
     pub path: Path,
     pub site: Site,
@@ -19,7 +19,7 @@ pub struct Fault {
 
 /// Why a start or a turn did not come to its end: a fault with its place, which is the index of a
 /// token of the model's text, or want of memory.
-#[derive(Debug, Drop)]
+#[derive(Drop)]
 pub enum TurnEnd {
     Fault {
         path: Path,

@@ -4,7 +4,7 @@
 pub const MOST_PARTS: u64 = 131_072;
 
 /// What an engine's `advance` did.
-#[derive(Clone, Copy, Debug, PartialEq, Eq)]
+#[derive(Clone, Copy)]
 pub enum Step {
     /// One turn. `took_input` says whether the head of the input was taken.
     Turned { took_input: bool },

@@ -9,7 +9,7 @@ use std::alloc::Global;
 
 /// A component of a network: its name, its model, and the model's arguments in the order of its
 /// parameters.
-#[derive(Debug, Drop)]
+#[derive(Drop)]
 pub struct Entry {
     pub name: Name,
     pub model: ModelId,
@@ -75,14 +75,14 @@ pub struct Link {
 
 /// A structure of a network: its components in the order of their names, which are distinct, and its
 /// links in the order in which the structure gives them.
-#[derive(Debug, Drop)]
+#[derive(Drop)]
 pub struct Plan {
     pub entries: Seq<Entry>,
     pub links: Seq<Link>,
 }
 
 /// What a change from one structure to another does, each in the order of names.
-#[derive(Debug, Drop)]
+#[derive(Drop)]
 pub struct Change {
     /// Which components it drops.
     pub gone: Seq<Name>,

@@ -62,7 +62,7 @@ impl Tok {
 }
 
 /// The signs.
-#[derive(Clone, Copy, Debug, PartialEq, Eq)]
+#[derive(Clone, Copy, PartialEq, Eq)]
 pub enum Sign {
     /// `(`
     OpenParen,

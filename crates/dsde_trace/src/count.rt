@@ -6,7 +6,7 @@ ghost use Rattle.dsde_trace.specs.Count.{counted, HasRoom};
 use dsde_sim_tree::Event;
 
 /// How many events of each kind a trace has. Executives are counted as parts that start.
-#[derive(Clone, Copy, Debug, PartialEq, Eq)]
+#[derive(Clone, Copy)]
 pub struct Summary {
     pub turns: u128,
     pub adds: u128,

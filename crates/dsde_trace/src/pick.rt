@@ -6,7 +6,7 @@ ghost use Rattle.dsde_trace.specs.Pick.{picked};
 use dsde_sim_tree::Event;
 
 /// Which lines of a trace are kept.
-#[derive(Clone, Copy, Debug, PartialEq, Eq)]
+#[derive(Clone, Copy)]
 pub enum Pick {
     All,
     /// The lines of turns, of what the root sends, and of the end.

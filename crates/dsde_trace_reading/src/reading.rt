@@ -17,7 +17,7 @@ use dsde_values::Memory;
 use std::alloc::Global;
 
 /// Why no event was read.
-#[derive(Clone, Copy, Debug, PartialEq, Eq)]
+#[derive(Clone, Copy)]
 pub enum ReadEvent {
     /// The bytes are no lawful event's line.
     NotALine,

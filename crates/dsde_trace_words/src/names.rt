@@ -10,7 +10,7 @@ use dsde_formalism::MoveKind;
 use dsde_sim_tree::InputKind;
 
 /// The word with which a line begins.
-#[derive(Clone, Copy, Debug, PartialEq, Eq)]
+#[derive(Clone, Copy)]
 pub enum LineWord {
     Add,
     Turn,
@@ -22,7 +22,7 @@ pub enum LineWord {
 }
 
 /// The word with which what a last line says of the end begins.
-#[derive(Clone, Copy, Debug, PartialEq, Eq)]
+#[derive(Clone, Copy)]
 pub enum Ending {
     Bound,
     Quiet,

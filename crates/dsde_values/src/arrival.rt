@@ -4,14 +4,14 @@ use crate::Value;
 use dsde_lists::Seq;
 
 /// A value at a port, which goes by its number, counted from 0.
-#[derive(Debug, Drop)]
+#[derive(Drop)]
 pub struct Item {
     pub port: u32,
     pub value: Value,
 }
 
 /// A record of the input: the values that come from outside at one time.
-#[derive(Debug, Drop)]
+#[derive(Drop)]
 pub struct Arrival {
     /// At most 2^63 - 1.
     pub time: u64,

@@ -14,7 +14,7 @@ use std::alloc::Global;
 use std::cmp::Ordering;
 
 /// A component's place in the tree of components: names from `root` on.
-#[derive(Debug, Drop)]
+#[derive(Drop)]
 pub struct Path {
     pub names: Seq<Name>,
 }
@@ -85,7 +85,7 @@ fn append_name(name: &Name, text: &mut Text) -> Result<(), Memory>
 const LAST_INDEX: u64 = 9_223_372_036_854_775_807;
 
 /// Why no path was read.
-#[derive(Clone, Copy, Debug, PartialEq, Eq)]
+#[derive(Clone, Copy)]
 pub enum ReadPath {
     /// The bytes spell no path.
     NotAPath,

@@ -21,7 +21,7 @@ use std::alloc::Global;
 use std::marker::Model;
 
 /// Why no value was read.
-#[derive(Clone, Copy, Debug, PartialEq, Eq)]
+#[derive(Clone, Copy)]
 pub enum ReadValue {
     /// No value of the type begins the bytes.
     NotAValue,
