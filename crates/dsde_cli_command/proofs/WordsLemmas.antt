@@ -254,6 +254,25 @@ command_of-free all name words given is check run resume big same read = spelled
     spelled : (line_of words >>= free_of) ≡ command_of (name ∷ words)
     spelled = rw (check, run, resume, big, same) refl
 
+-- words behind a command that are no line spell no command
+pub command_of-unread : (all : List (List ℕ)) (name : List ℕ) (words : List (List ℕ)) → all ≡ name ∷ words → None ≡ read_words_of words → None ≡ command_of all
+command_of-unread all name words is unread =
+    by (bytes_eq name (codes "check")) (bytes_eq name (codes "run")) (bytes_eq name (codes "resume")) (bytes_eq name (codes "big")) (bytes_eq name (codes "free"))
+    (none check_of not_check) (none run_of not_run) (none resume_of not_resume) (none big_of not_big) (none free_of not_free)
+    ∙ ap command_of (sym is)
+  where
+    none : (next : Line → Option Task) → ((line : Line) → Often line → next line ≡ None) → None ≡ (line_of words >>= next)
+    none next often_none = ap (λ given. given >>= next) unread ∙ through next often_none (line_of words)
+
+    by : {check run resume big free : Option Task} (is_check is_run is_resume is_big is_free : Bool) → None ≡ check → None ≡ run → None ≡ resume → None ≡ big → None ≡ free →
+        None ≡ (if is_check then check else (if is_run then run else (if is_resume then resume else (if is_big then big else (if is_free then free else None)))))
+    by true is_run is_resume is_big is_free check run resume big free = check
+    by false true is_resume is_big is_free check run resume big free = run
+    by false false true is_big is_free check run resume big free = resume
+    by false false false true is_free check run resume big free = big
+    by false false false false true check run resume big free = free
+    by false false false false false check run resume big free = refl
+
 -- 1 to 10 digits are a number of 64 bits
 all_digits : IsNumeralModel (λ word. list_all is_ascii_digit word ≡ true) (digits_value 10)
 all_digits = numerals_by_value _ (search rules)

@@ -68,17 +68,19 @@ pub fn read_command(words: &[String]) -> Option<Command<'_>>
     ensures spelled { option_map task_of result ≡ command_of (map string_bytes words.now) }
     ensures bounded { IfSome result IsBounded }
 {
-    let (command, words) = words.split_first()?;
-    if command.as_str() == "check" {
-        read_words(words)?.check()
-    } else if command.as_str() == "run" {
-        read_words(words)?.run()
-    } else if command.as_str() == "resume" {
-        read_words(words)?.resume()
-    } else if command.as_str() == "big" {
-        read_words(words)?.big()
-    } else if command.as_str() == "free" {
-        read_words(words)?.free()
+    let (first, words) = words.split_first()?;
+    let given = read_words(words)?;
+    let command = first.as_str();
+    if command == "check" {
+        given.check()
+    } else if command == "run" {
+        given.run()
+    } else if command == "resume" {
+        given.resume()
+    } else if command == "big" {
+        given.big()
+    } else if command == "free" {
+        given.free()
     } else {
         None
     }
