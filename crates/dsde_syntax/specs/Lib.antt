@@ -4,4 +4,5 @@ pub mod Places
 pub mod Print
 pub mod Shape
 pub mod Spelling
+pub mod Writing
 pub mod given

@@ -1,6 +1,7 @@
 //! The tokens of a model.
 
-ghost use Rattle.std.specs.Prelude.{◌≡◌, [], ◌∷◌, ◌++◌, IfOk, OnOk};
+ghost use Rattle.std.specs.Prelude.{◌≡◌, [], ◌∷◌, Some, IfOk};
+ghost use Rattle.dsde_syntax.specs.Writing.{Adds};
 ghost use Rattle.dsde_syntax.specs.Grammar.{word as word_tokens, mark, id_tokens, tokens_of};
 ghost use Rattle.dsde_syntax.specs.declared.token.Tok.TheVariants as tok;
 
@@ -19,59 +20,75 @@ pub fn tokens_of(alloc: Global, model: &ModelTree) -> Result<Items<Tok>, Memory>
     ensures { IfOk result (λ tokens. tokens ≡ tokens_of model.now) }
 {
     let mut writer = Writer::new(alloc);
-    writer.decls(model.decls.as_slice())?;
-    let Writer { tokens, .. } = writer;
-    Ok(tokens)
+    writer.decls(model.decls.as_slice());
+    writer.finish()
 }
 
-/// Writes the tokens of a model's parts, one part after another.
+/// Writes the tokens of a model's parts, one part after another, and remembers whether memory ran
+/// out on the way.
 #[derive(Drop)]
 struct Writer {
     alloc: Global,
     tokens: Items<Tok>,
+    /// Whether a token found no memory.
+    lost: bool,
 }
 
 impl Model for Writer {
-    ghost use Rattle.std.specs.Prelude.{List};
+    ghost use Rattle.std.specs.Prelude.{List, Option};
     ghost use Rattle.dsde_syntax.specs.declared.token.Tok.{Tok};
+    ghost use Rattle.dsde_syntax.specs.Writing.{written};
 
-    ghost Value = { List Tok };
+    ghost Value = { Option (List Tok) };
 
-    ghost view = { λ writer. writer.tokens };
+    ghost view = { λ writer. written writer.lost writer.tokens };
 }
 
 impl Writer {
     fn new(alloc: Global) -> Writer
-        ensures { result ≡ [] }
+        ensures { result ≡ Some [] }
     {
         Writer {
             alloc,
             tokens: Items::new(alloc),
+            lost: false,
         }
     }
 
-    fn push(&mut self, tok: Tok) -> Result<(), Memory>
-        ensures { OnOk result (self.new ≡ self.old ++ tok ∷ []) }
+    fn finish(self) -> Result<Items<Tok>, Memory>
+        ensures { IfOk result (λ tokens. self ≡ Some tokens) }
     {
-        self.tokens.push(tok)
+        let Writer { tokens, lost, .. } = self;
+        if lost { Err(Memory) } else { Ok(tokens) }
     }
 
-    fn word(&mut self, word: Key) -> Result<(), Memory>
-        ensures { OnOk result (self.new ≡ self.old ++ word_tokens word) }
+    fn push(&mut self, tok: Tok)
+        ensures { Adds self.old (tok ∷ []) self.new }
     {
-        self.push(Tok::Key(word))
+        match self.tokens.push(tok) {
+            Ok(()) => {}
+            Err(_) => self.lost = true,
+        }
     }
 
-    fn sign(&mut self, sign: Sign) -> Result<(), Memory>
-        ensures { OnOk result (self.new ≡ self.old ++ mark sign) }
+    fn word(&mut self, word: Key)
+        ensures { Adds self.old (word_tokens word) self.new }
     {
-        self.push(Tok::Sign(sign))
+        self.push(Tok::Key(word));
     }
 
-    fn id(&mut self, id: &Id) -> Result<(), Memory>
-        ensures { OnOk result (self.new ≡ self.old ++ id_tokens id.now) }
+    fn sign(&mut self, sign: Sign)
+        ensures { Adds self.old (mark sign) self.new }
     {
-        let name = Word::from_slice(self.alloc, id.name.as_slice())?;
-        self.push(Tok::Ident(name))
+        self.push(Tok::Sign(sign));
+    }
+
+    fn id(&mut self, id: &Id)
+        ensures { Adds self.old (id_tokens id.now) self.new }
+    {
+        match Word::from_slice(self.alloc, id.name.as_slice()) {
+            Ok(name) => self.push(Tok::Ident(name)),
+            Err(_) => self.lost = true,
+        }
     }
 }

@@ -1,35 +1,36 @@
 //! The tokens of expressions.
 
-ghost use Rattle.std.specs.Prelude.{◌≡◌, ◌++◌, map, flat_map, OnOk};
-ghost use Rattle.dsde_syntax.specs.Grammar.{word, mark, id_tokens, joined, commas, elses, in_parens, in_brackets, in_braces, truth_tokens, expr_tokens, suffix_tokens, expr_arm_tokens, field_set_tokens, sign_tail_tokens, tail_tokens, args_tokens, for_tokens};
+ghost use Rattle.std.specs.Prelude.{◌++◌, map, flat_map};
+ghost use Rattle.dsde_syntax.specs.Writing.{Adds};
+ghost use Rattle.dsde_syntax.specs.Grammar.{word, mark, id_tokens, joined, commas, elses, in_parens, in_brackets, in_braces, truth_tokens, expr_tokens, suffix_tokens, expr_arm_tokens, field_set_tokens, sign_tail_tokens, tail_tokens, args_tokens, if_tokens, optional, for_tokens};
 ghost use Rattle.dsde_words.specs.declared.key.Key.TheVariants as key;
 ghost use Rattle.dsde_syntax.specs.declared.token.Sign.TheVariants as sign;
 
 use super::Writer;
-use crate::{Expr, ExprArm, FieldSet, Id, Key, Memory, Sign, SignTail, Suffix, Tail, Tok};
+use crate::{Boxed, Expr, ExprArm, FieldSet, Id, Key, Sign, SignTail, Suffix, Tail, Tok};
 
 impl Writer {
     #[cycle(write_expr)]
-    pub(super) fn expr(&mut self, expr: &Expr) -> Result<(), Memory>
-        ensures { OnOk result (self.new ≡ self.old ++ expr_tokens expr.now) }
+    pub(super) fn expr(&mut self, expr: &Expr)
+        ensures { Adds self.old (expr_tokens expr.now) self.new }
     {
         match expr {
             Expr::OrElse { left, right, .. } => {
-                self.expr(left.get())?;
-                self.sign(Sign::QuestionQuestion)?;
-                self.expr(right.get())
+                self.expr(left.get());
+                self.sign(Sign::QuestionQuestion);
+                self.expr(right.get());
             }
             Expr::Or { first, rest } => {
-                self.expr(first.get())?;
-                self.tails(Key::Or, rest.as_slice())
+                self.expr(first.get());
+                self.tails(Key::Or, rest.as_slice());
             }
             Expr::And { first, rest } => {
-                self.expr(first.get())?;
-                self.tails(Key::And, rest.as_slice())
+                self.expr(first.get());
+                self.tails(Key::And, rest.as_slice());
             }
             Expr::Not { of, .. } => {
-                self.word(Key::Not)?;
-                self.expr(of.get())
+                self.word(Key::Not);
+                self.expr(of.get());
             }
             Expr::Compare {
                 sign,
@@ -37,25 +38,25 @@ impl Writer {
                 right,
                 ..
             } => {
-                self.expr(left.get())?;
-                self.sign(*sign)?;
-                self.expr(right.get())
+                self.expr(left.get());
+                self.sign(*sign);
+                self.expr(right.get());
             }
             Expr::Sum { first, rest } => {
-                self.expr(first.get())?;
-                self.sign_tails(rest.as_slice())
+                self.expr(first.get());
+                self.sign_tails(rest.as_slice());
             }
             Expr::Mul { first, rest } => {
-                self.expr(first.get())?;
-                self.sign_tails(rest.as_slice())
+                self.expr(first.get());
+                self.sign_tails(rest.as_slice());
             }
             Expr::Neg { of, .. } => {
-                self.sign(Sign::Minus)?;
-                self.expr(of.get())
+                self.sign(Sign::Minus);
+                self.expr(of.get());
             }
             Expr::Post { first, suffixes } => {
-                self.expr(first.get())?;
-                self.suffixes(suffixes.as_slice())
+                self.expr(first.get());
+                self.suffixes(suffixes.as_slice());
             }
             Expr::Number { value, .. } => self.push(Tok::Int(*value)),
             Expr::Truth { value, .. } => self.truth(*value),
@@ -76,227 +77,230 @@ impl Writer {
                 value,
                 ..
             } => {
-                self.sign(Sign::OpenBracket)?;
-                self.for_in(name, list.get())?;
-                if let Some(cond) = cond {
-                    self.word(Key::If)?;
-                    self.expr(cond.get())?;
-                }
-                self.sign(Sign::Colon)?;
-                self.expr(value.get())?;
-                self.sign(Sign::CloseBracket)
+                self.sign(Sign::OpenBracket);
+                self.for_in(name, list.get());
+                self.each_cond(cond);
+                self.sign(Sign::Colon);
+                self.expr(value.get());
+                self.sign(Sign::CloseBracket);
             }
             Expr::If { arms, other, .. } => {
-                self.expr_arms(arms.as_slice())?;
-                self.word(Key::Else)?;
-                self.expr_in_braces(other.get())
+                self.expr_arms(arms.as_slice());
+                self.word(Key::Else);
+                self.expr_in_braces(other.get());
             }
         }
     }
 }
 
 impl Writer {
-    pub(super) fn truth(&mut self, value: bool) -> Result<(), Memory>
-        ensures { OnOk result (self.new ≡ self.old ++ truth_tokens value) }
+    pub(super) fn truth(&mut self, value: bool)
+        ensures { Adds self.old (truth_tokens value) self.new }
     {
-        self.word(if value { Key::True } else { Key::False })
+        self.word(if value { Key::True } else { Key::False });
     }
 
-    pub(super) fn variant(&mut self, owner: &Id, variant: &Id) -> Result<(), Memory>
-        ensures { OnOk result (self.new ≡ self.old ++ (id_tokens owner.now ++ mark sign.ColonColon ++ id_tokens variant.now)) }
+    pub(super) fn variant(&mut self, owner: &Id, variant: &Id)
+        ensures { Adds self.old (id_tokens owner.now ++ mark sign.ColonColon ++ id_tokens variant.now) self.new }
     {
-        self.id(owner)?;
-        self.sign(Sign::ColonColon)?;
-        self.id(variant)
+        self.id(owner);
+        self.sign(Sign::ColonColon);
+        self.id(variant);
+    }
+
+    /// `if cond`, if it is written.
+    #[cycle(write_expr)]
+    pub(super) fn each_cond(&mut self, cond: &Option<Boxed<Expr>>)
+        ensures { Adds self.old (optional if_tokens cond.now) self.new }
+    {
+        let Some(cond) = cond else {
+            return;
+        };
+        self.word(Key::If);
+        self.expr(cond.get());
     }
 
     /// `for name in list`
     #[cycle(write_expr)]
-    pub(super) fn for_in(&mut self, name: &Id, list: &Expr) -> Result<(), Memory>
-        ensures { OnOk result (self.new ≡ self.old ++ for_tokens name.now list.now) }
+    pub(super) fn for_in(&mut self, name: &Id, list: &Expr)
+        ensures { Adds self.old (for_tokens name.now list.now) self.new }
     {
-        self.word(Key::For)?;
-        self.id(name)?;
-        self.word(Key::In)?;
-        self.expr(list)
+        self.word(Key::For);
+        self.id(name);
+        self.word(Key::In);
+        self.expr(list);
     }
 
     #[cycle(write_expr)]
-    pub(super) fn call(&mut self, name: &Id, args: &[Expr]) -> Result<(), Memory>
-        ensures { OnOk result (self.new ≡ self.old ++ (id_tokens name.now ++ args_tokens args.now)) }
+    pub(super) fn call(&mut self, name: &Id, args: &[Expr])
+        ensures { Adds self.old (id_tokens name.now ++ args_tokens args.now) self.new }
     {
-        self.id(name)?;
-        self.args(args)
+        self.id(name);
+        self.args(args);
     }
 
     #[cycle(write_expr)]
-    pub(super) fn builtin(&mut self, which: Key, args: &[Expr]) -> Result<(), Memory>
-        ensures { OnOk result (self.new ≡ self.old ++ (word which ++ args_tokens args.now)) }
+    pub(super) fn builtin(&mut self, which: Key, args: &[Expr])
+        ensures { Adds self.old (word which ++ args_tokens args.now) self.new }
     {
-        self.word(which)?;
-        self.args(args)
+        self.word(which);
+        self.args(args);
     }
 
     /// `(args)`
     #[cycle(write_expr)]
-    pub(super) fn args(&mut self, args: &[Expr]) -> Result<(), Memory>
-        ensures { OnOk result (self.new ≡ self.old ++ args_tokens args.now) }
+    pub(super) fn args(&mut self, args: &[Expr])
+        ensures { Adds self.old (args_tokens args.now) self.new }
     {
-        self.sign(Sign::OpenParen)?;
-        self.exprs(args)?;
-        self.sign(Sign::CloseParen)
+        self.sign(Sign::OpenParen);
+        self.exprs(args);
+        self.sign(Sign::CloseParen);
     }
 
     /// `[items]`
     #[cycle(write_expr)]
-    pub(super) fn list(&mut self, items: &[Expr]) -> Result<(), Memory>
-        ensures { OnOk result (self.new ≡ self.old ++ in_brackets (commas (map expr_tokens items.now))) }
+    pub(super) fn list(&mut self, items: &[Expr])
+        ensures { Adds self.old (in_brackets (commas (map expr_tokens items.now))) self.new }
     {
-        self.sign(Sign::OpenBracket)?;
-        self.exprs(items)?;
-        self.sign(Sign::CloseBracket)
+        self.sign(Sign::OpenBracket);
+        self.exprs(items);
+        self.sign(Sign::CloseBracket);
     }
 
     /// Expressions with commas between them.
     #[cycle(write_expr)]
-    pub(super) fn exprs(&mut self, exprs: &[Expr]) -> Result<(), Memory>
-        ensures { OnOk result (self.new ≡ self.old ++ commas (map expr_tokens exprs.now)) }
+    pub(super) fn exprs(&mut self, exprs: &[Expr])
+        ensures { Adds self.old (commas (map expr_tokens exprs.now)) self.new }
     {
         let Some((first, rest)) = exprs.split_first() else {
-            return Ok(());
+            return;
         };
-        self.expr(first)?;
+        self.expr(first);
         for expr in rest {
-            self.sign(Sign::Comma)?;
-            self.expr(expr)?;
+            self.sign(Sign::Comma);
+            self.expr(expr);
         }
-        Ok(())
     }
 
     /// `new owner { fields }`
     #[cycle(write_expr)]
-    pub(super) fn new_record(&mut self, owner: &Id, fields: &[FieldSet]) -> Result<(), Memory>
-        ensures { OnOk result (self.new ≡ self.old ++ (word key.New ++ id_tokens owner.now ++ in_braces (commas (map field_set_tokens fields.now)))) }
+    pub(super) fn new_record(&mut self, owner: &Id, fields: &[FieldSet])
+        ensures { Adds self.old (word key.New ++ id_tokens owner.now ++ in_braces (commas (map field_set_tokens fields.now))) self.new }
     {
-        self.word(Key::New)?;
-        self.id(owner)?;
-        self.sign(Sign::OpenBrace)?;
-        self.field_sets(fields)?;
-        self.sign(Sign::CloseBrace)
+        self.word(Key::New);
+        self.id(owner);
+        self.sign(Sign::OpenBrace);
+        self.field_sets(fields);
+        self.sign(Sign::CloseBrace);
     }
 
     /// The fields of a new record with commas between them.
     #[cycle(write_expr)]
-    pub(super) fn field_sets(&mut self, fields: &[FieldSet]) -> Result<(), Memory>
-        ensures { OnOk result (self.new ≡ self.old ++ commas (map field_set_tokens fields.now)) }
+    pub(super) fn field_sets(&mut self, fields: &[FieldSet])
+        ensures { Adds self.old (commas (map field_set_tokens fields.now)) self.new }
     {
         let Some((first, rest)) = fields.split_first() else {
-            return Ok(());
+            return;
         };
-        self.field_set(first)?;
+        self.field_set(first);
         for field in rest {
-            self.sign(Sign::Comma)?;
-            self.field_set(field)?;
+            self.sign(Sign::Comma);
+            self.field_set(field);
         }
-        Ok(())
     }
 
     #[cycle(write_expr)]
-    pub(super) fn field_set(&mut self, field: &FieldSet) -> Result<(), Memory>
-        ensures { OnOk result (self.new ≡ self.old ++ field_set_tokens field.now) }
+    pub(super) fn field_set(&mut self, field: &FieldSet)
+        ensures { Adds self.old (field_set_tokens field.now) self.new }
     {
-        self.id(&field.name)?;
-        self.sign(Sign::Colon)?;
-        self.expr(&field.value)
+        self.id(&field.name);
+        self.sign(Sign::Colon);
+        self.expr(&field.value);
     }
 
     /// `(inner)`
     #[cycle(write_expr)]
-    pub(super) fn expr_in_parens(&mut self, inner: &Expr) -> Result<(), Memory>
-        ensures { OnOk result (self.new ≡ self.old ++ in_parens (expr_tokens inner.now)) }
+    pub(super) fn expr_in_parens(&mut self, inner: &Expr)
+        ensures { Adds self.old (in_parens (expr_tokens inner.now)) self.new }
     {
-        self.sign(Sign::OpenParen)?;
-        self.expr(inner)?;
-        self.sign(Sign::CloseParen)
+        self.sign(Sign::OpenParen);
+        self.expr(inner);
+        self.sign(Sign::CloseParen);
     }
 
     /// `{ inner }`
     #[cycle(write_expr)]
-    pub(super) fn expr_in_braces(&mut self, inner: &Expr) -> Result<(), Memory>
-        ensures { OnOk result (self.new ≡ self.old ++ in_braces (expr_tokens inner.now)) }
+    pub(super) fn expr_in_braces(&mut self, inner: &Expr)
+        ensures { Adds self.old (in_braces (expr_tokens inner.now)) self.new }
     {
-        self.sign(Sign::OpenBrace)?;
-        self.expr(inner)?;
-        self.sign(Sign::CloseBrace)
+        self.sign(Sign::OpenBrace);
+        self.expr(inner);
+        self.sign(Sign::CloseBrace);
     }
 
     /// The arms of a choice with `else` between them.
     #[cycle(write_expr)]
-    pub(super) fn expr_arms(&mut self, arms: &[ExprArm]) -> Result<(), Memory>
-        ensures { OnOk result (self.new ≡ self.old ++ elses (map expr_arm_tokens arms.now)) }
+    pub(super) fn expr_arms(&mut self, arms: &[ExprArm])
+        ensures { Adds self.old (elses (map expr_arm_tokens arms.now)) self.new }
     {
         let Some((first, rest)) = arms.split_first() else {
-            return Ok(());
+            return;
         };
-        self.expr_arm(first)?;
+        self.expr_arm(first);
         for arm in rest {
-            self.word(Key::Else)?;
-            self.expr_arm(arm)?;
+            self.word(Key::Else);
+            self.expr_arm(arm);
         }
-        Ok(())
     }
 
     #[cycle(write_expr)]
-    pub(super) fn expr_arm(&mut self, arm: &ExprArm) -> Result<(), Memory>
-        ensures { OnOk result (self.new ≡ self.old ++ expr_arm_tokens arm.now) }
+    pub(super) fn expr_arm(&mut self, arm: &ExprArm)
+        ensures { Adds self.old (expr_arm_tokens arm.now) self.new }
     {
-        self.word(Key::If)?;
-        self.expr(&arm.cond)?;
-        self.expr_in_braces(&arm.value)
+        self.word(Key::If);
+        self.expr(&arm.cond);
+        self.expr_in_braces(&arm.value);
     }
 
     /// Operands behind the first one, each with its word before it.
     #[cycle(write_expr)]
-    pub(super) fn tails(&mut self, operator: Key, tails: &[Tail]) -> Result<(), Memory>
-        ensures { OnOk result (self.new ≡ self.old ++ flat_map (λ value. word operator ++ value) (map tail_tokens tails.now)) }
+    pub(super) fn tails(&mut self, operator: Key, tails: &[Tail])
+        ensures { Adds self.old (flat_map (λ value. word operator ++ value) (map tail_tokens tails.now)) self.new }
     {
         for tail in tails {
-            self.word(operator)?;
-            self.expr(&tail.value)?;
+            self.word(operator);
+            self.expr(&tail.value);
         }
-        Ok(())
     }
 
     /// Operands behind the first one, each with its sign before it.
     #[cycle(write_expr)]
-    pub(super) fn sign_tails(&mut self, tails: &[SignTail]) -> Result<(), Memory>
-        ensures { OnOk result (self.new ≡ self.old ++ joined (map sign_tail_tokens tails.now)) }
+    pub(super) fn sign_tails(&mut self, tails: &[SignTail])
+        ensures { Adds self.old (joined (map sign_tail_tokens tails.now)) self.new }
     {
         for tail in tails {
-            self.sign(tail.sign)?;
-            self.expr(&tail.value)?;
+            self.sign(tail.sign);
+            self.expr(&tail.value);
         }
-        Ok(())
     }
 
     #[cycle(write_expr)]
-    pub(super) fn suffixes(&mut self, suffixes: &[Suffix]) -> Result<(), Memory>
-        ensures { OnOk result (self.new ≡ self.old ++ joined (map suffix_tokens suffixes.now)) }
+    pub(super) fn suffixes(&mut self, suffixes: &[Suffix])
+        ensures { Adds self.old (joined (map suffix_tokens suffixes.now)) self.new }
     {
         for suffix in suffixes {
-            self.suffix(suffix)?;
+            self.suffix(suffix);
         }
-        Ok(())
     }
 
     #[cycle(write_expr)]
-    pub(super) fn suffix(&mut self, suffix: &Suffix) -> Result<(), Memory>
-        ensures { OnOk result (self.new ≡ self.old ++ suffix_tokens suffix.now) }
+    pub(super) fn suffix(&mut self, suffix: &Suffix)
+        ensures { Adds self.old (suffix_tokens suffix.now) self.new }
     {
         match suffix {
             Suffix::Field { name, .. } => {
-                self.sign(Sign::Dot)?;
-                self.id(name)
+                self.sign(Sign::Dot);
+                self.id(name);
             }
             Suffix::Index { value, .. } => self.index(value),
             Suffix::Unwrap { .. } => self.sign(Sign::Bang),
@@ -305,11 +309,11 @@ impl Writer {
 
     /// `[value]`
     #[cycle(write_expr)]
-    pub(super) fn index(&mut self, value: &Expr) -> Result<(), Memory>
-        ensures { OnOk result (self.new ≡ self.old ++ in_brackets (expr_tokens value.now)) }
+    pub(super) fn index(&mut self, value: &Expr)
+        ensures { Adds self.old (in_brackets (expr_tokens value.now)) self.new }
     {
-        self.sign(Sign::OpenBracket)?;
-        self.expr(value)?;
-        self.sign(Sign::CloseBracket)
+        self.sign(Sign::OpenBracket);
+        self.expr(value);
+        self.sign(Sign::CloseBracket);
     }
 }

@@ -1,15 +1,16 @@
 //! The tokens of types.
 
-ghost use Rattle.std.specs.Prelude.{◌≡◌, ◌++◌, OnOk};
+ghost use Rattle.std.specs.Prelude.{◌++◌};
+ghost use Rattle.dsde_syntax.specs.Writing.{Adds};
 ghost use Rattle.dsde_syntax.specs.Grammar.{word, in_angles, type_tokens};
 
 use super::Writer;
-use crate::{Key, Memory, Sign, TypeName};
+use crate::{Key, Sign, TypeName};
 
 impl Writer {
     #[cycle(write_type)]
-    pub(super) fn type_name(&mut self, ty: &TypeName) -> Result<(), Memory>
-        ensures { OnOk result (self.new ≡ self.old ++ type_tokens ty.now) }
+    pub(super) fn type_name(&mut self, ty: &TypeName)
+        ensures { Adds self.old (type_tokens ty.now) self.new }
     {
         match ty {
             TypeName::Int(_) => self.word(Key::Int),
@@ -22,12 +23,12 @@ impl Writer {
 
     /// A word and a type in angle brackets.
     #[cycle(write_type)]
-    pub(super) fn word_of_type(&mut self, begins: Key, ty: &TypeName) -> Result<(), Memory>
-        ensures { OnOk result (self.new ≡ self.old ++ (word begins ++ in_angles (type_tokens ty.now))) }
+    pub(super) fn word_of_type(&mut self, begins: Key, ty: &TypeName)
+        ensures { Adds self.old (word begins ++ in_angles (type_tokens ty.now)) self.new }
     {
-        self.word(begins)?;
-        self.sign(Sign::Less)?;
-        self.type_name(ty)?;
-        self.sign(Sign::Greater)
+        self.word(begins);
+        self.sign(Sign::Less);
+        self.type_name(ty);
+        self.sign(Sign::Greater);
     }
 }
