@@ -1,7 +1,10 @@
-use Rattle.std.proofs.Common.{rules}
+use Rattle.std.proofs.Common.{◌++◌, rules}
+use Rattle.dsde_words.specs.declared.key.Key.TheVariants as key
+use Rattle.dsde_syntax.specs.declared.token.Sign.TheVariants as sign
+use Rattle.dsde_syntax.specs.Grammar.{word, mark, expr_tokens, suffix_tokens, sign_tail_tokens, tail_tokens, field_set_tokens, expr_arm_tokens}
 use Rattle.dsde_syntax.specs.declared.expr.Expr.TheFolds.{the_lemmas}
 use Rattle.dsde_syntax.proofs.Nodes.{or_else_tokens, or_tokens, and_tokens, compare_tokens, each_tokens, if_else_tokens}
-use Rattle.dsde_syntax.proofs.Writing.{then, same}
+use Rattle.dsde_syntax.proofs.Writing.{then, same, adds_more, adds_all}
 use Rattle.dsde_syntax.proofs.writer.Writer.+write_expr.Goals as goal
 
 pub expr-returns-in-OrElse : goal.expr-returns-in-OrElse
@@ -76,3 +79,36 @@ expr_in_parens-returns t c = then (then c.sign.ensures c.expr.ensures) c.sign-2.
 
 pub expr_in_braces-returns : goal.expr_in_braces-returns
 expr_in_braces-returns t c = then (then c.sign.ensures c.expr.ensures) c.sign-2.ensures
+
+pub suffixes-loop-suffix-preserved : goal.suffixes-loop-suffix-preserved
+suffixes-loop-suffix-preserved t c =
+    adds_more (λ part. part) suffix_tokens _ _ _ c.loop-suffix-test.true c.suffix-item.is c.loop-suffix.invariant (c.suffix.ensures)
+
+pub suffixes-returns : goal.suffixes-returns
+suffixes-returns t c = adds_all (λ part. part) suffix_tokens _ _ c.loop-suffix-test.false c.loop-suffix.invariant
+
+pub sign_tails-loop-tail-preserved : goal.sign_tails-loop-tail-preserved
+sign_tails-loop-tail-preserved t c =
+    adds_more (λ part. part) sign_tail_tokens _ _ _ c.loop-tail-test.true c.tail-item.is c.loop-tail.invariant (same (then c.sign.ensures c.expr.ensures) (search (rules, the_lemmas)))
+
+pub sign_tails-returns : goal.sign_tails-returns
+sign_tails-returns t c = adds_all (λ part. part) sign_tail_tokens _ _ c.loop-tail-test.false c.loop-tail.invariant
+
+pub tails-loop-tail-preserved : goal.tails-loop-tail-preserved
+tails-loop-tail-preserved t c =
+    adds_more (λ value. word c.args.operator ++ value) tail_tokens _ _ _ c.loop-tail-test.true c.tail-item.is c.loop-tail.invariant (same (then c.word.ensures c.expr.ensures) (search (rules, the_lemmas)))
+
+pub tails-returns : goal.tails-returns
+tails-returns t c = adds_all (λ value. word c.args.operator ++ value) tail_tokens _ _ c.loop-tail-test.false c.loop-tail.invariant
+
+pub exprs-loop-expr-preserved : goal.exprs-loop-expr-preserved
+exprs-loop-expr-preserved t c =
+    adds_more (λ part. mark sign.Comma ++ part) expr_tokens _ _ _ c.loop-expr-test.true c.expr-item.is c.loop-expr.invariant (then c.sign.ensures c.expr-in-loop-expr.ensures)
+
+pub field_sets-loop-field-preserved : goal.field_sets-loop-field-preserved
+field_sets-loop-field-preserved t c =
+    adds_more (λ part. mark sign.Comma ++ part) field_set_tokens _ _ _ c.loop-field-test.true c.field-item.is c.loop-field.invariant (then c.sign.ensures c.field_set-in-loop-field.ensures)
+
+pub expr_arms-loop-arm-preserved : goal.expr_arms-loop-arm-preserved
+expr_arms-loop-arm-preserved t c =
+    adds_more (λ part. word key.Else ++ part) expr_arm_tokens _ _ _ c.loop-arm-test.true c.arm-item.is c.loop-arm.invariant (then c.word.ensures c.expr_arm-in-loop-arm.ensures)
