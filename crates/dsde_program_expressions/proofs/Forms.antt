@@ -38,6 +38,13 @@ module _ (known : Known) (own : Expr) (form : Form) (scope : Scope) (table : Tab
   by_parts : by_form known form scope table ≡ whole
   by_parts = ap (λ (l : Lay). l scope table) (sym (of_form known own form is))
 
+  -- a type and a table of the form
+  pub laid_type : (by_form known form scope table).ty ≡ whole.ty
+  laid_type = ap (λ (l : Laid). l.ty) by_parts
+
+  pub laid_table : (by_form known form scope table).table ≡ whole.table
+  laid_table = ap (λ (l : Laid). l.table) by_parts
+
   module _ {E : Type 0} (result : Result found.Laid E) where
     -- what a call answers, where it lays the form
     pub types : IfOk result (λ laid. laid.ty ≡ (by_form known form scope table).ty) → IfOk result (λ laid. laid.ty ≡ whole.ty)
