@@ -1,6 +1,6 @@
 use Rattle.std.proofs.Common.{◌+◌, drop, map, ap, ◌∙◌}
 use Rattle.dsde_language.specs.Blocks.{state_of, walk_all}
-use Rattle.dsde_check_bodies.proofs.Walking.{walk_went, walk_failed}
+use Rattle.dsde_check_expressions.specs.lemmas.Walking.{walk_went, walk_failed}
 use Rattle.dsde_check_bodies.proofs.bodies.states.Goals as goal
 
 pub loop-own-preserved : goal.loop-own-preserved

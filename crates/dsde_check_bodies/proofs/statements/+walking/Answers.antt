@@ -1,6 +1,6 @@
 use Rattle.std.proofs.Common.{◌+◌, drop, map, ap, ◌∙◌}
 use Rattle.dsde_language.specs.Blocks.{walk, walk_all, walk_arm}
-use Rattle.dsde_check_bodies.proofs.Walking.{walk_went, walk_failed, arm_went, arm_failed, grown}
+use Rattle.dsde_check_expressions.specs.lemmas.Walking.{walk_went, walk_failed, arm_went, arm_failed, grown}
 use Rattle.dsde_check_bodies.proofs.statements.+walking.Goals as goal
 
 pub stmts-loop-each-preserved : goal.stmts-loop-each-preserved

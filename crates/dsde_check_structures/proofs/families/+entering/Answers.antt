@@ -10,7 +10,7 @@ use Rattle.dsde_language.specs.declared.signatures.Family.{Family}
 use Rattle.dsde_language.specs.RuleStructures.{comp_family, enter, enter_all}
 use Rattle.dsde_check_expressions.specs.given.check_scope.Says.{Leaves}
 use Rattle.dsde_check_structures.specs.Parts.{enter_arm}
-use Rattle.dsde_check_structures.proofs.Walking.{enter_went, enter_failed}
+use Rattle.dsde_check_structures.proofs.Entering.{enter_went, enter_failed}
 use Rattle.dsde_check_structures.proofs.families.+entering.Goals as goal
 
 -- what a `comp` brings, by its own rule

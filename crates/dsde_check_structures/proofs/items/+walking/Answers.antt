@@ -3,7 +3,7 @@ use Rattle.dsde_language.specs.Blocks.{walk_all}
 use Rattle.dsde_language.specs.RuleStructures.{item_walk}
 use Rattle.dsde_check_expressions.specs.given.check_scope.Says.{Says, Walks}
 use Rattle.dsde_check_structures.specs.Parts.{item_arm_walk}
-use Rattle.dsde_check_structures.proofs.Walking.{walk_went, walk_failed, arm_went, arm_failed, grown}
+use Rattle.dsde_check_expressions.specs.lemmas.Walking.{walk_went, walk_failed, arm_went, arm_failed, grown}
 use Rattle.dsde_check_structures.proofs.Opened.{arm_opened, item_for}
 use Rattle.dsde_check_structures.proofs.items.+walking.Goals as goal
 
