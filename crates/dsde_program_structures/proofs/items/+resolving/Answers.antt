@@ -5,7 +5,8 @@ use Rattle.dsde_language.specs.declared.make.Make.{Make}
 use Rattle.dsde_language.specs.declared.make.MakeArm.{MakeArm}
 use Rattle.dsde_program_expressions.specs.given.program_layout.LayPieces.{LaidPiece, Step}
 use Rattle.dsde_program_expressions.specs.given.program_layout.LayItems.{lay_item}
-use Rattle.dsde_program_structures.specs.Parts.{lay_comp}
+use Rattle.dsde_program_structures.specs.Parts.{lay_arm, lay_comp}
+use Rattle.dsde_program_structures.proofs.Loops.{kept_on, next_own, next_tables, next_scope}
 use Rattle.dsde_program_structures.proofs.Opened.{arm_opened, item_comp, item_for, item_let, item_link}
 use Rattle.dsde_program_structures.proofs.items.+resolving.Goals as goal
 
@@ -83,3 +84,19 @@ item-returns-in-Comp-clause-seen t c =
     subst (λ (step : Step Make). OnOk c.comp.result (c.comp.new.scope ≡ (step c.args.scope.now c.args.tables.now).scope))
     (sym (ap (lay_item c.args.place.now) c.in-Comp.is ∙ item_comp c.args.place.now c.in-Comp.at c.in-Comp.name c.in-Comp.index c.in-Comp.soft c.in-Comp.model c.in-Comp.args))
     (subst (λ (known : Known). OnOk c.comp.result (c.comp.new.scope ≡ (lay_comp known c.in-Comp.at c.in-Comp.name c.in-Comp.index c.in-Comp.soft c.in-Comp.model c.in-Comp.args c.args.scope.now c.args.tables.now).scope)) c.resolver.ensures (search rules))
+
+pub items-loop-own-preserved : goal.items-loop-own-preserved
+items-loop-own-preserved t c = (
+  next_own c.args.items.now c.loop-own.own-index c.own-item.result c.loop-own-test.true c.own-item.is (lay_item c.args.place.now) c.loop-own.scope c.item.new.scope c.loop-own.tables c.item.new.tables c.in_ok-item.ensures.seen c.in_ok-item.ensures.tables c.loop-own.makes c.push.new.self c.in_ok-item.field-0 c.in_ok-push.ensures.ok c.in_ok-item.ensures.own ∙ c.loop-own.invariant.0,
+  next_tables c.args.items.now c.loop-own.own-index c.own-item.result c.loop-own-test.true c.own-item.is (lay_item c.args.place.now) c.loop-own.scope c.item.new.scope c.loop-own.tables c.item.new.tables c.in_ok-item.ensures.seen c.in_ok-item.ensures.tables ∙ c.loop-own.invariant.1,
+  next_scope c.args.items.now c.loop-own.own-index c.own-item.result c.loop-own-test.true c.own-item.is (lay_item c.args.place.now) c.loop-own.scope c.item.new.scope c.loop-own.tables c.item.new.tables c.in_ok-item.ensures.seen c.in_ok-item.ensures.tables ∙ c.loop-own.invariant.2,
+  kept_on c.args.scope.now c.loop-own.scope c.item.new.scope c.loop-own.invariant.3 c.in_ok-item.ensures.kept,
+)
+
+pub arms-loop-own-preserved : goal.arms-loop-own-preserved
+arms-loop-own-preserved t c = (
+  next_own c.args.arms.now c.loop-own.own-index c.own-item.result c.loop-own-test.true c.own-item.is (lay_arm c.args.place.now) c.loop-own.scope c.arm.new.scope c.loop-own.tables c.arm.new.tables c.in_ok-arm.ensures.seen c.in_ok-arm.ensures.tables c.loop-own.found c.push.new.self c.in_ok-arm.field-0 c.in_ok-push.ensures.ok c.in_ok-arm.ensures.own ∙ c.loop-own.invariant.0,
+  next_tables c.args.arms.now c.loop-own.own-index c.own-item.result c.loop-own-test.true c.own-item.is (lay_arm c.args.place.now) c.loop-own.scope c.arm.new.scope c.loop-own.tables c.arm.new.tables c.in_ok-arm.ensures.seen c.in_ok-arm.ensures.tables ∙ c.loop-own.invariant.1,
+  next_scope c.args.arms.now c.loop-own.own-index c.own-item.result c.loop-own-test.true c.own-item.is (lay_arm c.args.place.now) c.loop-own.scope c.arm.new.scope c.loop-own.tables c.arm.new.tables c.in_ok-arm.ensures.seen c.in_ok-arm.ensures.tables ∙ c.loop-own.invariant.2,
+  c.in_ok-arm.ensures.kept ∙ c.loop-own.invariant.3,
+)
