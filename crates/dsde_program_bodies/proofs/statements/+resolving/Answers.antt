@@ -1,9 +1,11 @@
 -- A statement or an arm lays what its parts lay.
-use Rattle.std.proofs.Common.{◌≡◌, IfOk, OnOk, sym, ap, subst, ◌∙◌, rules}
+use Rattle.std.proofs.Common.{◌≡◌, IfOk, OnOk, sym, ap, subst, ◌∙◌, arith, rules}
 use Rattle.dsde_language.specs.declared.act.Act.{Act}
 use Rattle.dsde_language.specs.declared.act.ActArm.{ActArm}
 use Rattle.dsde_program_expressions.specs.given.program_layout.LayPieces.{LaidPiece, Step}
 use Rattle.dsde_program_expressions.specs.given.program_layout.LayStatements.{lay_stmt}
+use Rattle.dsde_program_bodies.specs.Parts.{lay_arm}
+use Rattle.dsde_program_bodies.proofs.Loops.{kept_on, next_own, next_tables, next_scope}
 use Rattle.dsde_program_bodies.proofs.Opened.{arm_opened, stmt_for, stmt_let, stmt_send, stmt_set}
 use Rattle.dsde_program_bodies.proofs.statements.+resolving.Goals as goal
 
@@ -91,3 +93,21 @@ lay_arm-returns-clause-tables t c =
 pub lay_arm-returns-clause-scope : goal.lay_arm-returns-clause-scope
 lay_arm-returns-clause-scope t c =
     subst (λ (one : LaidPiece ActArm). c.block.new.scope ≡ one.scope) (sym (arm_opened c.args.resolver.now c.args.outs.now c.args.arm.now c.args.scope.now c.args.tables.now)) (search rules)
+
+pub stmts-loop-each-preserved : goal.stmts-loop-each-preserved
+stmts-loop-each-preserved t c = (
+  next_own c.args.stmts.now c.loop-each.each-index c.each-item.result c.loop-each-test.true c.each-item.is (lay_stmt c.args.resolver.now c.args.outs.now) c.loop-each.scope c.stmt.new.scope c.loop-each.tables c.stmt.new.tables c.in_ok-stmt.ensures.scope c.in_ok-stmt.ensures.tables c.loop-each.acts c.push.new.self c.in_ok-stmt.field-0 c.in_ok-push.ensures.ok c.in_ok-stmt.ensures.own ∙ c.loop-each.invariant.0,
+  next_tables c.args.stmts.now c.loop-each.each-index c.each-item.result c.loop-each-test.true c.each-item.is (lay_stmt c.args.resolver.now c.args.outs.now) c.loop-each.scope c.stmt.new.scope c.loop-each.tables c.stmt.new.tables c.in_ok-stmt.ensures.scope c.in_ok-stmt.ensures.tables ∙ c.loop-each.invariant.1,
+  next_scope c.args.stmts.now c.loop-each.each-index c.each-item.result c.loop-each-test.true c.each-item.is (lay_stmt c.args.resolver.now c.args.outs.now) c.loop-each.scope c.stmt.new.scope c.loop-each.tables c.stmt.new.tables c.in_ok-stmt.ensures.scope c.in_ok-stmt.ensures.tables ∙ c.loop-each.invariant.2,
+  omega (arith, c.loop-each.invariant.3, c.in_ok-stmt.ensures.grows),
+  kept_on c.args.scope.now c.loop-each.scope c.stmt.new.scope c.loop-each.invariant.4 c.in_ok-stmt.ensures.kept,
+)
+
+pub lay_arms-loop-arm-preserved : goal.lay_arms-loop-arm-preserved
+lay_arms-loop-arm-preserved t c = (
+  next_own c.args.arms.now c.loop-arm.arm-index c.arm-item.result c.loop-arm-test.true c.arm-item.is (lay_arm c.args.resolver.now c.args.outs.now) c.loop-arm.scope c.lay_arm.new.scope c.loop-arm.tables c.lay_arm.new.tables c.in_ok-lay_arm.ensures.scope c.in_ok-lay_arm.ensures.tables c.loop-arm.found c.push.new.self c.in_ok-lay_arm.field-0 c.in_ok-push.ensures.ok c.in_ok-lay_arm.ensures.own ∙ c.loop-arm.invariant.0,
+  next_tables c.args.arms.now c.loop-arm.arm-index c.arm-item.result c.loop-arm-test.true c.arm-item.is (lay_arm c.args.resolver.now c.args.outs.now) c.loop-arm.scope c.lay_arm.new.scope c.loop-arm.tables c.lay_arm.new.tables c.in_ok-lay_arm.ensures.scope c.in_ok-lay_arm.ensures.tables ∙ c.loop-arm.invariant.1,
+  next_scope c.args.arms.now c.loop-arm.arm-index c.arm-item.result c.loop-arm-test.true c.arm-item.is (lay_arm c.args.resolver.now c.args.outs.now) c.loop-arm.scope c.lay_arm.new.scope c.loop-arm.tables c.lay_arm.new.tables c.in_ok-lay_arm.ensures.scope c.in_ok-lay_arm.ensures.tables ∙ c.loop-arm.invariant.2,
+  omega (arith, c.loop-arm.invariant.3, c.in_ok-lay_arm.ensures.grows),
+  c.in_ok-lay_arm.ensures.kept ∙ c.loop-arm.invariant.4,
+)
