@@ -12,8 +12,10 @@ use Rattle.dsde_routes_wiring.specs.given.structure.Gather.{is_part}
 use Rattle.dsde_routes_wiring.specs.declared.row.Way.{Way}
 use Rattle.dsde_routes_wiring.specs.declared.row.Passing.{Passing}
 use Rattle.dsde_routes_wiring.specs.declared.row.Row.{Row}
-use Rattle.dsde_routes_wiring.specs.Ways.{Ways, onward, begin}
+use Rattle.dsde_routes_wiring.specs.Ways.{Ways, nowhere, onward, begin}
 use Rattle.dsde_routes_wiring.specs.Flatten.{row_of}
+use Rattle.dsde_routes.specs.declared.carry.Come.{Come}
+use Rattle.dsde_routes.specs.declared.carry.Come.TheVariants as come
 use Rattle.dsde_routes.specs.declared.sent.Sent.{Sent}
 use Rattle.dsde_routes.specs.declared.sent.Sent.TheVariants.{Leaf, Net}
 
@@ -48,10 +50,11 @@ abbrev pub ways_out : Option Sent → Ways
 ways_out None port = []
 ways_out (Some sent) port = ways_of sent port
 
--- the ways into a network: at the root they begin, elsewhere they came
-abbrev pub ways_got : Option Handle → List Passing → Ways
-ways_got (Some root) got = begin root
-ways_got None got = ways_in got
+-- the ways into a network: none come, or they begin at the root, or these came
+abbrev pub come_of : Come → Ways
+come_of come.Nowhere = nowhere
+come_of (come.Root root) = begin root
+come_of (come.Ways got) = ways_in got.now
 
 -- where the links of a network lead from
 abbrev pub from_parts : Ways → Handle → List (Name × Sent) → Part → Ways

@@ -1,7 +1,7 @@
 //! The ways that links carry in a network.
 
 ghost use Rattle.std.specs.Prelude.{◌≡◌, ◌++◌, OnOk};
-ghost use Rattle.dsde_routes.specs.Passing.{carry, from_parts, ways_got};
+ghost use Rattle.dsde_routes.specs.Passing.{carry, come_of, from_parts};
 
 use crate::ports::GotWays;
 use crate::sent::{Sent, Sents};
@@ -13,23 +13,34 @@ use dsde_routes_wiring::given::structure::{Link, Part};
 use dsde_values::Seq;
 use std::alloc::Global;
 
+/// The ways that come to a network.
+#[derive(Clone, Copy)]
+pub enum Come<'w> {
+    /// None.
+    Nowhere,
+    /// Those that begin at the root's own in ports.
+    Root(Handle),
+    /// Those that end at its in ports.
+    Ways(&'w GotWays<'w>),
+}
+
 /// Adds the ways over the link of this number.
 pub fn carry(
     alloc: Global,
     number: usize,
     link: &Link,
-    root: Option<Handle>,
-    got: &GotWays,
+    come: Come<'_>,
     boss: Handle,
     kids: &Sents,
     ways: &mut Seq<Passing>,
 ) -> Result<(), Memory>
-    ensures { OnOk result (ways.new ≡ ways.old ++ carry (from_parts (ways_got root got.now) boss kids.now) number link.now) }
+    ensures { OnOk result (ways.new ≡ ways.old ++ carry (from_parts (come_of come.entry) boss kids.now) number link.now) }
 {
     match &link.from.part {
-        Part::Net => match root {
-            Some(handle) => begin_over(alloc, number, link, handle, ways),
-            None => go_over(
+        Part::Net => match come {
+            Come::Nowhere => Ok(()),
+            Come::Root(handle) => begin_over(alloc, number, link, handle, ways),
+            Come::Ways(got) => go_over(
                 alloc,
                 number,
                 link,

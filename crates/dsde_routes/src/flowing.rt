@@ -6,10 +6,10 @@ ghost use Rattle.dsde_routes_wiring.specs.given.structure.Gather.{is_part};
 ghost use Rattle.dsde_routes_wiring.specs.given.structure.plan_Part_TheVariants as part;
 ghost use Rattle.dsde_values.specs.declared.name.Name.{Name};
 ghost use Rattle.dsde_routes_wiring.specs.Flatten.{flatten, flow, row_of};
-ghost use Rattle.dsde_routes.specs.Passing.{carry, comes_to, from_parts, passing, rows_by, ways_got};
+ghost use Rattle.dsde_routes.specs.Passing.{carry, come_of, comes_to, from_parts, passing, rows_by};
 ghost use Rattle.dsde_routes.specs.Putting.{put_all, rows_beneath, rows_to_kid, rows_to_kids};
 
-use crate::carry::carry;
+use crate::carry::{Come, carry};
 use crate::comes::Comes;
 use crate::ports::GotWays;
 use crate::sending::{outs, sents};
@@ -30,16 +30,15 @@ fn carry_in(
     alloc: Global,
     number: usize,
     link: &Link,
-    root: Option<Handle>,
-    got: &GotWays,
+    come: Come<'_>,
     boss: Handle,
     kids: &Sents,
     ways: &mut Seq<Passing>,
 ) -> Result<(), Memory>
-    ensures { OnOk result (ways.new ≡ ways.old ++ (if is_part link.now.to.part part.Boss then carry (from_parts (ways_got root got.now) boss kids.now) number link.now else [])) }
+    ensures { OnOk result (ways.new ≡ ways.old ++ (if is_part link.now.to.part part.Boss then carry (from_parts (come_of come.entry) boss kids.now) number link.now else [])) }
 {
     match &link.to.part {
-        Part::Boss => carry(alloc, number, link, root, got, boss, kids, ways),
+        Part::Boss => carry(alloc, number, link, come, boss, kids, ways),
         _ => Ok(()),
     }
 }
@@ -48,16 +47,15 @@ fn carry_in(
 fn to_boss(
     alloc: Global,
     links: &[Link],
-    root: Option<Handle>,
-    got: &GotWays,
+    come: Come<'_>,
     boss: Handle,
     kids: &Sents,
 ) -> Result<Seq<Passing>, Memory>
-    ensures { IfOk result (λ list. list ≡ passing (from_parts (ways_got root got.now) boss kids.now) 0 links.now part.Boss) }
+    ensures { IfOk result (λ list. list ≡ passing (from_parts (come_of come.entry) boss kids.now) 0 links.now part.Boss) }
 {
     let mut ways = Seq::new(alloc);
     for (number, link) in links.iter().enumerate() {
-        carry_in(alloc, number, link, root, got, boss, kids, &mut ways)?;
+        carry_in(alloc, number, link, come, boss, kids, &mut ways)?;
     }
     Ok(ways)
 }
@@ -67,19 +65,18 @@ fn carry_down(
     alloc: Global,
     number: usize,
     link: &Link,
-    root: Option<Handle>,
-    got: &GotWays,
+    come: Come<'_>,
     boss: Handle,
     kids: &Sents,
     comes: &mut Comes,
 ) -> Result<(), Memory>
-    ensures { OnOk result ((name : Name) → comes_to comes.new name ≡ comes_to comes.old name ++ (if is_part link.now.to.part (part.Kid name) then carry (from_parts (ways_got root got.now) boss kids.now) number link.now else [])) }
+    ensures { OnOk result ((name : Name) → comes_to comes.new name ≡ comes_to comes.old name ++ (if is_part link.now.to.part (part.Kid name) then carry (from_parts (come_of come.entry) boss kids.now) number link.now else [])) }
 {
     let Part::Kid(name) = &link.to.part else {
         return Ok(());
     };
     let mut list = comes.take(alloc, name);
-    carry(alloc, number, link, root, got, boss, kids, &mut list)?;
+    carry(alloc, number, link, come, boss, kids, &mut list)?;
     comes.put(alloc, name, list)
 }
 
@@ -87,16 +84,15 @@ fn carry_down(
 fn to_kids(
     alloc: Global,
     links: &[Link],
-    root: Option<Handle>,
-    got: &GotWays,
+    come: Come<'_>,
     boss: Handle,
     kids: &Sents,
 ) -> Result<Comes, Memory>
-    ensures { IfOk result (λ comes. (name : Name) → comes_to comes name ≡ passing (from_parts (ways_got root got.now) boss kids.now) 0 links.now (part.Kid name)) }
+    ensures { IfOk result (λ comes. (name : Name) → comes_to comes name ≡ passing (from_parts (come_of come.entry) boss kids.now) 0 links.now (part.Kid name)) }
 {
     let mut comes = Comes::new(alloc);
     for (number, link) in links.iter().enumerate() {
-        carry_down(alloc, number, link, root, got, boss, kids, &mut comes)?;
+        carry_down(alloc, number, link, come, boss, kids, &mut comes)?;
     }
     Ok(comes)
 }
@@ -139,18 +135,17 @@ fn put_rows<L: Ledger>(
 fn put_beneath<L: Ledger>(
     alloc: Global,
     net: &Wiring,
-    root: Option<Handle>,
-    got: &GotWays,
+    come: Come<'_>,
     table: &mut RouteTable,
     changes: &mut Steps<L>,
 ) -> Result<(), Memory>
-    ensures rows { OnOk result (table.new ≡ put_all table.old (rows_beneath (flow net.now) (ways_got root got.now))) }
+    ensures rows { OnOk result (table.new ≡ put_all table.old (rows_beneath (flow net.now) (come_of come.entry))) }
     ensures ticks { OnOk result (changes.new + set.len table.old ≡ changes.old + set.len table.new) }
 {
     let kids = sents(alloc, net.kids.as_slice())?;
-    let comes = to_kids(alloc, net.links.as_slice(), root, got, net.boss, &kids)?;
+    let comes = to_kids(alloc, net.links.as_slice(), come, net.boss, &kids)?;
     put_kids(alloc, net.kids.as_slice(), &comes, table, changes)?;
-    let list = to_boss(alloc, net.links.as_slice(), root, got, net.boss, &kids)?;
+    let list = to_boss(alloc, net.links.as_slice(), come, net.boss, &kids)?;
     put_rows(alloc, net.boss, list.as_slice(), table, changes)
 }
 
@@ -188,7 +183,7 @@ fn put_kid<L: Ledger>(
         None => put_rows(alloc, kid.handle, got, table, changes),
         Some(below) => {
             let got = GotWays::of(alloc, got)?;
-            put_beneath(alloc, below.get(), None, &got, table, changes)
+            put_beneath(alloc, below.get(), Come::Ways(&got), table, changes)
         }
     }
 }
@@ -203,8 +198,7 @@ pub fn build<L: Ledger>(
     ensures ticks { OnOk result (changes.new ≡ changes.old + set.len (flatten wiring.now)) }
 {
     let mut table = RouteTable::new(alloc);
-    let none = GotWays::none(alloc);
-    put_beneath(alloc, wiring, Some(wiring.me), &none, &mut table, changes)?;
+    put_beneath(alloc, wiring, Come::Root(wiring.me), &mut table, changes)?;
     let list = outs(alloc, wiring)?;
     put_rows(alloc, wiring.me, list.as_slice(), &mut table, changes)?;
     Ok(table)

@@ -133,16 +133,6 @@ impl<'w> Model for GotWays<'w> {
 }
 
 impl<'w> GotWays<'w> {
-    /// None, which take no memory.
-    pub fn none(alloc: Global) -> GotWays<'w>
-        ensures { result ≡ [] }
-    {
-        GotWays {
-            items: &[],
-            ports: Ports::new(alloc),
-        }
-    }
-
     /// These ways.
     pub fn of(alloc: Global, items: &'w [Passing]) -> Result<GotWays<'w>, Memory>
         ensures { IfOk result (λ ways. ways ≡ items.now) }

@@ -9,8 +9,8 @@ ghost use Rattle.dsde_routes.specs.Passing.{carry, from_parts, passing, ways_in,
 ghost use Rattle.dsde_routes.specs.Putting.{out_passing};
 ghost use Rattle.dsde_routes.specs.Sending.{Sends};
 
-use crate::carry::carry;
-use crate::ports::{GotWays, SentWays};
+use crate::carry::{Come, carry};
+use crate::ports::SentWays;
 use crate::sent::{Sent, Sents};
 use dsde_bank::Handle;
 use dsde_lists::Memory;
@@ -31,16 +31,7 @@ fn carry_out(
     ensures { OnOk result (ways.new ≡ ways.old ++ (if is_part link.now.to.part part.Net then carry (from_parts nowhere boss kids.now) number link.now else [])) }
 {
     match &link.to.part {
-        Part::Net => carry(
-            alloc,
-            number,
-            link,
-            None,
-            &GotWays::none(alloc),
-            boss,
-            kids,
-            ways,
-        ),
+        Part::Net => carry(alloc, number, link, Come::Nowhere, boss, kids, ways),
         _ => Ok(()),
     }
 }

@@ -6,7 +6,7 @@ use Rattle.dsde_routes_wiring.specs.declared.wiring.WiredKid.{WiredKid}
 use Rattle.dsde_routes_wiring.specs.declared.wiring.WiredKid.TheViews.{out-Wiring}
 use Rattle.dsde_routes_wiring.specs.Sets.{Rows}
 use Rattle.dsde_routes_wiring.specs.Flatten.{flow_of_kid}
-use Rattle.dsde_routes.specs.Passing.{from_parts, ways_got, passing, rows_by}
+use Rattle.dsde_routes.specs.Passing.{come_of, from_parts, passing, rows_by}
 use Rattle.dsde_routes.specs.Putting.{put_all, rows_to_kid, rows_to_kids}
 use Rattle.dsde_routes.specs.Sending.{Sends}
 use Rattle.dsde_routes.proofs.Flows.{net-rows, put-append, kids-more, kids-done}
@@ -16,7 +16,7 @@ use Rattle.dsde_routes.proofs.flowing.+flowing.Goals as goal
 pub put_beneath-returns-clause-rows : goal.put_beneath-returns-clause-rows
 put_beneath-returns-clause-rows g t c =
     let net = c.args.net.now in
-    let come = ways_got c.args.root c.args.got.now in
+    let come = come_of c.args.come in
     let boss = (out-Wiring net).boss in
     let from = from_parts come boss c.in_ok-kids.kids in
     ok-map c.put_rows.result _ _
