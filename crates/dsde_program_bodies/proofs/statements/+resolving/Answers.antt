@@ -1,31 +1,34 @@
 -- A statement or an arm lays what its parts lay.
-use Rattle.std.proofs.Common.{◌≡◌, IfOk, OnOk, sym, ap, subst, ◌∙◌, arith, rules}
+use Rattle.std.proofs.Common.{◌≡◌, List, Option, Some, IfOk, OnOk, sym, ap, subst, ◌∙◌, arith}
+use Rattle.dsde_syntax.specs.declared.stmt.Stmt.{Stmt}
+use Rattle.dsde_syntax.specs.declared.stmt.Stmt.TheVariants as stmt
+use Rattle.dsde_syntax.specs.declared.stmt.StmtArm.{StmtArm}
 use Rattle.dsde_language.specs.declared.act.Act.{Act}
-use Rattle.dsde_language.specs.declared.act.ActArm.{ActArm}
-use Rattle.dsde_program_expressions.specs.given.program_layout.LayPieces.{LaidPiece, Step}
+use Rattle.dsde_program_expressions.specs.given.program_layout.LayPieces.{Step}
 use Rattle.dsde_program_expressions.specs.given.program_layout.LayStatements.{lay_stmt}
-use Rattle.dsde_program_bodies.specs.Parts.{lay_arm}
+use Rattle.dsde_program_bodies.specs.Parts.{lay_arm, lay_for}
+use Rattle.dsde_program_bodies.proofs.Branches.{arm_own, arm_tables, arm_seen, some_own, some_tables, some_seen, none_own, none_tables, none_seen}
 use Rattle.dsde_program_bodies.proofs.Loops.{kept_on, next_own, next_tables, next_scope}
-use Rattle.dsde_program_bodies.proofs.Opened.{arm_opened, stmt_for, stmt_let, stmt_send, stmt_set}
+use Rattle.dsde_program_bodies.proofs.Opened.{stmt_for, stmt_let, stmt_send, stmt_set}
 use Rattle.dsde_program_bodies.proofs.statements.+resolving.Goals as goal
 
 pub stmt-returns-in-For-clause-own : goal.stmt-returns-in-For-clause-own
 stmt-returns-in-For-clause-own t c =
     subst (λ (step : Step Act). IfOk c.for_of.result (λ own. own ≡ (step c.args.scope.now c.args.tables.now).own))
     (sym (ap (lay_stmt c.args.resolver.now c.args.outs.now) c.in-For.is ∙ stmt_for c.args.resolver.now c.args.outs.now c.in-For.name c.in-For.list c.in-For.body))
-    (search rules)
+    (subst (λ (l : List Stmt). IfOk c.for_of.result (λ own. own ≡ (lay_for c.args.resolver.now c.args.outs.now c.in-For.name c.in-For.list l c.args.scope.now c.args.tables.now).own)) c.as_slice-in-For.ensures c.for_of.ensures.own)
 
 pub stmt-returns-in-For-clause-tables : goal.stmt-returns-in-For-clause-tables
 stmt-returns-in-For-clause-tables t c =
     subst (λ (step : Step Act). OnOk c.for_of.result (c.for_of.new.tables ≡ (step c.args.scope.now c.args.tables.now).tables))
     (sym (ap (lay_stmt c.args.resolver.now c.args.outs.now) c.in-For.is ∙ stmt_for c.args.resolver.now c.args.outs.now c.in-For.name c.in-For.list c.in-For.body))
-    (search rules)
+    (subst (λ (l : List Stmt). OnOk c.for_of.result (c.for_of.new.tables ≡ (lay_for c.args.resolver.now c.args.outs.now c.in-For.name c.in-For.list l c.args.scope.now c.args.tables.now).tables)) c.as_slice-in-For.ensures c.for_of.ensures.tables)
 
 pub stmt-returns-in-For-clause-scope : goal.stmt-returns-in-For-clause-scope
 stmt-returns-in-For-clause-scope t c =
     subst (λ (step : Step Act). OnOk c.for_of.result (c.for_of.new.scope ≡ (step c.args.scope.now c.args.tables.now).scope))
     (sym (ap (lay_stmt c.args.resolver.now c.args.outs.now) c.in-For.is ∙ stmt_for c.args.resolver.now c.args.outs.now c.in-For.name c.in-For.list c.in-For.body))
-    (search rules)
+    (subst (λ (l : List Stmt). OnOk c.for_of.result (c.for_of.new.scope ≡ (lay_for c.args.resolver.now c.args.outs.now c.in-For.name c.in-For.list l c.args.scope.now c.args.tables.now).scope)) c.as_slice-in-For.ensures c.for_of.ensures.scope)
 
 pub stmt-returns-in-Let-clause-own : goal.stmt-returns-in-Let-clause-own
 stmt-returns-in-Let-clause-own t c =
@@ -83,16 +86,18 @@ stmt-returns-in-Send-clause-scope t c =
 
 pub lay_arm-returns-clause-own : goal.lay_arm-returns-clause-own
 lay_arm-returns-clause-own t c =
-    let own : ActArm = record { cond = c.in_ok-cond.cond; then = c.in_ok-then.then } in
-    subst (λ (one : LaidPiece ActArm). own ≡ one.own) (sym (arm_opened c.args.resolver.now c.args.outs.now c.args.arm.now c.args.scope.now c.args.tables.now)) (search rules)
+    arm_own c.args.resolver.now c.args.outs.now c.args.arm.now c.as_slice.result.now c.args.scope.now c.number_of.new.scope c.args.tables.now c.number_of.new.tables c.as_slice.ensures c.in_ok-cond.ensures.scope c.in_ok-cond.ensures.tables
+    c.in_ok-cond.cond c.in_ok-then.then c.in_ok-cond.ensures.number c.in_ok-then.ensures.own
 
 pub lay_arm-returns-clause-tables : goal.lay_arm-returns-clause-tables
 lay_arm-returns-clause-tables t c =
-    subst (λ (one : LaidPiece ActArm). c.block.new.tables ≡ one.tables) (sym (arm_opened c.args.resolver.now c.args.outs.now c.args.arm.now c.args.scope.now c.args.tables.now)) (search rules)
+    arm_tables c.args.resolver.now c.args.outs.now c.args.arm.now c.as_slice.result.now c.args.scope.now c.number_of.new.scope c.args.tables.now c.number_of.new.tables c.as_slice.ensures c.in_ok-cond.ensures.scope c.in_ok-cond.ensures.tables
+    c.block.new.tables c.in_ok-then.ensures.tables
 
 pub lay_arm-returns-clause-scope : goal.lay_arm-returns-clause-scope
 lay_arm-returns-clause-scope t c =
-    subst (λ (one : LaidPiece ActArm). c.block.new.scope ≡ one.scope) (sym (arm_opened c.args.resolver.now c.args.outs.now c.args.arm.now c.args.scope.now c.args.tables.now)) (search rules)
+    arm_seen c.args.resolver.now c.args.outs.now c.args.arm.now c.as_slice.result.now c.args.scope.now c.number_of.new.scope c.args.tables.now c.number_of.new.tables c.as_slice.ensures c.in_ok-cond.ensures.scope c.in_ok-cond.ensures.tables
+    c.block.new.scope c.in_ok-then.ensures.kept
 
 pub stmts-loop-each-preserved : goal.stmts-loop-each-preserved
 stmts-loop-each-preserved t c = (
@@ -111,3 +116,33 @@ lay_arms-loop-arm-preserved t c = (
   omega (arith, c.loop-arm.invariant.3, c.in_ok-lay_arm.ensures.grows),
   c.in_ok-lay_arm.ensures.kept ∙ c.loop-arm.invariant.4,
 )
+
+pub stmt-returns-in_ok-last-in-Some-clause-own : goal.stmt-returns-in_ok-last-in-Some-clause-own
+stmt-returns-in_ok-last-in-Some-clause-own t c =
+    some_own c.args.resolver.now c.args.outs.now c.args.stmt.now c.as_slice.result.now c.args.scope.now c.lay_arms.new.scope c.args.tables.now c.lay_arms.new.tables c.in_ok-own-in-If.own c.in_ok-own-in-If.ensures.own c.in_ok-own-in-If.ensures.scope c.in_ok-own-in-If.ensures.tables c.as_slice-in-Some.result.now
+    (c.in-If.is ∙ ap (λ (l : List StmtArm). stmt.If l c.in-If.other) (sym c.as_slice.ensures) ∙ ap (λ (o : Option (List Stmt)). stmt.If c.as_slice.result.now o) (c.in-Some.is ∙ ap Some (sym c.as_slice-in-Some.ensures))) c.in_ok-last-in-Some.last c.in_ok-last-in-Some.ensures.own
+
+pub stmt-returns-in_ok-last-in-Some-clause-tables : goal.stmt-returns-in_ok-last-in-Some-clause-tables
+stmt-returns-in_ok-last-in-Some-clause-tables t c =
+    some_tables c.args.resolver.now c.args.outs.now c.args.stmt.now c.as_slice.result.now c.args.scope.now c.lay_arms.new.scope c.args.tables.now c.lay_arms.new.tables c.in_ok-own-in-If.own c.in_ok-own-in-If.ensures.own c.in_ok-own-in-If.ensures.scope c.in_ok-own-in-If.ensures.tables c.as_slice-in-Some.result.now
+    (c.in-If.is ∙ ap (λ (l : List StmtArm). stmt.If l c.in-If.other) (sym c.as_slice.ensures) ∙ ap (λ (o : Option (List Stmt)). stmt.If c.as_slice.result.now o) (c.in-Some.is ∙ ap Some (sym c.as_slice-in-Some.ensures))) c.block.new.tables c.in_ok-last-in-Some.ensures.tables
+
+pub stmt-returns-in_ok-last-in-Some-clause-scope : goal.stmt-returns-in_ok-last-in-Some-clause-scope
+stmt-returns-in_ok-last-in-Some-clause-scope t c =
+    some_seen c.args.resolver.now c.args.outs.now c.args.stmt.now c.as_slice.result.now c.args.scope.now c.lay_arms.new.scope c.args.tables.now c.lay_arms.new.tables c.in_ok-own-in-If.own c.in_ok-own-in-If.ensures.own c.in_ok-own-in-If.ensures.scope c.in_ok-own-in-If.ensures.tables c.as_slice-in-Some.result.now
+    (c.in-If.is ∙ ap (λ (l : List StmtArm). stmt.If l c.in-If.other) (sym c.as_slice.ensures) ∙ ap (λ (o : Option (List Stmt)). stmt.If c.as_slice.result.now o) (c.in-Some.is ∙ ap Some (sym c.as_slice-in-Some.ensures))) c.block.new.scope c.in_ok-last-in-Some.ensures.kept
+
+pub stmt-returns-in-None-clause-own : goal.stmt-returns-in-None-clause-own
+stmt-returns-in-None-clause-own t c =
+    none_own c.args.resolver.now c.args.outs.now c.args.stmt.now c.as_slice.result.now c.args.scope.now c.lay_arms.new.scope c.args.tables.now c.lay_arms.new.tables c.in_ok-own-in-If.own c.in_ok-own-in-If.ensures.own c.in_ok-own-in-If.ensures.scope c.in_ok-own-in-If.ensures.tables
+    (c.in-If.is ∙ ap (λ (l : List StmtArm). stmt.If l c.in-If.other) (sym c.as_slice.ensures) ∙ ap (λ (o : Option (List Stmt)). stmt.If c.as_slice.result.now o) c.in-None.is)
+
+pub stmt-returns-in-None-clause-tables : goal.stmt-returns-in-None-clause-tables
+stmt-returns-in-None-clause-tables t c =
+    none_tables c.args.resolver.now c.args.outs.now c.args.stmt.now c.as_slice.result.now c.args.scope.now c.lay_arms.new.scope c.args.tables.now c.lay_arms.new.tables c.in_ok-own-in-If.own c.in_ok-own-in-If.ensures.own c.in_ok-own-in-If.ensures.scope c.in_ok-own-in-If.ensures.tables
+    (c.in-If.is ∙ ap (λ (l : List StmtArm). stmt.If l c.in-If.other) (sym c.as_slice.ensures) ∙ ap (λ (o : Option (List Stmt)). stmt.If c.as_slice.result.now o) c.in-None.is)
+
+pub stmt-returns-in-None-clause-scope : goal.stmt-returns-in-None-clause-scope
+stmt-returns-in-None-clause-scope t c =
+    none_seen c.args.resolver.now c.args.outs.now c.args.stmt.now c.as_slice.result.now c.args.scope.now c.lay_arms.new.scope c.args.tables.now c.lay_arms.new.tables c.in_ok-own-in-If.own c.in_ok-own-in-If.ensures.own c.in_ok-own-in-If.ensures.scope c.in_ok-own-in-If.ensures.tables
+    (c.in-If.is ∙ ap (λ (l : List StmtArm). stmt.If l c.in-If.other) (sym c.as_slice.ensures) ∙ ap (λ (o : Option (List Stmt)). stmt.If c.as_slice.result.now o) c.in-None.is)
