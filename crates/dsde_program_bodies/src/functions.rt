@@ -1,7 +1,8 @@
 //! Functions.
 
 ghost use Rattle.std.specs.Prelude.{◌≡◌, ◌≤◌, [], length, IfOk, OnOk};
-ghost use Rattle.dsde_program_expressions.specs.given.program_layout.LayStatements.{lay_func, lay_stmts};
+ghost use Rattle.dsde_program_expressions.specs.given.program_layout.LayStatements.{func_parts, lay_func, lay_stmts};
+ghost use Rattle.dsde_program_expressions.specs.given.program_layout.LayPieces.{put, roomy};
 
 use crate::rooms::{close, open};
 use crate::statements;
@@ -27,9 +28,23 @@ pub fn func<'m>(
     ensures tables { OnOk result (tables.new ≡ (lay_func resolver.now params.now stmts.now value.now [] tables.old).tables) }
 {
     let mut scope = params_scope(resolver.alloc(), resolver.known(), params)?;
+    braces(resolver, stmts, value, &mut scope, tables)
+}
+
+/// Lays what stands in the braces of a function, over its parameters.
+fn braces<'m>(
+    resolver: &Resolver<'m>,
+    stmts: &'m [Stmt],
+    value: &'m Expr,
+    scope: &mut Names<Member<'m>>,
+    tables: &mut Tables,
+) -> Result<FnCode, Memory>
+    ensures own { IfOk result (λ code. code ≡ record { block = record { 0 = length tables.old.blocks }; value = (func_parts resolver.now stmts.now value.now scope.old (roomy tables.old)).own.value }) }
+    ensures tables { OnOk result (tables.new ≡ put (func_parts resolver.now stmts.now value.now scope.old (roomy tables.old)).tables (length tables.old.blocks) (func_parts resolver.now stmts.now value.now scope.old (roomy tables.old)).own.acts) }
+{
     let block = open(resolver.alloc(), tables)?;
-    let acts = acts_of(resolver, stmts, &mut scope, tables)?;
-    let value = number_of(resolver, value, &mut scope, tables)?;
+    let acts = acts_of(resolver, stmts, scope, tables)?;
+    let value = number_of(resolver, value, scope, tables)?;
     close(tables, block, acts);
     Ok(FnCode { block, value })
 }
