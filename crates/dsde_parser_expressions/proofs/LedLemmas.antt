@@ -5,6 +5,7 @@ use Rattle.dsde_syntax.specs.declared.token.Tok.{Tok}
 use Rattle.dsde_syntax.specs.Grammar.{Tokens}
 use Rattle.dsde_parser_grammar.specs.Steps.{Wants, behind, stop}
 use Rattle.dsde_parser_expressions.specs.declared.parser.ParseError.{ParseError}
+use Rattle.dsde_parser_expressions.specs.declared.parser.ParseError.TheVariants as parse_error
 use Rattle.dsde_parser_expressions.specs.Took.{Spot, TookOne}
 use Rattle.dsde_parser_expressions.specs.Follows.{stop_at, StopsBy, Leads, Led}
 
@@ -40,3 +41,8 @@ refuses from to before after (Ok value) error h stops = cc
 refuses from to before after (Err own) error h stops =
     let same : own ≡ error = cc in
     λ s. subst (λ (e : ParseError). StopsBy e (stop_at (from ++ s) before)) (sym same) (stops s)
+
+-- what leads on, where a result is refused for want of memory alone
+pub boxed-leads : {A : Type 0} (from to : Wants) (before after : Spot) (result : Result A ParseError) → IfErr result (λ error. error ≡ parse_error.Memory) → Led from to before after → Leads from to before result after
+boxed-leads from to before after (Ok value) memory led = led
+boxed-leads from to before after (Err error) memory led = λ s. subst (λ (e : ParseError). StopsBy e (stop_at (from ++ s) before)) (sym memory) tt

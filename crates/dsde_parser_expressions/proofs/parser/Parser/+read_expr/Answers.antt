@@ -7,8 +7,8 @@ use Rattle.std.proofs.Common.{rules, refl, sym, ◌∙◌, [], ◌∷◌, ◌++�
 use Rattle.dsde_words.specs.declared.key.Key.TheVariants as key
 use Rattle.dsde_syntax.specs.declared.token.Sign.TheVariants as sign
 use Rattle.dsde_parser_grammar.specs.Want as want
-use Rattle.dsde_parser_grammar.specs.Steps.{expr_wants, post_wants, cmp_wants, args, exprs, braced_expr, choice_rest, neg_wants, not_wants, angles, field_set}
-use Rattle.dsde_parser_expressions.proofs.LedLemmas.{leads-from, leads-behind}
+use Rattle.dsde_parser_grammar.specs.Steps.{expr_wants, post_wants, cmp_wants, and_wants, mul_wants, args, exprs, braced_expr, choice_rest, neg_wants, not_wants, angles, field_set}
+use Rattle.dsde_parser_expressions.proofs.LedLemmas.{leads-from, leads-behind, boxed-leads}
 use Rattle.dsde_parser_expressions.proofs.StepLemmas.{expr-levels, fallback-none, minus-none, negation-none, suffixes-more, suffix-field, suffix-index, suffix-unwrap, prim-named, prim-paren, prim-record, prim-none_of, prim-empty_of, prim-choice, prim-each, prim-row, after_name-args, args-some, else-last, no-if, exprs-else}
 use Rattle.dsde_parser_expressions.proofs.PartLemmas.{one, own, ◌⨟◌, read}
 use Rattle.dsde_parser_expressions.proofs.LayerLemmas.{fallback-Took, negation-Took, compare-Took, minus-Took, paren-Took, name-Took, variant-Took, each-Took, index-Took, field_set-Took, arm-Took}
@@ -287,3 +287,103 @@ pub in_braces-returns-clause-took : goal.in_braces-returns-clause-took
 in_braces-returns-clause-took t c =
     let inner = c.in_ok-inner.ensures.took in
     read (one c.in_ok-sign.ensures.took ⨟ own inner ⨟ one c.in_ok-sign-2.ensures.took) refl refl inner.good
+
+pub each-returns-clause-same : goal.each-returns-clause-same
+each-returns-clause-same t c =
+    boxed-leads (want.mark sign.OpenBracket ∷ want.word key.For ∷ want.name ∷ want.word key.In ∷ want.expr ∷ want.test ∷ want.mark sign.Colon ∷ want.expr ∷ want.mark sign.CloseBracket ∷ []) [] c.args.self.now c.sign-3.new.self _ c.boxed.ensures.memory (λ s. c.in_ok-at.ensures.same (want.word key.For ∷ want.name ∷ want.word key.In ∷ want.expr ∷ want.test ∷ want.mark sign.Colon ∷ want.expr ∷ want.mark sign.CloseBracket ∷ s) ∙ c.in_ok-key.ensures.same (want.name ∷ want.word key.In ∷ want.expr ∷ want.test ∷ want.mark sign.Colon ∷ want.expr ∷ want.mark sign.CloseBracket ∷ s) ∙ c.in_ok-name.ensures.same (want.word key.In ∷ want.expr ∷ want.test ∷ want.mark sign.Colon ∷ want.expr ∷ want.mark sign.CloseBracket ∷ s) ∙ c.in_ok-key-2.ensures.same (want.expr ∷ want.test ∷ want.mark sign.Colon ∷ want.expr ∷ want.mark sign.CloseBracket ∷ s) ∙ c.in_ok-list.ensures.same (want.test ∷ want.mark sign.Colon ∷ want.expr ∷ want.mark sign.CloseBracket ∷ s) ∙ c.in_ok-cond.ensures.same (want.mark sign.Colon ∷ want.expr ∷ want.mark sign.CloseBracket ∷ s) ∙ c.in_ok-sign.ensures.same (want.expr ∷ want.mark sign.CloseBracket ∷ s) ∙ c.in_ok-value.ensures.same (want.mark sign.CloseBracket ∷ s) ∙ c.in_ok-sign-2.ensures.same s)
+
+pub each-returns-in_err-name-clause-same : goal.each-returns-in_err-name-clause-same
+each-returns-in_err-name-clause-same t c =
+    leads-behind (want.mark sign.OpenBracket ∷ want.word key.For ∷ want.name ∷ want.word key.In ∷ want.expr ∷ want.test ∷ want.mark sign.Colon ∷ want.expr ∷ want.mark sign.CloseBracket ∷ []) (want.name ∷ want.word key.In ∷ want.expr ∷ want.test ∷ want.mark sign.Colon ∷ want.expr ∷ want.mark sign.CloseBracket ∷ []) [] c.args.self.now c.key.new.self c.name.new.self _ (λ s. c.in_ok-at.ensures.same (want.word key.For ∷ want.name ∷ want.word key.In ∷ want.expr ∷ want.test ∷ want.mark sign.Colon ∷ want.expr ∷ want.mark sign.CloseBracket ∷ s) ∙ c.in_ok-key.ensures.same (want.name ∷ want.word key.In ∷ want.expr ∷ want.test ∷ want.mark sign.Colon ∷ want.expr ∷ want.mark sign.CloseBracket ∷ s)) (search rules)
+
+pub each-returns-in_err-key-2-clause-same : goal.each-returns-in_err-key-2-clause-same
+each-returns-in_err-key-2-clause-same t c =
+    leads-behind (want.mark sign.OpenBracket ∷ want.word key.For ∷ want.name ∷ want.word key.In ∷ want.expr ∷ want.test ∷ want.mark sign.Colon ∷ want.expr ∷ want.mark sign.CloseBracket ∷ []) (want.word key.In ∷ want.expr ∷ want.test ∷ want.mark sign.Colon ∷ want.expr ∷ want.mark sign.CloseBracket ∷ []) [] c.args.self.now c.name.new.self c.key-2.new.self _ (λ s. c.in_ok-at.ensures.same (want.word key.For ∷ want.name ∷ want.word key.In ∷ want.expr ∷ want.test ∷ want.mark sign.Colon ∷ want.expr ∷ want.mark sign.CloseBracket ∷ s) ∙ c.in_ok-key.ensures.same (want.name ∷ want.word key.In ∷ want.expr ∷ want.test ∷ want.mark sign.Colon ∷ want.expr ∷ want.mark sign.CloseBracket ∷ s) ∙ c.in_ok-name.ensures.same (want.word key.In ∷ want.expr ∷ want.test ∷ want.mark sign.Colon ∷ want.expr ∷ want.mark sign.CloseBracket ∷ s)) (search rules)
+
+pub each-returns-in_err-list-clause-same : goal.each-returns-in_err-list-clause-same
+each-returns-in_err-list-clause-same t c =
+    leads-behind (want.mark sign.OpenBracket ∷ want.word key.For ∷ want.name ∷ want.word key.In ∷ want.expr ∷ want.test ∷ want.mark sign.Colon ∷ want.expr ∷ want.mark sign.CloseBracket ∷ []) (want.expr ∷ want.test ∷ want.mark sign.Colon ∷ want.expr ∷ want.mark sign.CloseBracket ∷ []) [] c.args.self.now c.key-2.new.self c.expr.new.self _ (λ s. c.in_ok-at.ensures.same (want.word key.For ∷ want.name ∷ want.word key.In ∷ want.expr ∷ want.test ∷ want.mark sign.Colon ∷ want.expr ∷ want.mark sign.CloseBracket ∷ s) ∙ c.in_ok-key.ensures.same (want.name ∷ want.word key.In ∷ want.expr ∷ want.test ∷ want.mark sign.Colon ∷ want.expr ∷ want.mark sign.CloseBracket ∷ s) ∙ c.in_ok-name.ensures.same (want.word key.In ∷ want.expr ∷ want.test ∷ want.mark sign.Colon ∷ want.expr ∷ want.mark sign.CloseBracket ∷ s) ∙ c.in_ok-key-2.ensures.same (want.expr ∷ want.test ∷ want.mark sign.Colon ∷ want.expr ∷ want.mark sign.CloseBracket ∷ s)) (search rules)
+
+pub each-returns-in_err-cond-clause-same : goal.each-returns-in_err-cond-clause-same
+each-returns-in_err-cond-clause-same t c =
+    leads-behind (want.mark sign.OpenBracket ∷ want.word key.For ∷ want.name ∷ want.word key.In ∷ want.expr ∷ want.test ∷ want.mark sign.Colon ∷ want.expr ∷ want.mark sign.CloseBracket ∷ []) (want.test ∷ want.mark sign.Colon ∷ want.expr ∷ want.mark sign.CloseBracket ∷ []) [] c.args.self.now c.expr.new.self c.each_test.new.self _ (λ s. c.in_ok-at.ensures.same (want.word key.For ∷ want.name ∷ want.word key.In ∷ want.expr ∷ want.test ∷ want.mark sign.Colon ∷ want.expr ∷ want.mark sign.CloseBracket ∷ s) ∙ c.in_ok-key.ensures.same (want.name ∷ want.word key.In ∷ want.expr ∷ want.test ∷ want.mark sign.Colon ∷ want.expr ∷ want.mark sign.CloseBracket ∷ s) ∙ c.in_ok-name.ensures.same (want.word key.In ∷ want.expr ∷ want.test ∷ want.mark sign.Colon ∷ want.expr ∷ want.mark sign.CloseBracket ∷ s) ∙ c.in_ok-key-2.ensures.same (want.expr ∷ want.test ∷ want.mark sign.Colon ∷ want.expr ∷ want.mark sign.CloseBracket ∷ s) ∙ c.in_ok-list.ensures.same (want.test ∷ want.mark sign.Colon ∷ want.expr ∷ want.mark sign.CloseBracket ∷ s)) (search rules)
+
+pub each-returns-in_err-sign-clause-same : goal.each-returns-in_err-sign-clause-same
+each-returns-in_err-sign-clause-same t c =
+    leads-behind (want.mark sign.OpenBracket ∷ want.word key.For ∷ want.name ∷ want.word key.In ∷ want.expr ∷ want.test ∷ want.mark sign.Colon ∷ want.expr ∷ want.mark sign.CloseBracket ∷ []) (want.mark sign.Colon ∷ want.expr ∷ want.mark sign.CloseBracket ∷ []) [] c.args.self.now c.each_test.new.self c.sign-2.new.self _ (λ s. c.in_ok-at.ensures.same (want.word key.For ∷ want.name ∷ want.word key.In ∷ want.expr ∷ want.test ∷ want.mark sign.Colon ∷ want.expr ∷ want.mark sign.CloseBracket ∷ s) ∙ c.in_ok-key.ensures.same (want.name ∷ want.word key.In ∷ want.expr ∷ want.test ∷ want.mark sign.Colon ∷ want.expr ∷ want.mark sign.CloseBracket ∷ s) ∙ c.in_ok-name.ensures.same (want.word key.In ∷ want.expr ∷ want.test ∷ want.mark sign.Colon ∷ want.expr ∷ want.mark sign.CloseBracket ∷ s) ∙ c.in_ok-key-2.ensures.same (want.expr ∷ want.test ∷ want.mark sign.Colon ∷ want.expr ∷ want.mark sign.CloseBracket ∷ s) ∙ c.in_ok-list.ensures.same (want.test ∷ want.mark sign.Colon ∷ want.expr ∷ want.mark sign.CloseBracket ∷ s) ∙ c.in_ok-cond.ensures.same (want.mark sign.Colon ∷ want.expr ∷ want.mark sign.CloseBracket ∷ s)) (search rules)
+
+pub each-returns-in_err-value-clause-same : goal.each-returns-in_err-value-clause-same
+each-returns-in_err-value-clause-same t c =
+    leads-behind (want.mark sign.OpenBracket ∷ want.word key.For ∷ want.name ∷ want.word key.In ∷ want.expr ∷ want.test ∷ want.mark sign.Colon ∷ want.expr ∷ want.mark sign.CloseBracket ∷ []) (want.expr ∷ want.mark sign.CloseBracket ∷ []) [] c.args.self.now c.sign-2.new.self c.expr-2.new.self _ (λ s. c.in_ok-at.ensures.same (want.word key.For ∷ want.name ∷ want.word key.In ∷ want.expr ∷ want.test ∷ want.mark sign.Colon ∷ want.expr ∷ want.mark sign.CloseBracket ∷ s) ∙ c.in_ok-key.ensures.same (want.name ∷ want.word key.In ∷ want.expr ∷ want.test ∷ want.mark sign.Colon ∷ want.expr ∷ want.mark sign.CloseBracket ∷ s) ∙ c.in_ok-name.ensures.same (want.word key.In ∷ want.expr ∷ want.test ∷ want.mark sign.Colon ∷ want.expr ∷ want.mark sign.CloseBracket ∷ s) ∙ c.in_ok-key-2.ensures.same (want.expr ∷ want.test ∷ want.mark sign.Colon ∷ want.expr ∷ want.mark sign.CloseBracket ∷ s) ∙ c.in_ok-list.ensures.same (want.test ∷ want.mark sign.Colon ∷ want.expr ∷ want.mark sign.CloseBracket ∷ s) ∙ c.in_ok-cond.ensures.same (want.mark sign.Colon ∷ want.expr ∷ want.mark sign.CloseBracket ∷ s) ∙ c.in_ok-sign.ensures.same (want.expr ∷ want.mark sign.CloseBracket ∷ s)) (search rules)
+
+pub each-returns-in_err-sign-2-clause-same : goal.each-returns-in_err-sign-2-clause-same
+each-returns-in_err-sign-2-clause-same t c =
+    leads-behind (want.mark sign.OpenBracket ∷ want.word key.For ∷ want.name ∷ want.word key.In ∷ want.expr ∷ want.test ∷ want.mark sign.Colon ∷ want.expr ∷ want.mark sign.CloseBracket ∷ []) (want.mark sign.CloseBracket ∷ []) [] c.args.self.now c.expr-2.new.self c.sign-3.new.self _ (λ s. c.in_ok-at.ensures.same (want.word key.For ∷ want.name ∷ want.word key.In ∷ want.expr ∷ want.test ∷ want.mark sign.Colon ∷ want.expr ∷ want.mark sign.CloseBracket ∷ s) ∙ c.in_ok-key.ensures.same (want.name ∷ want.word key.In ∷ want.expr ∷ want.test ∷ want.mark sign.Colon ∷ want.expr ∷ want.mark sign.CloseBracket ∷ s) ∙ c.in_ok-name.ensures.same (want.word key.In ∷ want.expr ∷ want.test ∷ want.mark sign.Colon ∷ want.expr ∷ want.mark sign.CloseBracket ∷ s) ∙ c.in_ok-key-2.ensures.same (want.expr ∷ want.test ∷ want.mark sign.Colon ∷ want.expr ∷ want.mark sign.CloseBracket ∷ s) ∙ c.in_ok-list.ensures.same (want.test ∷ want.mark sign.Colon ∷ want.expr ∷ want.mark sign.CloseBracket ∷ s) ∙ c.in_ok-cond.ensures.same (want.mark sign.Colon ∷ want.expr ∷ want.mark sign.CloseBracket ∷ s) ∙ c.in_ok-sign.ensures.same (want.expr ∷ want.mark sign.CloseBracket ∷ s) ∙ c.in_ok-value.ensures.same (want.mark sign.CloseBracket ∷ s)) (search rules)
+
+pub paren-returns-clause-same : goal.paren-returns-clause-same
+paren-returns-clause-same t c =
+    boxed-leads (want.mark sign.OpenParen ∷ want.expr ∷ want.mark sign.CloseParen ∷ []) [] c.args.self.now c.sign-2.new.self _ c.boxed.ensures.memory (λ s. c.in_ok-at.ensures.same (want.expr ∷ want.mark sign.CloseParen ∷ s) ∙ c.in_ok-inner.ensures.same (want.mark sign.CloseParen ∷ s) ∙ c.in_ok-sign.ensures.same s)
+
+pub paren-returns-in_err-sign-clause-same : goal.paren-returns-in_err-sign-clause-same
+paren-returns-in_err-sign-clause-same t c =
+    leads-behind (want.mark sign.OpenParen ∷ want.expr ∷ want.mark sign.CloseParen ∷ []) (want.mark sign.CloseParen ∷ []) [] c.args.self.now c.expr.new.self c.sign-2.new.self _ (λ s. c.in_ok-at.ensures.same (want.expr ∷ want.mark sign.CloseParen ∷ s) ∙ c.in_ok-inner.ensures.same (want.mark sign.CloseParen ∷ s)) (search rules)
+
+pub row-returns-clause-same : goal.row-returns-clause-same
+row-returns-clause-same t c =
+    boxed-leads (want.mark sign.OpenBracket ∷ (exprs ++ want.mark sign.CloseBracket ∷ [])) [] c.args.self.now c.sign-2.new.self _ c.boxed.ensures.memory (λ s. c.in_ok-at.ensures.same (exprs ++ want.mark sign.CloseBracket ∷ s) ∙ c.in_ok-items.ensures.same (want.mark sign.CloseBracket ∷ s) ∙ c.in_ok-sign.ensures.same s)
+
+pub row-returns-in_err-sign-clause-same : goal.row-returns-in_err-sign-clause-same
+row-returns-in_err-sign-clause-same t c =
+    leads-behind (want.mark sign.OpenBracket ∷ (exprs ++ want.mark sign.CloseBracket ∷ [])) (want.mark sign.CloseBracket ∷ []) [] c.args.self.now c.exprs.new.self c.sign-2.new.self _ (λ s. c.in_ok-at.ensures.same (exprs ++ want.mark sign.CloseBracket ∷ s) ∙ c.in_ok-items.ensures.same (want.mark sign.CloseBracket ∷ s)) (search rules)
+
+pub new_record-returns-clause-same : goal.new_record-returns-clause-same
+new_record-returns-clause-same t c =
+    boxed-leads (want.word key.New ∷ want.name ∷ want.mark sign.OpenBrace ∷ (field_set ++ want.more_fields ∷ want.mark sign.CloseBrace ∷ [])) [] c.args.self.now c.field_sets.new.self _ c.boxed.ensures.memory (λ s. c.in_ok-at.ensures.same (want.name ∷ want.mark sign.OpenBrace ∷ (field_set ++ want.more_fields ∷ want.mark sign.CloseBrace ∷ s)) ∙ c.in_ok-of.ensures.same (want.mark sign.OpenBrace ∷ (field_set ++ want.more_fields ∷ want.mark sign.CloseBrace ∷ s)) ∙ c.in_ok-fields.ensures.same s)
+
+pub new_record-returns-in_err-fields-clause-same : goal.new_record-returns-in_err-fields-clause-same
+new_record-returns-in_err-fields-clause-same t c =
+    leads-behind (want.word key.New ∷ want.name ∷ want.mark sign.OpenBrace ∷ (field_set ++ want.more_fields ∷ want.mark sign.CloseBrace ∷ [])) (want.mark sign.OpenBrace ∷ (field_set ++ want.more_fields ∷ want.mark sign.CloseBrace ∷ [])) [] c.args.self.now c.name.new.self c.field_sets.new.self _ (λ s. c.in_ok-at.ensures.same (want.name ∷ want.mark sign.OpenBrace ∷ (field_set ++ want.more_fields ∷ want.mark sign.CloseBrace ∷ s)) ∙ c.in_ok-of.ensures.same (want.mark sign.OpenBrace ∷ (field_set ++ want.more_fields ∷ want.mark sign.CloseBrace ∷ s))) (search rules)
+
+pub or-returns-clause-same : goal.or-returns-clause-same
+or-returns-clause-same t c =
+    boxed-leads (and_wants ++ want.disjuncts ∷ []) [] c.args.self.now c.or_tails.new.self _ c.boxed.ensures.memory (λ s. c.in_ok-first.ensures.same (want.disjuncts ∷ s) ∙ c.in_ok-rest.ensures.same s)
+
+pub or-returns-in_err-rest-clause-same : goal.or-returns-in_err-rest-clause-same
+or-returns-in_err-rest-clause-same t c =
+    leads-behind (and_wants ++ want.disjuncts ∷ []) (want.disjuncts ∷ []) [] c.args.self.now c.and.new.self c.or_tails.new.self _ (λ s. c.in_ok-first.ensures.same (want.disjuncts ∷ s)) (search rules)
+
+pub and-returns-clause-same : goal.and-returns-clause-same
+and-returns-clause-same t c =
+    boxed-leads (not_wants ++ want.conjuncts ∷ []) [] c.args.self.now c.and_tails.new.self _ c.boxed.ensures.memory (λ s. c.in_ok-first.ensures.same (want.conjuncts ∷ s) ∙ c.in_ok-rest.ensures.same s)
+
+pub and-returns-in_err-rest-clause-same : goal.and-returns-in_err-rest-clause-same
+and-returns-in_err-rest-clause-same t c =
+    leads-behind (not_wants ++ want.conjuncts ∷ []) (want.conjuncts ∷ []) [] c.args.self.now c.not.new.self c.and_tails.new.self _ (λ s. c.in_ok-first.ensures.same (want.conjuncts ∷ s)) (search rules)
+
+pub sum-returns-clause-same : goal.sum-returns-clause-same
+sum-returns-clause-same t c =
+    boxed-leads (mul_wants ++ want.terms ∷ []) [] c.args.self.now c.sum_tails.new.self _ c.boxed.ensures.memory (λ s. c.in_ok-first.ensures.same (want.terms ∷ s) ∙ c.in_ok-rest.ensures.same s)
+
+pub sum-returns-in_err-rest-clause-same : goal.sum-returns-in_err-rest-clause-same
+sum-returns-in_err-rest-clause-same t c =
+    leads-behind (mul_wants ++ want.terms ∷ []) (want.terms ∷ []) [] c.args.self.now c.mul.new.self c.sum_tails.new.self _ (λ s. c.in_ok-first.ensures.same (want.terms ∷ s)) (search rules)
+
+pub mul-returns-clause-same : goal.mul-returns-clause-same
+mul-returns-clause-same t c =
+    boxed-leads (neg_wants ++ want.factors ∷ []) [] c.args.self.now c.mul_tails.new.self _ c.boxed.ensures.memory (λ s. c.in_ok-first.ensures.same (want.factors ∷ s) ∙ c.in_ok-rest.ensures.same s)
+
+pub mul-returns-in_err-rest-clause-same : goal.mul-returns-in_err-rest-clause-same
+mul-returns-in_err-rest-clause-same t c =
+    leads-behind (neg_wants ++ want.factors ∷ []) (want.factors ∷ []) [] c.args.self.now c.neg.new.self c.mul_tails.new.self _ (λ s. c.in_ok-first.ensures.same (want.factors ∷ s)) (search rules)
+
+pub post-returns-clause-same : goal.post-returns-clause-same
+post-returns-clause-same t c =
+    boxed-leads (want.prim ∷ want.suffixes ∷ []) [] c.args.self.now c.suffixes.new.self _ c.boxed.ensures.memory (λ s. c.in_ok-first.ensures.same (want.suffixes ∷ s) ∙ c.in_ok-suffixes.ensures.same s)
+
+pub post-returns-in_err-suffixes-clause-same : goal.post-returns-in_err-suffixes-clause-same
+post-returns-in_err-suffixes-clause-same t c =
+    leads-behind (want.prim ∷ want.suffixes ∷ []) (want.suffixes ∷ []) [] c.args.self.now c.prim.new.self c.suffixes.new.self _ (λ s. c.in_ok-first.ensures.same (want.suffixes ∷ s)) (search rules)
+
+pub choice-returns-clause-same : goal.choice-returns-clause-same
+choice-returns-clause-same t c =
+    boxed-leads (want.word key.If ∷ choice_rest) [] c.args.self.now c.in_braces.new.self _ c.boxed.ensures.memory (λ s. c.in_ok-arms.ensures.same s ∙ c.in_ok-key.ensures.same (want.else_rest ∷ s) ∙ else-last s c.key.new.self.0 c.key.new.self.1 (no-if c.in_ok-key.ensures.took c.in_ok-arms.ensures.ended) ∙ c.in_ok-other.ensures.same s)
