@@ -1,18 +1,12 @@
 -- Declarations and names that are gone through one by one.
-use Rattle.std.proofs.Common.{◌≡◌, ℕ, ◌+◌, ◌<◌, suc, List, ◌∷◌, length, get_or, drop, Result, Ok, Err, sym, subst, ap, ◌∙◌}
+use Rattle.std.proofs.Common.{◌≡◌, ℕ, ◌+◌, ◌<◌, List, ◌∷◌, length, get_or, drop, Result, Ok, Err, sym, subst, ap, ◌∙◌}
 use Rattle.std.specs.Result.{IsErr, IsErrAnd}
-use Rattle.std.proofs.Math.Seq.{drop-cons}
-use Rattle.std.proofs.Math.Numerals.{suc-eq-add-one}
 use Rattle.dsde_language.specs.declared.wrong.Wrong.{Wrong}
 use Rattle.dsde_language.specs.Steps.{◌>>=◌, Test}
+use Rattle.dsde_language.specs.lemmas.Lists.{one_of}
 use Rattle.dsde_check_bodies.specs.given.check_scope.error_CheckError.{CheckError}
 use Rattle.dsde_check_bodies.specs.given.check_scope.error_CheckError_TheVariants as end_of
 use Rattle.dsde_check_bodies.specs.given.check_scope.Says.{Says, Leaves}
-
--- the first of what is left of a list, and what is behind it
-one_of : {X : Type 0} (items : List X) (index : ℕ) (own : X) → index < length items → own ≡ get_or items index own → drop index items ≡ own ∷ drop (index + 1) items
-one_of items index own within is =
-    drop-cons items index own within ∙ ap (λ first. first ∷ drop (suc index) items) (sym is) ∙ ap (λ next. own ∷ drop next items) (suc-eq-add-one index)
 
 -- what is wrong is passed on as it is
 says_as : (meant whole : Test) (end : CheckError) (answer : Result (Unit {0}) CheckError) → meant ≡ whole → Says meant (Err end) → IsErr answer → IsErrAnd answer (λ own. own ≡ end) → Says whole answer

@@ -1,20 +1,14 @@
 -- What a chain makes of one link and then of those behind it.
-use Rattle.std.proofs.Common.{◌≡◌, ℕ, ◌+◌, ◌<◌, suc, List, ◌∷◌, length, get_or, drop, map, Result, Ok, Err, sym, subst, ap, ◌∙◌}
+use Rattle.std.proofs.Common.{◌≡◌, ℕ, ◌+◌, ◌<◌, List, ◌∷◌, length, get_or, drop, map, Result, Ok, Err, sym, subst, ap, ◌∙◌}
 use Rattle.std.specs.Result.{IsErr, IsErrAnd}
-use Rattle.std.proofs.Math.Seq.{drop-cons}
-use Rattle.std.proofs.Math.Numerals.{suc-eq-add-one}
 use Rattle.dsde_language.specs.declared.seen.Seen.{Seen}
 use Rattle.dsde_language.specs.declared.wrong.Wrong.{Wrong}
 use Rattle.dsde_language.specs.Steps.{◌>>=◌}
 use Rattle.dsde_language.specs.Judge.{Scope, Link, links_from}
+use Rattle.dsde_language.specs.lemmas.Lists.{one_of}
 use Rattle.dsde_check_scope.specs.declared.error.CheckError.{CheckError}
 use Rattle.dsde_check_scope.specs.declared.error.CheckError.TheVariants as end_of
 use Rattle.dsde_check_scope.specs.Says.{Says}
-
--- the first of what is left of a list, and what is behind it
-pub one_of : {X : Type 0} (items : List X) (index : ℕ) (own : X) → index < length items → own ≡ get_or items index own → drop index items ≡ own ∷ drop (index + 1) items
-one_of items index own within is =
-    drop-cons items index own within ∙ ap (λ first. first ∷ drop (suc index) items) (sym is) ∙ ap (λ next. own ∷ drop next items) (suc-eq-add-one index)
 
 -- a link that went well
 pub link_went : {X : Type 0} (link : X → Link) (items : List X) (index : ℕ) (own : X) (left : Seen) (scope : Scope) (after : Seen) → index < length items → own ≡ get_or items index own → link own left scope ≡ Ok after → links_from left (map link (drop index items)) scope ≡ links_from after (map link (drop (index + 1) items)) scope

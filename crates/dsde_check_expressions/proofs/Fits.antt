@@ -13,10 +13,11 @@ use Rattle.dsde_language.specs.declared.wrong.Wrong.{Wrong}
 use Rattle.dsde_language.specs.Steps.{◌>>=◌, Test}
 use Rattle.dsde_language.specs.Types.{wanted}
 use Rattle.dsde_language.specs.Judge.{Scope, Judge, Guarded, judge, fit, all_of, fill, part_type, fit_parts, arms_of}
+use Rattle.dsde_language.specs.lemmas.Lists.{one_of}
 use Rattle.dsde_check_scope.specs.declared.error.CheckError.{CheckError}
 use Rattle.dsde_check_scope.specs.Says.{Says}
 use Rattle.dsde_check_expressions.specs.Parts.{judge_set, fit_one, fit_arm, part_fitted, fit_part}
-use Rattle.dsde_check_expressions.proofs.Chains.{one_of, failed}
+use Rattle.dsde_check_expressions.proofs.Chains.{failed}
 
 -- a first part that went well
 pub went : {A B : Type 0} (meant : Result B Wrong) (found : Result A Wrong) (next : A → Result B Wrong) (value : A) → meant ≡ (found >>= next) → found ≡ Ok value → meant ≡ next value

@@ -5,10 +5,10 @@ use Rattle.dsde_language.specs.declared.wrong.Wrong.{Wrong}
 use Rattle.dsde_language.specs.Steps.{◌>>=◌}
 use Rattle.dsde_language.specs.declared.signatures.Family.{Family}
 use Rattle.dsde_language.specs.RuleStructures.{Enter, enter_all}
+use Rattle.dsde_language.specs.lemmas.Lists.{one_of}
 use Rattle.dsde_check_expressions.specs.given.check_scope.error_CheckError.{CheckError}
 use Rattle.dsde_check_expressions.specs.given.check_scope.error_CheckError_TheVariants as end_of
 use Rattle.dsde_check_expressions.specs.given.check_scope.Says.{Leaves}
-use Rattle.dsde_check_expressions.specs.lemmas.Walking.{one_of}
 
 -- an item that brings its models, and then those that are left
 pub enter_went : {X : Type 0} (by : X → Enter) (items : List X) (index : ℕ) (own : X) (families after : List Family) (whole : Result (List Family) Wrong) → index < length items → own ≡ get_or items index own → by own families ≡ Ok after → enter_all (map by (drop index items)) families ≡ whole → enter_all (map by (drop (index + 1) items)) after ≡ whole

@@ -26,4 +26,5 @@ pub mod Steps
 pub mod Typed
 pub mod Types
 pub mod Typing
+pub mod lemmas
 pub mod given

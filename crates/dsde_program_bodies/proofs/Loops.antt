@@ -1,8 +1,5 @@
 -- What the first of the rest lays behind what was laid so far.
-use Rattle.std.proofs.Common.{◌≡◌, ℕ, ◌+◌, ◌<◌, suc, List, [], ◌∷◌, ◌++◌, length, get_or, take, drop, map, append_assoc, sym, ap, ◌∙◌, arith}
-use Rattle.std.proofs.Math.Seq.{drop-cons}
-use Rattle.std.proofs.Math.Numerals.{suc-eq-add-one}
-use Rattle.std.proofs.lemmas.List.{length-take, take-take}
+use Rattle.std.proofs.Common.{◌≡◌, ℕ, ◌+◌, ◌<◌, List, [], ◌∷◌, ◌++◌, length, get_or, drop, map, append_assoc, sym, ap, ◌∙◌}
 use Rattle.dsde_syntax.specs.declared.decl.StateDecl.{StateDecl}
 use Rattle.dsde_language.specs.declared.known.Known.{Known}
 use Rattle.dsde_language.specs.declared.node_ids.ExprId.{ExprId}
@@ -11,19 +8,10 @@ use Rattle.dsde_language.specs.DeclaredModels.{state_fields}
 use Rattle.dsde_language.specs.Expressions.{expr_id}
 use Rattle.dsde_language.specs.Names.{Scope, with_slot, with_slots}
 use Rattle.dsde_language.specs.RuleTables.{by_text}
+use Rattle.dsde_language.specs.lemmas.Lists.{one_of}
 use Rattle.dsde_program_expressions.specs.given.program_layout.Lay.{lay}
 use Rattle.dsde_program_expressions.specs.given.program_layout.LayPieces.{Step, all}
 use Rattle.dsde_program_expressions.specs.given.program_layout.LayStatements.{lay_states}
-
--- the first of what is left of a list, and what is behind it
-one_of : {X : Type 0} (items : List X) (index : ℕ) (own : X) → index < length items → own ≡ get_or items index own → drop index items ≡ own ∷ drop (index + 1) items
-one_of items index own within is =
-    drop-cons items index own within ∙ ap (λ first. first ∷ drop (suc index) items) (sym is) ∙ ap (λ next. own ∷ drop next items) (suc-eq-add-one index)
-
--- the front of a list that was longer and longer
-pub kept_on : {X : Type 0} (first mid last : List X) → take (length first) mid ≡ first → take (length mid) last ≡ mid → take (length first) last ≡ first
-kept_on first mid last begun more =
-    sym (take-take (length first) (length mid) last (omega (arith, ap length begun, length-take (length first) mid))) ∙ ap (take (length first)) more ∙ begun
 
 module _ {X : Type 0} (items : List X) (index : ℕ) (own : X) (within : index < length items) (is : own ≡ get_or items index own) where
   abbrev rest : List X

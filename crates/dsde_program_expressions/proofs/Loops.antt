@@ -1,18 +1,12 @@
 -- What the first part or link of the rest lays behind what was laid so far.
-use Rattle.std.proofs.Common.{◌≡◌, ℕ, ◌+◌, ◌-◌, ◌<◌, suc, List, [], ◌∷◌, ◌++◌, length, get_or, drop, map, Option, append_assoc, sym, ap, ◌∙◌}
-use Rattle.std.proofs.Math.Seq.{drop-cons}
-use Rattle.std.proofs.Math.Numerals.{suc-eq-add-one}
+use Rattle.std.proofs.Common.{◌≡◌, ℕ, ◌+◌, ◌-◌, ◌<◌, List, [], ◌∷◌, ◌++◌, length, get_or, drop, map, Option, append_assoc, sym, ap, ◌∙◌}
 use Rattle.dsde_values.specs.declared.types.Ty.{Ty}
 use Rattle.dsde_language.specs.declared.node_ids.ExprId.{ExprId}
 use Rattle.dsde_language.specs.declared.node.NodeArm.{NodeArm}
 use Rattle.dsde_language.specs.Names.{Scope}
 use Rattle.dsde_language.specs.Expressions.{expr_id}
+use Rattle.dsde_language.specs.lemmas.Lists.{one_of}
 use Rattle.dsde_program_layout.specs.Lay.{Table, Lay, Link, Arm, lay_all, numbers, kept, head_from, lay_arms, arm_numbers, lay_links}
-
--- the first of what is left of a list, and what is behind it
-one_of : {X : Type 0} (items : List X) (index : ℕ) (own : X) → index < length items → own ≡ get_or items index own → drop index items ≡ own ∷ drop (index + 1) items
-one_of items index own within is =
-    drop-cons items index own within ∙ ap (λ first. first ∷ drop (suc index) items) (sym is) ∙ ap (λ next. own ∷ drop next items) (suc-eq-add-one index)
 
 module _ {X : Type 0} (items : List X) (index : ℕ) (own : X) (within : index < length items) (is : own ≡ get_or items index own) where
   abbrev rest : List X

@@ -1,16 +1,10 @@
 -- The table of types, one type after the other, until there are no more identifiers or no more types.
-use Rattle.std.proofs.Common.{◌≡◌, ℕ, ◌+◌, ◌<◌, suc, min, List, [], ◌∷◌, ◌++◌, length, get_or, drop, refl, sym, ap, ◌∙◌, append_assoc, arith}
-use Rattle.std.proofs.Math.Seq.{drop-cons}
-use Rattle.std.proofs.Math.Numerals.{suc-eq-add-one}
+use Rattle.std.proofs.Common.{◌≡◌, ℕ, ◌+◌, ◌<◌, min, List, [], ◌∷◌, ◌++◌, length, get_or, drop, refl, sym, ap, ◌∙◌, append_assoc, arith}
 use Rattle.dsde_values.specs.declared.types.Def.{Def}
 use Rattle.dsde_values.specs.declared.types.Shape.{Shape}
 use Rattle.dsde_language.specs.declared.signatures.TypeWord.{TypeWord}
 use Rattle.dsde_language.specs.DeclaredModels.{defs_from}
-
--- the first of what is left of a list, and what is behind it
-one_of : {X : Type 0} (items : List X) (index : ℕ) (own : X) → index < length items → own ≡ get_or items index own → drop index items ≡ own ∷ drop (index + 1) items
-one_of items index own within is =
-    drop-cons items index own within ∙ ap (λ first. first ∷ drop (suc index) items) (sym is) ∙ ap (λ next. own ∷ drop next items) (suc-eq-add-one index)
+use Rattle.dsde_language.specs.lemmas.Lists.{one_of}
 
 pub one_more : (words : List TypeWord) (types : List Shape) (index : ℕ) (word : TypeWord) (own : Shape) (before : List Def) → index < length words → index < length types → word ≡ get_or words index word → own ≡ get_or types index own → (before ++ record { name = word.name; shape = own } ∷ []) ++ defs_from (drop (index + 1) words) (drop (index + 1) types) ≡ before ++ defs_from (drop index words) (drop index types)
 one_more words types index word own before in_words in_types word_is own_is =

@@ -1,25 +1,13 @@
 -- What the first of the rest lays, or adds, behind what was laid so far.
-use Rattle.std.proofs.Common.{◌≡◌, ℕ, ◌+◌, ◌<◌, suc, not, Bool, true, false, List, [], ◌∷◌, ◌++◌, length, get_or, take, drop, map, append_assoc, refl, sym, ap, ◌∙◌, if◌then◌else◌, arith}
-use Rattle.std.proofs.Math.Seq.{drop-cons}
-use Rattle.std.proofs.Math.Numerals.{suc-eq-add-one}
-use Rattle.std.proofs.lemmas.List.{length-take, take-take}
+use Rattle.std.proofs.Common.{◌≡◌, ℕ, ◌+◌, ◌<◌, not, Bool, true, false, List, [], ◌∷◌, ◌++◌, length, get_or, drop, map, append_assoc, refl, sym, ap, ◌∙◌, if◌then◌else◌}
 use Rattle.dsde_values.specs.declared.types.Field.{Field}
 use Rattle.dsde_language.specs.declared.signatures.Family.{Family}
 use Rattle.dsde_language.specs.declared.signatures.Port.{Port}
 use Rattle.dsde_language.specs.declared.tables.Tables.{Tables}
 use Rattle.dsde_language.specs.Names.{Scope, with_slots}
 use Rattle.dsde_language.specs.DeclaredStructures.{Kin, directed, kin_all}
+use Rattle.dsde_language.specs.lemmas.Lists.{one_of}
 use Rattle.dsde_program_expressions.specs.given.program_layout.LayPieces.{Step, all}
-
--- the first of what is left of a list, and what is behind it
-one_of : {X : Type 0} (items : List X) (index : ℕ) (own : X) → index < length items → own ≡ get_or items index own → drop index items ≡ own ∷ drop (index + 1) items
-one_of items index own within is =
-    drop-cons items index own within ∙ ap (λ first. first ∷ drop (suc index) items) (sym is) ∙ ap (λ next. own ∷ drop next items) (suc-eq-add-one index)
-
--- the front of a list that was longer and longer
-pub kept_on : {X : Type 0} (first mid last : List X) → take (length first) mid ≡ first → take (length mid) last ≡ mid → take (length first) last ≡ first
-kept_on first mid last begun more =
-    sym (take-take (length first) (length mid) last (omega (arith, ap length begun, length-take (length first) mid))) ∙ ap (take (length first)) more ∙ begun
 
 module _ {X : Type 0} (items : List X) (index : ℕ) (own : X) (within : index < length items) (is : own ≡ get_or items index own) where
   abbrev rest : List X

@@ -1,21 +1,15 @@
 -- Parts that are walked one by one, each in the scope that the one before left.
-use Rattle.std.proofs.Common.{◌≡◌, ℕ, ◌+◌, ◌<◌, ◌≤◌, suc, max, List, ◌∷◌, ◌++◌, length, get_or, take, drop, map, Result, Ok, Err, sym, subst, ap, ◌∙◌, arith}
+use Rattle.std.proofs.Common.{◌≡◌, ℕ, ◌+◌, ◌<◌, ◌≤◌, max, List, ◌∷◌, ◌++◌, length, get_or, take, drop, map, Result, Ok, Err, sym, subst, ap, ◌∙◌, arith}
 use Rattle.std.specs.Result.{IsErr, IsErrAnd}
-use Rattle.std.proofs.Math.Seq.{drop-cons}
-use Rattle.std.proofs.Math.Numerals.{suc-eq-add-one}
 use Rattle.std.proofs.lemmas.List.{length-take, take-append-drop, take-append-le}
 use Rattle.dsde_language.specs.declared.wrong.Wrong.{Wrong}
 use Rattle.dsde_language.specs.Steps.{◌>>=◌}
 use Rattle.dsde_language.specs.Judge.{Scope}
 use Rattle.dsde_language.specs.Blocks.{Passed, Walk, ArmWalk, walk_all, arms_walk}
+use Rattle.dsde_language.specs.lemmas.Lists.{one_of}
 use Rattle.dsde_check_expressions.specs.given.check_scope.error_CheckError.{CheckError}
 use Rattle.dsde_check_expressions.specs.given.check_scope.error_CheckError_TheVariants as end_of
 use Rattle.dsde_check_expressions.specs.given.check_scope.Says.{Says, Walks}
-
--- the first of what is left of a list, and what is behind it
-pub one_of : {X : Type 0} (items : List X) (index : ℕ) (own : X) → index < length items → own ≡ get_or items index own → drop index items ≡ own ∷ drop (index + 1) items
-one_of items index own within is =
-    drop-cons items index own within ∙ ap (λ first. first ∷ drop (suc index) items) (sym is) ∙ ap (λ next. own ∷ drop next items) (suc-eq-add-one index)
 
 -- a part of which nothing is wrong: those that are left give the same behind it
 pub walk_went : {X : Type 0} (by : X → Walk) (items : List X) (index : ℕ) (own : X) (height more : ℕ) (scope after : Scope) (whole : Result Passed Wrong) → index < length items → own ≡ get_or items index own → by own scope ≡ Ok (record { scope = after; height = more }) → walk_all (map by (drop index items)) height scope ≡ whole → walk_all (map by (drop (index + 1) items)) (max height more) after ≡ whole

@@ -4,11 +4,12 @@ use Rattle.dsde_syntax.specs.declared.stmt.Stmt.{Stmt}
 use Rattle.dsde_syntax.specs.declared.stmt.Stmt.TheVariants as stmt
 use Rattle.dsde_syntax.specs.declared.stmt.StmtArm.{StmtArm}
 use Rattle.dsde_language.specs.declared.act.Act.{Act}
+use Rattle.dsde_language.specs.lemmas.Lists.{kept_on}
 use Rattle.dsde_program_expressions.specs.given.program_layout.LayPieces.{Step}
 use Rattle.dsde_program_expressions.specs.given.program_layout.LayStatements.{lay_stmt}
 use Rattle.dsde_program_bodies.specs.Parts.{lay_arm, lay_for}
 use Rattle.dsde_program_bodies.proofs.Branches.{arm_own, arm_tables, arm_seen, some_own, some_tables, some_seen, none_own, none_tables, none_seen}
-use Rattle.dsde_program_bodies.proofs.Loops.{kept_on, next_own, next_tables, next_scope}
+use Rattle.dsde_program_bodies.proofs.Loops.{next_own, next_tables, next_scope}
 use Rattle.dsde_program_bodies.proofs.Opened.{stmt_for, stmt_let, stmt_send, stmt_set}
 use Rattle.dsde_program_bodies.proofs.statements.+resolving.Goals as goal
 

@@ -6,11 +6,12 @@ use Rattle.dsde_syntax.specs.declared.item.Item.TheVariants as item
 use Rattle.dsde_syntax.specs.declared.item.ItemArm.{ItemArm}
 use Rattle.dsde_language.specs.declared.known.Known.{Known}
 use Rattle.dsde_language.specs.declared.make.Make.{Make}
+use Rattle.dsde_language.specs.lemmas.Lists.{kept_on}
 use Rattle.dsde_program_expressions.specs.given.program_layout.LayPieces.{Step}
 use Rattle.dsde_program_expressions.specs.given.program_layout.LayItems.{lay_item}
 use Rattle.dsde_program_structures.specs.Parts.{lay_arm, lay_comp, lay_for}
 use Rattle.dsde_program_structures.proofs.Branches.{arm_own, arm_tables, arm_seen, some_own, some_tables, some_seen, none_own, none_tables, none_seen}
-use Rattle.dsde_program_structures.proofs.Loops.{kept_on, next_own, next_tables, next_scope}
+use Rattle.dsde_program_structures.proofs.Loops.{next_own, next_tables, next_scope}
 use Rattle.dsde_program_structures.proofs.Opened.{item_comp, item_for, item_let, item_link}
 use Rattle.dsde_program_structures.proofs.items.+resolving.Goals as goal
 
