@@ -45,13 +45,11 @@ pub fn row_of(which: Key) -> Row
         Key::SomeOf => Row::new(&[Part::Any], Gives::Opt, false),
         Key::Len => Row::new(&[Part::List], Gives::Int, false),
         Key::IsSome => Row::new(&[Part::Opt], Gives::Bool, false),
-        Key::Min => Row::new(&[Part::Int, Part::Int], Gives::Int, false),
-        Key::Max => Row::new(&[Part::Int, Part::Int], Gives::Int, false),
+        Key::Min | Key::Max => Row::new(&[Part::Int, Part::Int], Gives::Int, false),
         Key::Range => Row::new(&[Part::Int, Part::Int], Gives::Ints, true),
         Key::Push => Row::new(&[Part::List, Part::Item], Gives::List, true),
         Key::Put => Row::new(&[Part::List, Part::Int, Part::Item], Gives::List, true),
-        Key::Take => Row::new(&[Part::List, Part::Int], Gives::List, false),
-        Key::Skip => Row::new(&[Part::List, Part::Int], Gives::List, false),
+        Key::Take | Key::Skip => Row::new(&[Part::List, Part::Int], Gives::List, false),
         _ => Row::new(&[], Gives::Int, false),
     }
 }

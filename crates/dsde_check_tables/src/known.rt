@@ -8,6 +8,7 @@ ghost use Rattle.dsde_language.specs.Types.{depths_from};
 ghost use Rattle.dsde_language.specs.Rules.{behind_type, behind_func};
 
 use crate::text::{add_depths, add_models, add_shapes, by_text, text_params};
+use crate::word::{add_name, put};
 use crate::words::{declared_words, used_words};
 use crate::{Callee, Made, Member, ModelEntry, TypeEntry, Word};
 use dsde_language::given::names::Names;
@@ -70,16 +71,14 @@ impl<'m> Known<'m> {
     pub fn behind_type(&mut self, name: &'m Id) -> Result<(), Memory>
         ensures { OnOk result (self.new ≡ behind_type self.old name.now) }
     {
-        self.before.insert(Word::of(name.name.as_slice()))?;
-        Ok(())
+        add_name(&mut self.before, name.name.as_slice())
     }
 
     /// Adds a function that is declared.
     pub fn behind_func(&mut self, func: Callee<'m>) -> Result<(), Memory>
         ensures { OnOk result (self.new ≡ behind_func self.old func.entry) }
     {
-        self.funcs.insert(func)?;
-        Ok(())
+        put(&mut self.funcs, func)
     }
 
     /// The identifiers of types that the file declares or names, each at its number.

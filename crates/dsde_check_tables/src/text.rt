@@ -1,12 +1,13 @@
 //! Types and models by their text: a type's identifier may be declared later, or not at all.
 
-ghost use Rattle.std.specs.Prelude.{◌≡◌, [], ◌++◌, Some, IfOk, OnOk};
+ghost use Rattle.std.specs.Prelude.{◌≡◌, [], ◌∷◌, ◌++◌, Some, IfOk, OnOk};
 ghost use Rattle.dsde_values.specs.declared.types.Shape.TheVariants as own;
 ghost use Rattle.dsde_language.specs.Types.{deepest, shape_depth, depths_from};
 ghost use Rattle.dsde_language.specs.RuleTables.{added, field_name, port_name, model_name, with_names, numbered, text_type, by_text, text_fields, with_shape, shapes_from, text_params, text_ports, with_model, models_from};
 
 use crate::types::{deeper, depth_of, list_type, narrow, option_type};
-use crate::{Made, Member, ModelEntry, PortEntry, TypeEntry, Word, add_name};
+use crate::word::put;
+use crate::{Made, Member, ModelEntry, PortEntry, TypeEntry, add_name};
 use dsde_language::given::names::{Entry, Names};
 use dsde_syntax::given::lists::Memory;
 use dsde_syntax::{Decl, Id, PortDecl, TypeName, Typed};
@@ -49,22 +50,14 @@ pub(crate) fn by_text(
     }
 }
 
-/// Adds names, each once.
-fn with_names<'m>(names: &mut Names<Word<'m>>, ids: &'m [Id]) -> Result<(), Memory>
-    ensures { OnOk result (names.new ≡ with_names names.old ids.now) }
-{
-    for id in ids {
-        add_name(names, id.name.as_slice())?;
-    }
-    Ok(())
-}
-
-/// The enum of these variants.
+/// The enum of these variants, each name once.
 fn made_enum<'m>(alloc: Global, variants: &'m [Id]) -> Result<Made<'m>, Memory>
     ensures { IfOk result (λ made. made ≡ own.Enum (with_names [] variants.now)) }
 {
     let mut names = Names::new(alloc);
-    with_names(&mut names, variants)?;
+    for id in variants {
+        add_name(&mut names, id.name.as_slice())?;
+    }
     Ok(Made::of_variants(names))
 }
 
@@ -78,26 +71,10 @@ fn add_field<'m>(
     ensures { OnOk result (fields.new ≡ added field_name fields.old (record { name = typed.now.name.name; ty = by_text words.now typed.now.ty })) }
 {
     let ty = by_text(alloc, words, &typed.ty)?;
-    fields.insert(Member::new(typed.name.name.as_slice(), ty))?;
-    Ok(())
+    put(fields, Member::new(typed.name.name.as_slice(), ty))
 }
 
-/// Adds fields: of two of one name the first counts.
-fn text_fields<'m>(
-    alloc: Global,
-    words: &Names<TypeEntry<'_>>,
-    fields: &mut Names<Member<'m>>,
-    typed: &'m [Typed],
-) -> Result<(), Memory>
-    ensures { OnOk result (fields.new ≡ text_fields words.now fields.old typed.now) }
-{
-    for field in typed {
-        add_field(alloc, words, fields, field)?;
-    }
-    Ok(())
-}
-
-/// The record of these fields.
+/// The record of these fields: of two of one name the first counts.
 fn made_rec<'m>(
     alloc: Global,
     words: &Names<TypeEntry<'_>>,
@@ -106,7 +83,9 @@ fn made_rec<'m>(
     ensures { IfOk result (λ made. made ≡ own.Rec (text_fields words.now [] typed.now)) }
 {
     let mut fields = Names::new(alloc);
-    text_fields(alloc, words, &mut fields, typed)?;
+    for field in typed {
+        add_field(alloc, words, &mut fields, field)?;
+    }
     Ok(Made::of_fields(fields))
 }
 
@@ -180,23 +159,22 @@ pub(crate) fn text_params(
     ensures { IfOk result (λ found. found ≡ text_params words.now params.now) }
 {
     let mut types = Seq::new(alloc);
-    add_types(alloc, words, &mut types, params)?;
+    for param in params {
+        add_type(alloc, words, &mut types, param)?;
+    }
     Ok(types)
 }
 
-/// Adds the types of parameters.
-fn add_types(
+/// Adds the type of a parameter.
+fn add_type(
     alloc: Global,
     words: &Names<TypeEntry<'_>>,
     types: &mut Seq<Ty>,
-    params: &[Typed],
+    param: &Typed,
 ) -> Result<(), Memory>
-    ensures { OnOk result (types.new ≡ types.old ++ text_params words.now params.now) }
+    ensures { OnOk result (types.new ≡ types.old ++ by_text words.now param.now.ty ∷ []) }
 {
-    for param in params {
-        types.push(by_text(alloc, words, &param.ty)?)?;
-    }
-    Ok(())
+    types.push(by_text(alloc, words, &param.ty)?)
 }
 
 /// Adds a port, unless one has its name.
@@ -209,23 +187,10 @@ fn add_port<'m>(
     ensures { OnOk result (ports.new ≡ added port_name ports.old (record { out = port.now.out; name = port.now.name.name; ty = by_text words.now port.now.ty })) }
 {
     let ty = by_text(alloc, words, &port.ty)?;
-    ports.insert(PortEntry::new(port.out, port.name.name.as_slice(), ty))?;
-    Ok(())
-}
-
-/// Adds ports: of two of one name the first counts.
-fn add_ports<'m>(
-    alloc: Global,
-    words: &Names<TypeEntry<'_>>,
-    found: &mut Names<PortEntry<'m>>,
-    ports: &'m [PortDecl],
-) -> Result<(), Memory>
-    ensures { OnOk result (found.new ≡ text_ports words.now found.old ports.now) }
-{
-    for port in ports {
-        add_port(alloc, words, found, port)?;
-    }
-    Ok(())
+    put(
+        ports,
+        PortEntry::new(port.out, port.name.name.as_slice(), ty),
+    )
 }
 
 /// Ports: of two of one name the first counts.
@@ -237,7 +202,9 @@ fn text_ports<'m>(
     ensures { IfOk result (λ found. found ≡ text_ports words.now [] ports.now) }
 {
     let mut found = Names::new(alloc);
-    add_ports(alloc, words, &mut found, ports)?;
+    for port in ports {
+        add_port(alloc, words, &mut found, port)?;
+    }
     Ok(found)
 }
 
@@ -254,8 +221,7 @@ fn add_model<'m>(
 {
     let params = text_params(alloc, words, params)?;
     let ports = text_ports(alloc, words, ports)?;
-    models.insert(ModelEntry::new(name.name.as_slice(), params, ports))?;
-    Ok(())
+    put(models, ModelEntry::new(name.name.as_slice(), params, ports))
 }
 
 fn with_model<'m>(

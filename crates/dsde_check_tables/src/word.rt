@@ -1,7 +1,7 @@
 //! Names where they stand in a text.
 
 ghost use Rattle.std.specs.Prelude.{◌≡◌, OnOk};
-ghost use Rattle.dsde_language.specs.RuleTables.{with_name};
+ghost use Rattle.dsde_language.specs.RuleTables.{added, with_name};
 
 use dsde_language::given::names::{Named, Names};
 use dsde_syntax::given::lists::Memory;
@@ -42,6 +42,15 @@ impl<'m> Named for Word<'m> {
 pub fn add_name<'m>(names: &mut Names<Word<'m>>, name: &'m [u8]) -> Result<(), Memory>
     ensures { OnOk result (names.new ≡ with_name names.old name.now) }
 {
-    names.insert(Word::of(name))?;
-    Ok(())
+    put(names, Word::of(name))
+}
+
+/// Adds an item, unless one has its name.
+pub(crate) fn put<T: Named + Drop>(items: &mut Names<T>, item: T) -> Result<(), Memory>
+    ensures { OnOk result (items.new ≡ added T.name items.old item) }
+{
+    match items.insert(item) {
+        Ok(_) => Ok(()),
+        Err(end) => Err(end),
+    }
 }

@@ -5,6 +5,7 @@ ghost use Rattle.std.specs.Option.{option_copied};
 ghost use Rattle.dsde_language.specs.RuleTables.{with_word, declared_word, declared_words, used_in, used_word, used_typed, used_ports, used_decl, used_words};
 
 use crate::TypeEntry;
+use crate::word::put;
 use dsde_language::given::names::Names;
 use dsde_syntax::given::lists::Memory;
 use dsde_syntax::{Decl, Id, PortDecl, TypeName, Typed};
@@ -12,8 +13,7 @@ use dsde_syntax::{Decl, Id, PortDecl, TypeName, Typed};
 fn with_word<'m>(words: &mut Names<TypeEntry<'m>>, is_enum: bool, id: &'m Id) -> Result<(), Memory>
     ensures { OnOk result (words.new ≡ with_word words.old is_enum id.now) }
 {
-    words.insert(TypeEntry::new(id, is_enum))?;
-    Ok(())
+    put(words, TypeEntry::new(id, is_enum))
 }
 
 fn declared_word<'m>(words: &mut Names<TypeEntry<'m>>, decl: &'m Decl) -> Result<(), Memory>
