@@ -107,3 +107,14 @@ post-Took {before} {mid} {after} first rest begun more some =
     let P : ℕ → Type 0 = λ own. own ≤ 1 in
     chain-Took first node (joined_by suffix_tokens rest) (all_by suffix_span rest) 0 1 begun more.spells more.placed more.shorter more.moved
     (toks) span (subst P (sym lvl) small)
+
+-- one operand, which nothing follows
+pub alone-Took : {A : Type 0} {f : A → Tokens} {g : A → Span} {G : List A → Type 0} {before mid after : Spot} {j k : ℕ} {e : Expr} {rest : List A} → Took expr_tokens expr_span (IsWithin j) before mid e → TookAll (joined_by f) (all_by g) G mid after rest → rest ≡ [] → j ≤ k → Took expr_tokens expr_span (IsWithin k) before after e
+alone-Took {A} {f} {g} {G} {before} {mid} {after} {j} {k} {e} {rest = []} own more none low = record {
+  spells = own.spells ∙ ap (λ (rest : Tokens). expr_tokens e ++ rest) more.spells;
+  placed = own.placed ∙ more.placed;
+  good = omega (arith, own.good, low);
+  shorter = omega (arith, own.shorter, more.shorter);
+  moved = omega (arith, own.moved, more.moved);
+}
+alone-Took {A} {f} {g} {G} {before} {mid} {after} {j} {k} {e} {rest = x ∷ xs} own more none low = cc

@@ -1,5 +1,5 @@
 -- Expressions and their parts that were read, by the parts of their layers.
-use Rattle.std.proofs.Common.{◌≡◌, ℕ, ◌≤◌, Bool, true, ◌&&◌, Option, Some, None, refl, sym, ap, subst, ◌∙◌, arith}
+use Rattle.std.proofs.Common.{◌≡◌, ℕ, ◌≤◌, Bool, true, false, ◌&&◌, ◌++◌, Option, Some, None, refl, sym, ap, subst, ◌∙◌, arith}
 use Rattle.dsde_syntax.specs.declared.token.Tok.TheVariants as tok
 use Rattle.dsde_words.specs.declared.key.Key.TheVariants as key
 use Rattle.dsde_syntax.specs.declared.token.Sign.{Sign}
@@ -19,13 +19,13 @@ use Rattle.dsde_syntax.specs.declared.expr.Tail.{Tail}
 use Rattle.dsde_syntax.specs.declared.expr.Expr.TheOpen.{Expr-F, Suffix-F, ExprArm-F, FieldSet-F}
 use Rattle.dsde_syntax.specs.declared.expr.Expr.TheViews.{roll-ExprArm, roll-FieldSet}
 use Rattle.dsde_syntax.specs.declared.expr.Expr.TheFolds.{fold-roll-Expr, fold-roll-Suffix, fold-roll-ExprArm, fold-roll-FieldSet}
-use Rattle.dsde_syntax.specs.Grammar.{Tokens, in_angles, in_braces, id_tokens, type_tokens, expr_step, suffix_step, expr_arm_step, field_set_step, sign_tail_step, tail_step, expr_tokens, suffix_tokens, expr_arm_tokens, field_set_tokens}
+use Rattle.dsde_syntax.specs.Grammar.{Tokens, mark, in_angles, in_parens, in_brackets, in_braces, for_tokens, id_tokens, type_tokens, expr_step, suffix_step, expr_arm_step, field_set_step, sign_tail_step, tail_step, expr_tokens, suffix_tokens, expr_arm_tokens, field_set_tokens}
 use Rattle.dsde_syntax.specs.Levels.{level_if, if_written, is_expr, is_comparison, level_step, suffix_level_step, expr_arm_level_step, field_set_level_step, sign_tail_level_step, tail_level_step, level_of, is_suffix, is_expr_arm, is_field_set}
-use Rattle.dsde_syntax.specs.Places.{Span, id_span, type_span, bracketed, span_step, suffix_span_step, expr_arm_span_step, field_set_span_step, sign_tail_span_step, tail_span_step, expr_span, suffix_span, expr_arm_span, field_set_span}
+use Rattle.dsde_syntax.specs.Places.{Span, ◌>>◌, token, id_span, type_span, bracketed, for_span, span_step, suffix_span_step, expr_arm_span_step, field_set_span_step, sign_tail_span_step, tail_span_step, expr_span, suffix_span, expr_arm_span, field_set_span}
 use Rattle.dsde_parser_expressions.specs.Took.{Spot, Took, TookAll, TookOne, Any}
 use Rattle.dsde_parser_expressions.specs.Parts.{IsWithin, IsOk, test_tokens, test_span}
 use Rattle.dsde_parser_expressions.proofs.ChainLemmas.{le-stands}
-use Rattle.dsde_parser_expressions.proofs.PartLemmas.{Part, one, one-at, placed-at, own, all, ◌⨟◌, read, read-node, whole-expr}
+use Rattle.dsde_parser_expressions.proofs.PartLemmas.{Part, one, one-at, placed-at, own, all, ◌⨟◌, behind-two, behind-three, read, read-node, whole-expr}
 
 -- a node whose tokens, span and level are those of its layer
 layer-Took : {before after : Spot} {t : Tokens} {s : Span} (node : Expr) (own k : ℕ) → Part true t s before after → expr_tokens node ≡ t → expr_span node ≡ s → level_of node ≡ own → own ≤ k → Took expr_tokens expr_span (IsWithin k) before after node
@@ -79,11 +79,11 @@ minus-Took at part begun place next =
     (ap level_of same ∙ fold-roll-Expr ℕ Bool Bool Bool (Sign × ℕ) ℕ level_step suffix_level_step expr_arm_level_step field_set_level_step sign_tail_level_step tail_level_step x)
     (level-one _ 2 (le-stands (level_of part) 1 next.good))
 
-pub paren-Took : {before a b after : Spot} (at : ℕ) (inner : Expr) → TookOne (tok.Sign sign.OpenParen) before a → at ≡ before.0 → Took expr_tokens expr_span (IsWithin 9) a b inner → TookOne (tok.Sign sign.CloseParen) b after → Took expr_tokens expr_span (IsWithin 0) before after (expr.Paren at inner)
-paren-Took at inner begun place next closed =
+pub paren-Took : {before after : Spot} (at : ℕ) (inner : Expr) → at ≡ before.0 → Took (λ expr. in_parens (expr_tokens expr)) (λ expr. bracketed (expr_span expr)) (IsWithin 9) before after inner → Took expr_tokens expr_span (IsWithin 0) before after (expr.Paren at inner)
+paren-Took at inner place next =
     let x : Expr-F Expr Suffix ExprArm FieldSet SignTail Tail = Expr-F.Paren at inner in
     let same = sym (rolls-Paren at inner) in
-    layer-Took (expr.Paren at inner) _ 0 (placed-at (one begun ⨟ own next ⨟ one closed) place)
+    layer-Took (expr.Paren at inner) _ 0 (placed-at (own next) place)
     (ap expr_tokens same ∙ fold-roll-Expr Tokens Tokens Tokens Tokens Tokens Tokens expr_step suffix_step expr_arm_step field_set_step sign_tail_step tail_step x)
     (ap expr_span same ∙ fold-roll-Expr Span Span Span Span Span Span span_step suffix_span_step expr_arm_span_step field_set_span_step sign_tail_span_step tail_span_step x)
     (ap level_of same ∙ fold-roll-Expr ℕ Bool Bool Bool (Sign × ℕ) ℕ level_step suffix_level_step expr_arm_level_step field_set_level_step sign_tail_level_step tail_level_step x)
@@ -129,23 +129,28 @@ variant-Took owner variant first begun next =
     (ap level_of same ∙ fold-roll-Expr ℕ Bool Bool Bool (Sign × ℕ) ℕ level_step suffix_level_step expr_arm_level_step field_set_level_step sign_tail_level_step tail_level_step x)
     (omega arith)
 
-pub each-Took : {before a b c d e f g h after : Spot} (at : ℕ) (name : Id) (list : Expr) (cond : Option Expr) (value : Expr) → TookOne (tok.Sign sign.OpenBracket) before a → at ≡ before.0 → TookOne (tok.Key key.For) a b → Took id_tokens id_span Any b c name → TookOne (tok.Key key.In) c d → Took expr_tokens expr_span (IsWithin 9) d e list → TookAll test_tokens test_span (λ cond. if_written is_expr cond ≡ true) e f cond → TookOne (tok.Sign sign.Colon) f g → Took expr_tokens expr_span (IsWithin 9) g h value → TookOne (tok.Sign sign.CloseBracket) h after → Took expr_tokens expr_span (IsWithin 0) before after (expr.Each at name list cond value)
-each-Took at name list None value begun place for_word named in_word of test colon own_value closed =
+-- "[" head test ":" value "]", where the value is read with the signs round it
+each-Part : {before a b c after : Spot} (head test value : Tokens) (g h k : Span) → TookOne (tok.Sign sign.OpenBracket) before a → Part true head g a b → Part false test h b c → Part true ((mark sign.Colon ++ value) ++ mark sign.CloseBracket) ((token >> k) >> token) c after → Part true ((mark sign.OpenBracket ++ (((head ++ test) ++ mark sign.Colon) ++ value)) ++ mark sign.CloseBracket) ((token >> (((g >> h) >> token) >> k)) >> token) before after
+each-Part head test value g h k begun first tested inner =
+    behind-two (((head ++ test) ++ mark sign.Colon) ++ value) (mark sign.CloseBracket) (((g >> h) >> token) >> k) token (one begun) (behind-three (mark sign.Colon) value (mark sign.CloseBracket) token k token (first ⨟ tested) inner)
+
+pub each-Took : {before a b c after : Spot} (at : ℕ) (name : Id) (list : Expr) (cond : Option Expr) (value : Expr) → TookOne (tok.Sign sign.OpenBracket) before a → at ≡ before.0 → Took (λ (own : Id × Expr). for_tokens own.0 own.1) (λ (own : Id × Expr). for_span own.0 own.1) (λ (own : Id × Expr). is_expr own.1 ≡ true) a b (name, list) → TookAll test_tokens test_span (λ cond. if_written is_expr cond ≡ true) b c cond → Took (λ expr. (mark sign.Colon ++ expr_tokens expr) ++ mark sign.CloseBracket) (λ expr. bracketed (expr_span expr)) (IsWithin 9) c after value → Took expr_tokens expr_span (IsWithin 0) before after (expr.Each at name list cond value)
+each-Took at name list None value begun place head test inner =
     let x : Expr-F Expr Suffix ExprArm FieldSet SignTail Tail = Expr-F.Each at name list None value in
     let same = sym (rolls-Each at name list None value) in
-    layer-Took (expr.Each at name list None value) _ 0 (placed-at (one begun ⨟ (one for_word ⨟ own named ⨟ one in_word ⨟ own of ⨟ all test ⨟ one colon ⨟ own own_value) ⨟ one closed) place)
+    layer-Took (expr.Each at name list None value) _ 0 (placed-at (each-Part _ _ _ _ _ _ begun (own head) (all test) (own inner)) place)
     (ap expr_tokens same ∙ fold-roll-Expr Tokens Tokens Tokens Tokens Tokens Tokens expr_step suffix_step expr_arm_step field_set_step sign_tail_step tail_step x)
     (ap expr_span same ∙ fold-roll-Expr Span Span Span Span Span Span span_step suffix_span_step expr_arm_span_step field_set_span_step sign_tail_span_step tail_span_step x)
     (ap level_of same ∙ fold-roll-Expr ℕ Bool Bool Bool (Sign × ℕ) ℕ level_step suffix_level_step expr_arm_level_step field_set_level_step sign_tail_level_step tail_level_step x)
-    (level-one _ 0 (true-and _ _ (true-and _ _ (le-stands (level_of list) 9 of.good) refl) (le-stands (level_of value) 9 own_value.good)))
-each-Took at name list (Some when) value begun place for_word named in_word of test colon own_value closed =
+    (level-one _ 0 (true-and _ _ (true-and _ _ head.good refl) (le-stands (level_of value) 9 inner.good)))
+each-Took at name list (Some when) value begun place head test inner =
     let x : Expr-F Expr Suffix ExprArm FieldSet SignTail Tail = Expr-F.Each at name list (Some when) value in
     let same = sym (rolls-Each at name list (Some when) value) in
-    layer-Took (expr.Each at name list (Some when) value) _ 0 (placed-at (one begun ⨟ (one for_word ⨟ own named ⨟ one in_word ⨟ own of ⨟ all test ⨟ one colon ⨟ own own_value) ⨟ one closed) place)
+    layer-Took (expr.Each at name list (Some when) value) _ 0 (placed-at (each-Part _ _ _ _ _ _ begun (own head) (all test) (own inner)) place)
     (ap expr_tokens same ∙ fold-roll-Expr Tokens Tokens Tokens Tokens Tokens Tokens expr_step suffix_step expr_arm_step field_set_step sign_tail_step tail_step x)
     (ap expr_span same ∙ fold-roll-Expr Span Span Span Span Span Span span_step suffix_span_step expr_arm_span_step field_set_span_step sign_tail_span_step tail_span_step x)
     (ap level_of same ∙ fold-roll-Expr ℕ Bool Bool Bool (Sign × ℕ) ℕ level_step suffix_level_step expr_arm_level_step field_set_level_step sign_tail_level_step tail_level_step x)
-    (level-one _ 0 (true-and _ _ (true-and _ _ (le-stands (level_of list) 9 of.good) test.good) (le-stands (level_of value) 9 own_value.good)))
+    (level-one _ 0 (true-and _ _ (true-and _ _ head.good test.good) (le-stands (level_of value) 9 inner.good)))
 
 pub field-Took : {before a after : Spot} (at : ℕ) (name : Id) → TookOne (tok.Sign sign.Dot) before a → at ≡ before.0 → Took id_tokens id_span Any a after name → Took suffix_tokens suffix_span (IsOk is_suffix) before after (suffix.Field at name)
 field-Took at name begun place named =
@@ -156,14 +161,14 @@ field-Took at name begun place named =
     (ap suffix_span same ∙ fold-roll-Suffix Span Span Span Span Span Span span_step suffix_span_step expr_arm_span_step field_set_span_step sign_tail_span_step tail_span_step x)
     (ap is_suffix same ∙ fold-roll-Suffix ℕ Bool Bool Bool (Sign × ℕ) ℕ level_step suffix_level_step expr_arm_level_step field_set_level_step sign_tail_level_step tail_level_step x)
 
-pub index-Took : {before a b after : Spot} (at : ℕ) (value : Expr) → TookOne (tok.Sign sign.OpenBracket) before a → at ≡ before.0 → Took expr_tokens expr_span (IsWithin 9) a b value → TookOne (tok.Sign sign.CloseBracket) b after → Took suffix_tokens suffix_span (IsOk is_suffix) before after (suffix.Index at value)
-index-Took at value begun place inner closed =
+pub index-Took : {before after : Spot} (at : ℕ) (value : Expr) → at ≡ before.0 → Took (λ expr. in_brackets (expr_tokens expr)) (λ expr. bracketed (expr_span expr)) (IsWithin 9) before after value → Took suffix_tokens suffix_span (IsOk is_suffix) before after (suffix.Index at value)
+index-Took at value place inner =
     let x : Suffix-F Expr Suffix ExprArm FieldSet SignTail Tail = Suffix-F.Index at value in
     let same = sym (rolls-Index at value) in
-    read-node (placed-at (one begun ⨟ own inner ⨟ one closed) place)
+    read-node (placed-at (own inner) place)
     (ap suffix_tokens same ∙ fold-roll-Suffix Tokens Tokens Tokens Tokens Tokens Tokens expr_step suffix_step expr_arm_step field_set_step sign_tail_step tail_step x)
     (ap suffix_span same ∙ fold-roll-Suffix Span Span Span Span Span Span span_step suffix_span_step expr_arm_span_step field_set_span_step sign_tail_span_step tail_span_step x)
-    (ap is_suffix same ∙ (fold-roll-Suffix ℕ Bool Bool Bool (Sign × ℕ) ℕ level_step suffix_level_step expr_arm_level_step field_set_level_step sign_tail_level_step tail_level_step x ∙ whole-expr inner))
+    (ap is_suffix same ∙ (fold-roll-Suffix ℕ Bool Bool Bool (Sign × ℕ) ℕ level_step suffix_level_step expr_arm_level_step field_set_level_step sign_tail_level_step tail_level_step x ∙ le-stands (level_of value) 9 inner.good))
 
 pub unwrap-Took : {before after : Spot} (at : ℕ) → TookOne (tok.Sign sign.Bang) before after → at ≡ before.0 → Took suffix_tokens suffix_span (IsOk is_suffix) before after (suffix.Unwrap at)
 unwrap-Took at begun place =

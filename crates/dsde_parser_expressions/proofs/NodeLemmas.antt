@@ -21,13 +21,14 @@ use Rattle.dsde_syntax.specs.declared.expr.Tail.{Tail}
 use Rattle.dsde_syntax.specs.declared.expr.Expr.TheOpen.{Expr-F, SignTail-F, Tail-F}
 use Rattle.dsde_syntax.specs.declared.expr.Expr.TheViews.{roll-SignTail, roll-Tail}
 use Rattle.dsde_syntax.specs.declared.expr.Expr.TheFolds.{fold-roll-Expr, fold-roll-SignTail, fold-roll-Tail}
-use Rattle.dsde_syntax.specs.Grammar.{Tokens, word, commas, elses, in_parens, in_braces, id_tokens, expr_step, suffix_step, expr_arm_step, field_set_step, sign_tail_step, tail_step, expr_tokens, expr_arm_tokens, field_set_tokens, sign_tail_tokens}
+use Rattle.dsde_syntax.specs.Grammar.{Tokens, word, mark, commas, elses, in_parens, in_braces, id_tokens, expr_step, suffix_step, expr_arm_step, field_set_step, sign_tail_step, tail_step, expr_tokens, expr_arm_tokens, field_set_tokens, sign_tail_tokens}
 use Rattle.dsde_syntax.specs.Levels.{level_if, stands_at, has_first, may_follow, is_builtin, is_expr, is_sum_sign, is_mul_sign, level_step, suffix_level_step, expr_arm_level_step, field_set_level_step, sign_tail_level_step, tail_level_step, level_of, is_expr_arm, is_field_set, sign_tail_level, tail_level}
-use Rattle.dsde_syntax.specs.Places.{Span, token, token_at, begins_at, id_span, args_span, bracketed, spans_with, span_step, suffix_span_step, expr_arm_span_step, field_set_span_step, sign_tail_span_step, tail_span_step, expr_span, expr_arm_span, field_set_span, sign_tail_span, tail_span}
+use Rattle.dsde_syntax.specs.Places.{Span, ◌>>◌, token, token_at, begins_at, id_span, args_span, bracketed, spans_with, span_step, suffix_span_step, expr_arm_span_step, field_set_span_step, sign_tail_span_step, tail_span_step, expr_span, expr_arm_span, field_set_span, sign_tail_span, tail_span}
 use Rattle.dsde_parser_expressions.specs.declared.parser.ParseError.{ParseError}
 use Rattle.dsde_parser_expressions.specs.Took.{Spot, Took, TookOne, Takes, Reads}
 use Rattle.dsde_parser_expressions.specs.Parts.{IsWithin, AllOk, SomeOk, IsOk, commas_by, elses_by, spans_by, or_tail_tokens, and_tail_tokens}
 use Rattle.dsde_parser_expressions.proofs.ChainLemmas.{le-stands, all-map}
+use Rattle.dsde_parser_expressions.proofs.TookLemmas.{Took-between}
 
 pub boxed-Reads : {before after : Spot} {k : ℕ} (result : Result Expr ParseError) (e : Expr) → IfOk result (λ own. own ≡ e) → Took expr_tokens expr_span (IsWithin k) before after e → Reads expr_tokens expr_span (IsWithin k) before result after
 boxed-Reads {before} {after} {k} (Ok own) e h took = subst (λ (e : Expr). Took expr_tokens expr_span (IsWithin k) before after e) (sym h) took
@@ -117,16 +118,6 @@ node-Took {before} {after} node t s own k toks span lvl spells placed level shor
   moved = moved;
 }
 
--- a part in brackets
-pub bracketed-Took : {A : Type 0} {f : A → Tokens} {g : A → Span} {Good : A → Type 0} {before mid next after : Spot} {open_tok close_tok : Tok} {value : A} → TookOne open_tok before mid → Took f g Good mid next value → TookOne close_tok next after → Took (λ value. ((open_tok ∷ []) ++ f value) ++ (close_tok ∷ [])) (λ value. bracketed (g value)) Good before after value
-bracketed-Took {A} {f} {g} {Good} {before} {mid} {next} {after} {open_tok} {close_tok} {value} one own last = record {
-  spells = one.comes ∙ ap (λ (own : Tokens). open_tok ∷ own) (own.spells ∙ (ap (λ (own : Tokens). f value ++ own) last.comes ∙ sym (append_assoc (f value) (close_tok ∷ []) after.1)));
-  placed = ap (λ (index : ℕ). option_and_then token (g value index)) (sym one.next) ∙ (ap (λ (got : Option ℕ). option_and_then token got) own.placed ∙ ap Some (sym last.next));
-  good = own.good;
-  shorter = omega (arith, ap length one.comes, own.shorter, ap length last.comes);
-  moved = omega (arith, one.next, ap length one.comes, own.moved, last.next, ap length last.comes);
-}
-
 level-one : (b : Bool) (k : ℕ) → b ≡ true → level_if b k ≤ k
 level-one b k h = rw h (omega arith)
 
@@ -161,9 +152,9 @@ builtin-Took {before} {mid} {after} which at args one fits place own =
     (omega (arith, ap length one.comes, own.shorter))
     (omega (arith, one.next, ap length one.comes, own.moved))
 
-pub row-Took : {before mid next after : Spot} (at : ℕ) (items : List Expr) → TookOne (tok.Sign sign.OpenBracket) before mid → at ≡ before.0 → Took (commas_by expr_tokens) (spans_by expr_span) (SomeOk is_expr) mid next items → TookOne (tok.Sign sign.CloseBracket) next after → Took expr_tokens expr_span (IsWithin 0) before after (expr.List at items)
-row-Took {before} {mid} {next} {after} at items one place own last =
-    let whole = bracketed-Took one own last in
+pub row-Took : {before mid after : Spot} (at : ℕ) (items : List Expr) → TookOne (tok.Sign sign.OpenBracket) before mid → at ≡ before.0 → Took (λ own. commas_by expr_tokens own ++ mark sign.CloseBracket) (λ own. spans_by expr_span own >> token) (SomeOk is_expr) mid after items → Took expr_tokens expr_span (IsWithin 0) before after (expr.List at items)
+row-Took {before} {mid} {after} at items one place own =
+    let whole = Took-between (commas_by expr_tokens) (spans_by expr_span) (tok.Sign sign.CloseBracket) one own in
     node-Took (expr.List at items) _ _ _ 0
     (ap expr_tokens (sym (rolls-List at items)) ∙ fold-roll-Expr Tokens Tokens Tokens Tokens Tokens Tokens expr_step suffix_step expr_arm_step field_set_step sign_tail_step tail_step (Expr-F.List at items))
     (ap expr_span (sym (rolls-List at items)) ∙ fold-roll-Expr Span Span Span Span Span Span span_step suffix_span_step expr_arm_span_step field_set_span_step sign_tail_span_step tail_span_step (Expr-F.List at items))
@@ -188,24 +179,23 @@ new-Took {before} {mid} {next} {after} at owner fields one place spells placed s
     (omega (arith, ap length one.comes, shorter, own.shorter))
     (omega (arith, one.next, ap length one.comes, moved, own.moved))
 
-pub choice-Took : {before mid next after : Spot} (at : ℕ) (arms : List ExprArm) (other : Expr) → at ≡ before.0 → Took (elses_by expr_arm_tokens) (spans_by expr_arm_span) (SomeOk is_expr_arm) before mid arms → TookOne (tok.Key key.Else) mid next → Took (λ expr. in_braces (expr_tokens expr)) (λ expr. bracketed (expr_span expr)) (IsWithin 9) next after other → Took expr_tokens expr_span (IsWithin 0) before after (expr.If at arms other)
-choice-Took {before} {mid} {next} {after} at arms other place begun one own =
+pub choice-Took : {before mid after : Spot} (at : ℕ) (arms : List ExprArm) (other : Expr) → at ≡ before.0 → Took (λ own. elses_by expr_arm_tokens own ++ word key.Else) (λ own. spans_by expr_arm_span own >> token) (SomeOk is_expr_arm) before mid arms → Took (λ expr. in_braces (expr_tokens expr)) (λ expr. bracketed (expr_span expr)) (IsWithin 9) mid after other → Took expr_tokens expr_span (IsWithin 0) before after (expr.If at arms other)
+choice-Took {before} {mid} {after} at arms other place begun own =
     node-Took (expr.If at arms other) _ _ _ 0
     (ap expr_tokens (sym (rolls-If at arms other)) ∙ fold-roll-Expr Tokens Tokens Tokens Tokens Tokens Tokens expr_step suffix_step expr_arm_step field_set_step sign_tail_step tail_step (Expr-F.If at arms other))
     (ap expr_span (sym (rolls-If at arms other)) ∙ fold-roll-Expr Span Span Span Span Span Span span_step suffix_span_step expr_arm_span_step field_set_span_step sign_tail_span_step tail_span_step (Expr-F.If at arms other))
     (ap level_of (sym (rolls-If at arms other)) ∙ fold-roll-Expr ℕ Bool Bool Bool (Sign × ℕ) ℕ level_step suffix_level_step expr_arm_level_step field_set_level_step sign_tail_level_step tail_level_step (Expr-F.If at arms other))
-    (begun.spells ∙ (ap (λ (own : Tokens). elses (map expr_arm_tokens arms) ++ own) (one.comes ∙ ap (λ (own : Tokens). tok.Key key.Else ∷ own) own.spells)
-    ∙ (sym (append_assoc (elses (map expr_arm_tokens arms)) (word key.Else) (in_braces (expr_tokens other) ++ after.1))
-    ∙ sym (append_assoc (elses (map expr_arm_tokens arms) ++ word key.Else) (in_braces (expr_tokens other)) after.1))))
+    (begun.spells ∙ (ap (λ (own : Tokens). (elses (map expr_arm_tokens arms) ++ word key.Else) ++ own) own.spells
+    ∙ sym (append_assoc (elses (map expr_arm_tokens arms) ++ word key.Else) (in_braces (expr_tokens other)) after.1)))
     (ap (λ (got : Option ℕ). option_and_then (bracketed (expr_span other)) (option_and_then token (option_and_then (spans_with token (map expr_arm_span arms)) got))) (begins-here at before.0 place)
-    ∙ (ap (λ (got : Option ℕ). option_and_then (bracketed (expr_span other)) (option_and_then token got)) begun.placed
-    ∙ (ap (bracketed (expr_span other)) (sym one.next) ∙ own.placed)))
+    ∙ (ap (λ (got : Option ℕ). option_and_then (bracketed (expr_span other)) got) begun.placed
+    ∙ own.placed))
     (level-one ((has_first (map is_expr_arm arms) && list_all (λ ok. ok) (map is_expr_arm arms)) && stands_at 9 (level_of other)) 0
     (true-and (has_first (map is_expr_arm arms) && list_all (λ ok. ok) (map is_expr_arm arms)) (stands_at 9 (level_of other))
     (true-and (has_first (map is_expr_arm arms)) (list_all (λ ok. ok) (map is_expr_arm arms)) (has-map is_expr_arm arms begun.good.some) (all-map is_expr_arm (λ ok. ok) arms begun.good.all))
     (le-stands (level_of other) 9 own.good)))
-    (omega (arith, begun.shorter, ap length one.comes, own.shorter))
-    (omega (arith, begun.moved, one.next, ap length one.comes, own.moved))
+    (omega (arith, begun.shorter, own.shorter))
+    (omega (arith, begun.moved, own.moved))
 
 -- an expression of the highest level is one of the grammar
 pub whole-Took : {before after : Spot} {e : Expr} → Took expr_tokens expr_span (IsWithin 9) before after e → Took expr_tokens expr_span (IsOk is_expr) before after e

@@ -403,9 +403,9 @@ pub items-else : (s : Wants) (at : ℕ) (ts : Tokens) → is_else_if ts ≡ true
 items-else s at (tok.Key key.Else ∷ tok.Key key.If ∷ ts) h = refl
 items-else s at _ h = cc
 
-pub exprs-else : (s : Wants) (at : ℕ) (ts : Tokens) → is_else_if ts ≡ true → stop (want.word key.Else ∷ want.else_rest ∷ s) at ts ≡ stop (want.word key.Else ∷ want.word key.If ∷ (choice_rest ++ s)) at ts
-exprs-else s at (tok.Key key.Else ∷ tok.Key key.If ∷ ts) h = refl
-exprs-else s at _ h = cc
+pub else-if : (s : Wants) (at : ℕ) (ts : Tokens) → next_is (is_key key.If) ts ≡ true → stop (want.else_rest ∷ s) at ts ≡ stop (want.word key.If ∷ (choice_rest ++ s)) at ts
+else-if s at (tok.Key key.If ∷ ts) h = refl
+else-if s at _ h = cc
 
 -- no "if" behind an "else" that no arm follows
 pub no-if : {here mid : Spot} → TookOne (tok.Key key.Else) here mid → is_else_if here.1 ≡ false → next_is (is_key key.If) mid.1 ≡ false

@@ -3,10 +3,12 @@ use Rattle.std.specs.Prelude.{◌≡◌, ◌≤◌, ℕ, Bool, true, List, ◌++
 use Rattle.std.specs.Option.{option_map}
 use Rattle.std.specs.List.{list_all}
 use Rattle.dsde_syntax.specs.declared.expr.Expr.{Expr}
+use Rattle.dsde_syntax.specs.declared.expr.ExprArm.{ExprArm}
 use Rattle.dsde_syntax.specs.declared.expr.Tail.{Tail}
+use Rattle.dsde_syntax.specs.declared.token.Sign.{Sign}
 use Rattle.dsde_syntax.specs.Levels.{has_first, level_of}
 use Rattle.dsde_words.specs.declared.key.Key.TheVariants as key
-use Rattle.dsde_syntax.specs.Grammar.{Tokens, word, joined, commas, elses, optional, expr_tokens, tail_tokens}
+use Rattle.dsde_syntax.specs.Grammar.{Tokens, word, mark, joined, commas, elses, optional, expr_tokens, expr_arm_tokens, tail_tokens}
 use Rattle.dsde_syntax.specs.Places.{◌>>◌, token, all_spans, spans_with, written_span, expr_span, Span}
 
 -- an expression that may stand at a level
@@ -52,6 +54,17 @@ spans_by span list = spans_with token (map span list)
 
 abbrev pub elses_by : {A : Type 0} → (A → Tokens) → List A → Tokens
 elses_by spelled list = elses (map spelled list)
+
+-- the parts with commas between them, and the sign behind them
+abbrev pub closed_tokens : {A : Type 0} → Sign → (A → Tokens) → List A → Tokens
+closed_tokens close spelled list = commas (map spelled list) ++ mark close
+
+abbrev pub closed_span : {A : Type 0} → (A → Span) → List A → Span
+closed_span span list = spans_with token (map span list) >> token
+
+-- the arms of a choice, and the "else" behind them
+abbrev pub arms_tokens : List ExprArm → Tokens
+arms_tokens arms = elses (map expr_arm_tokens arms) ++ word key.Else
 
 abbrev pub any_ok : {A : Type 0} → A → Bool
 any_ok value = true

@@ -1,19 +1,19 @@
 //! Expressions, read from tokens.
 
-ghost use Rattle.std.specs.Prelude.{◌≡◌, ◌<◌, ◌∷◌, ◌++◌, [], true, false, map, OnOk};
-ghost use Rattle.dsde_syntax.specs.Grammar.{commas, in_parens, in_braces, expr_tokens, suffix_tokens, expr_arm_tokens, field_set_tokens, sign_tail_tokens};
-ghost use Rattle.dsde_syntax.specs.Places.{bracketed, args_span, expr_span, expr_arm_span, field_set_span, sign_tail_span, suffix_span, tail_span};
+ghost use Rattle.std.specs.Prelude.{◌≡◌, ◌<◌, ◌∷◌, ◌++◌, [], true, false, map};
+ghost use Rattle.dsde_syntax.specs.Grammar.{mark, commas, in_parens, for_tokens, expr_tokens, suffix_tokens, expr_arm_tokens, field_set_tokens, sign_tail_tokens};
+ghost use Rattle.dsde_syntax.specs.Places.{bracketed, args_span, for_span, expr_span, expr_arm_span, field_set_span, sign_tail_span, suffix_span, tail_span};
 ghost use Rattle.dsde_syntax.specs.Levels.{if_written, is_expr, stands_at, may_follow, is_sum_sign, is_mul_sign, is_expr_arm, is_field_set, is_suffix, sign_tail_level, tail_level};
 ghost use Rattle.dsde_words.specs.declared.key.Key.TheVariants as key;
 ghost use Rattle.dsde_syntax.specs.declared.token.Sign.TheVariants as sign;
 ghost use Rattle.dsde_parser_grammar.specs.Want as want;
 ghost use Rattle.dsde_parser_grammar.specs.Steps.{is_sign, angles, args, exprs, field_set, braced_expr, choice_rest, post_wants, neg_wants, mul_wants, sum_wants, cmp_wants, not_wants, and_wants, or_wants};
-ghost use Rattle.dsde_parser_expressions.specs.Follows.{Leads, Meets, next_is, begins_form, is_builtin_key, begins_suffix, is_else_if};
+ghost use Rattle.dsde_parser_expressions.specs.Follows.{Leads, Meets, next_is, begins_form, is_builtin_key, begins_suffix};
 ghost use Rattle.dsde_parser_expressions.specs.Took.{Reads, ReadsAll};
-ghost use Rattle.dsde_parser_expressions.specs.Parts.{IsWithin, AllOk, SomeOk, IsOk, joined_by, all_by, commas_by, spans_by, elses_by, test_tokens, test_span, or_tail_tokens, and_tail_tokens};
+ghost use Rattle.dsde_parser_expressions.specs.Parts.{IsWithin, AllOk, SomeOk, IsOk, joined_by, all_by, closed_tokens, closed_span, arms_tokens, test_tokens, test_span, or_tail_tokens, and_tail_tokens};
 
 use super::{ParseError, Parser};
-use dsde_syntax::{Boxed, Expr, ExprArm, FieldSet, Items, Key, Sign, SignTail, Suffix, Tail};
+use dsde_syntax::{Boxed, Expr, ExprArm, FieldSet, Id, Items, Key, Sign, SignTail, Suffix, Tail};
 
 impl<'a> Parser<'a> {
     /// or ["??" or]
@@ -284,9 +284,8 @@ impl<'a> Parser<'a> {
         ensures took { Reads suffix_tokens suffix_span (IsOk is_suffix) self.old result self.new }
         ensures same { Meets (want.mark sign.OpenBracket ∷ want.expr ∷ want.mark sign.CloseBracket ∷ []) self.old result self.new }
     {
-        let at = self.sign(Sign::OpenBracket)?;
-        let value = self.expr()?;
-        self.sign(Sign::CloseBracket)?;
+        let at = self.at;
+        let value = self.between(Sign::OpenBracket, Sign::CloseBracket)?;
         Ok(Suffix::Index {
             at,
             value: value.into_inner(),
@@ -381,9 +380,8 @@ impl<'a> Parser<'a> {
         ensures took { Reads expr_tokens expr_span (IsWithin 0) self.old result self.new }
         ensures same { Meets (want.mark sign.OpenParen ∷ want.expr ∷ want.mark sign.CloseParen ∷ []) self.old result self.new }
     {
-        let at = self.sign(Sign::OpenParen)?;
-        let inner = self.expr()?;
-        self.sign(Sign::CloseParen)?;
+        let at = self.at;
+        let inner = self.between(Sign::OpenParen, Sign::CloseParen)?;
         self.boxed(Expr::Paren { at, inner })
     }
 
@@ -431,23 +429,23 @@ impl<'a> Parser<'a> {
         if self.takes_sign(Sign::CloseParen) {
             return Ok(Items::new(self.alloc));
         }
-        let args = self.exprs()?;
-        self.sign(Sign::CloseParen)?;
-        Ok(args)
+        self.exprs(Sign::CloseParen)
     }
 
-    /// expr {"," expr}
+    /// expr {"," expr}, and the sign behind them
     #[cycle(read_expr)]
-    fn exprs(&mut self) -> Result<Items<Expr>, ParseError>
-        ensures took { Reads (commas_by expr_tokens) (spans_by expr_span) (SomeOk is_expr) self.old result self.new }
-        ensures same { Meets exprs self.old result self.new }
+    fn exprs(&mut self, close: Sign) -> Result<Items<Expr>, ParseError>
+        ensures took { Reads (closed_tokens close expr_tokens) (closed_span expr_span) (SomeOk is_expr) self.old result self.new }
+        ensures same { Meets (exprs ++ want.mark close ∷ []) self.old result self.new }
     {
         let mut exprs = Items::new(self.alloc);
-        exprs.push(self.expr()?.into_inner())?;
-        'exprs: while self.takes_sign(Sign::Comma) {
+        'exprs: loop {
             exprs.push(self.expr()?.into_inner())?;
+            if !self.takes_sign(Sign::Comma) {
+                self.sign(close)?;
+                return Ok(exprs);
+            }
         }
-        Ok(exprs)
     }
 
     /// "new" id "{" id ":" expr {"," id ":" expr} "}"
@@ -458,34 +456,25 @@ impl<'a> Parser<'a> {
     {
         let at = self.key(Key::New)?;
         let of = self.name()?;
+        self.sign(Sign::OpenBrace)?;
         let fields = self.field_sets()?;
         self.boxed(Expr::New { at, of, fields })
     }
 
-    /// "{" id ":" expr {"," id ":" expr} "}"
+    /// id ":" expr {"," id ":" expr} "}"
     #[cycle(read_expr)]
     fn field_sets(&mut self) -> Result<Items<FieldSet>, ParseError>
-        ensures took { Reads (λ fields. in_braces (commas (map field_set_tokens fields))) (λ fields. args_span (map field_set_span fields)) (SomeOk is_field_set) self.old result self.new }
-        ensures same { Meets (want.mark sign.OpenBrace ∷ (field_set ++ want.more_fields ∷ want.mark sign.CloseBrace ∷ [])) self.old result self.new }
-    {
-        self.sign(Sign::OpenBrace)?;
-        let fields = self.some_field_sets()?;
-        self.sign(Sign::CloseBrace)?;
-        Ok(fields)
-    }
-
-    /// id ":" expr {"," id ":" expr}
-    #[cycle(read_expr)]
-    fn some_field_sets(&mut self) -> Result<Items<FieldSet>, ParseError>
-        ensures took { Reads (commas_by field_set_tokens) (spans_by field_set_span) (SomeOk is_field_set) self.old result self.new }
-        ensures same { Meets (field_set ++ want.more_fields ∷ []) self.old result self.new }
+        ensures took { Reads (closed_tokens sign.CloseBrace field_set_tokens) (closed_span field_set_span) (SomeOk is_field_set) self.old result self.new }
+        ensures same { Meets (field_set ++ want.more_fields ∷ want.mark sign.CloseBrace ∷ []) self.old result self.new }
     {
         let mut fields = Items::new(self.alloc);
-        fields.push(self.field_set()?)?;
-        'fields: while self.takes_sign(Sign::Comma) {
+        'fields: loop {
             fields.push(self.field_set()?)?;
+            if !self.takes_sign(Sign::Comma) {
+                self.sign(Sign::CloseBrace)?;
+                return Ok(fields);
+            }
         }
-        Ok(fields)
     }
 
     /// id ":" expr
@@ -519,8 +508,7 @@ impl<'a> Parser<'a> {
         ensures same { Meets (want.mark sign.OpenBracket ∷ (exprs ++ want.mark sign.CloseBracket ∷ [])) self.old result self.new }
     {
         let at = self.sign(Sign::OpenBracket)?;
-        let items = self.exprs()?;
-        self.sign(Sign::CloseBracket)?;
+        let items = self.exprs(Sign::CloseBracket)?;
         self.boxed(Expr::List { at, items })
     }
 
@@ -531,14 +519,9 @@ impl<'a> Parser<'a> {
         ensures same { Meets (want.mark sign.OpenBracket ∷ want.word key.For ∷ want.name ∷ want.word key.In ∷ want.expr ∷ want.test ∷ want.mark sign.Colon ∷ want.expr ∷ want.mark sign.CloseBracket ∷ []) self.old result self.new }
     {
         let at = self.sign(Sign::OpenBracket)?;
-        self.key(Key::For)?;
-        let name = self.name()?;
-        self.key(Key::In)?;
-        let list = self.expr()?;
+        let (name, list) = self.for_in()?;
         let cond = self.each_test()?;
-        self.sign(Sign::Colon)?;
-        let value = self.expr()?;
-        self.sign(Sign::CloseBracket)?;
+        let value = self.between(Sign::Colon, Sign::CloseBracket)?;
         self.boxed(Expr::Each {
             at,
             name,
@@ -546,6 +529,19 @@ impl<'a> Parser<'a> {
             cond,
             value,
         })
+    }
+
+    /// "for" id "in" expr
+    #[cycle(read_expr)]
+    fn for_in(&mut self) -> Result<(Id, Boxed<Expr>), ParseError>
+        ensures took { Reads (λ own. for_tokens own.0 own.1) (λ own. for_span own.0 own.1) (λ own. is_expr own.1 ≡ true) self.old result self.new }
+        ensures same { Meets (want.word key.For ∷ want.name ∷ want.word key.In ∷ want.expr ∷ []) self.old result self.new }
+    {
+        self.key(Key::For)?;
+        let name = self.name()?;
+        self.key(Key::In)?;
+        let list = self.expr()?;
+        Ok((name, list))
     }
 
     /// ["if" expr]
@@ -568,25 +564,24 @@ impl<'a> Parser<'a> {
     {
         let at = self.at;
         let arms = self.arms()?;
-        self.key(Key::Else)?;
-        let other = self.in_braces()?;
+        let other = self.between(Sign::OpenBrace, Sign::CloseBrace)?;
         self.boxed(Expr::If { at, arms, other })
     }
 
-    /// "if" expr "{" expr "}" {"else" "if" expr "{" expr "}"}
+    /// "if" expr "{" expr "}" "else" {"if" expr "{" expr "}" "else"}
     #[cycle(read_expr)]
     fn arms(&mut self) -> Result<Items<ExprArm>, ParseError>
-        ensures took { Reads (elses_by expr_arm_tokens) (spans_by expr_arm_span) (SomeOk is_expr_arm) self.old result self.new }
-        ensures same { Leads (want.word key.If ∷ choice_rest) (want.word key.Else ∷ want.else_rest ∷ []) self.old result self.new }
-        ensures ended { OnOk result (is_else_if self.new.1 ≡ false) }
+        ensures took { Reads arms_tokens (closed_span expr_arm_span) (SomeOk is_expr_arm) self.old result self.new }
+        ensures same { Leads (want.word key.If ∷ choice_rest) braced_expr self.old result self.new }
     {
         let mut arms = Items::new(self.alloc);
-        arms.push(self.arm()?)?;
-        'arms: while self.next_is_else_if() {
-            self.key(Key::Else)?;
+        'arms: loop {
             arms.push(self.arm()?)?;
+            self.key(Key::Else)?;
+            if !self.next_is_key(Key::If) {
+                return Ok(arms);
+            }
         }
-        Ok(arms)
     }
 
     /// "if" expr "{" expr "}"
@@ -597,22 +592,22 @@ impl<'a> Parser<'a> {
     {
         self.key(Key::If)?;
         let cond = self.expr()?;
-        let value = self.in_braces()?;
+        let value = self.between(Sign::OpenBrace, Sign::CloseBrace)?;
         Ok(ExprArm {
             cond: cond.into_inner(),
             value: value.into_inner(),
         })
     }
 
-    /// "{" expr "}"
+    /// An expression between two signs.
     #[cycle(read_expr)]
-    fn in_braces(&mut self) -> Result<Boxed<Expr>, ParseError>
-        ensures took { Reads (λ expr. in_braces (expr_tokens expr)) (λ expr. bracketed (expr_span expr)) (IsWithin 9) self.old result self.new }
-        ensures same { Meets braced_expr self.old result self.new }
+    fn between(&mut self, front: Sign, back: Sign) -> Result<Boxed<Expr>, ParseError>
+        ensures took { Reads (λ expr. mark front ++ expr_tokens expr ++ mark back) (λ expr. bracketed (expr_span expr)) (IsWithin 9) self.old result self.new }
+        ensures same { Meets (want.mark front ∷ want.expr ∷ want.mark back ∷ []) self.old result self.new }
     {
-        self.sign(Sign::OpenBrace)?;
+        self.sign(front)?;
         let inner = self.expr()?;
-        self.sign(Sign::CloseBrace)?;
+        self.sign(back)?;
         Ok(inner)
     }
 }

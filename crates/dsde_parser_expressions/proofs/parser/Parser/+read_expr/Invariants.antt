@@ -1,11 +1,12 @@
 -- What is read so far, from the start of the loop on, and a measure that goes down.
 use Rattle.std.proofs.Common.{◌+◌, ◌*◌, length, [], ◌∷◌, ◌++◌}
-use Rattle.dsde_syntax.specs.Grammar.{expr_tokens, expr_arm_tokens, suffix_tokens, field_set_tokens, sign_tail_tokens}
-use Rattle.dsde_syntax.specs.Places.{expr_span, expr_arm_span, field_set_span, sign_tail_span, suffix_span, tail_span}
+use Rattle.dsde_syntax.specs.Grammar.{word, mark, expr_tokens, expr_arm_tokens, suffix_tokens, field_set_tokens, sign_tail_tokens}
+use Rattle.dsde_syntax.specs.Places.{◌>>◌, token, expr_span, expr_arm_span, field_set_span, sign_tail_span, suffix_span, tail_span}
 use Rattle.dsde_syntax.specs.Levels.{is_expr, stands_at, may_follow, is_sum_sign, is_mul_sign, is_expr_arm, is_field_set, is_suffix, sign_tail_level, tail_level}
-use Rattle.dsde_parser_expressions.specs.Took.{Took, TookAll}
-use Rattle.dsde_parser_expressions.specs.Parts.{AllOk, SomeOk, joined_by, all_by, commas_by, spans_by, elses_by, or_tail_tokens, and_tail_tokens}
+use Rattle.dsde_parser_expressions.specs.Took.{TookAll}
+use Rattle.dsde_parser_expressions.specs.Parts.{AllOk, joined_by, all_by, or_tail_tokens, and_tail_tokens}
 use Rattle.dsde_words.specs.declared.key.Key.TheVariants as key
+use Rattle.dsde_syntax.specs.declared.token.Sign.TheVariants as sign
 use Rattle.dsde_parser_grammar.specs.Want as want
 use Rattle.dsde_parser_grammar.specs.Steps.{exprs, field_set, choice_rest}
 use Rattle.dsde_parser_expressions.specs.Follows.{Led}
@@ -43,20 +44,20 @@ invariant-suffixes-suffixes l = record {
 
 abbrev pub invariant-exprs-exprs : goal.invariant-exprs-exprs
 invariant-exprs-exprs l = record {
-  took : Took (commas_by expr_tokens) (spans_by expr_span) (SomeOk is_expr) l.fn.self l.self l.exprs;
-  same : Led exprs (want.more_exprs ∷ []) l.fn.self l.self;
+  took : TookAll (joined_by (λ expr. expr_tokens expr ++ mark sign.Comma)) (all_by (λ expr. expr_span expr >> token)) (AllOk is_expr) l.fn.self l.self l.exprs;
+  same : Led (exprs ++ want.mark l.close ∷ []) (exprs ++ want.mark l.close ∷ []) l.fn.self l.self;
 }
 
-abbrev pub invariant-some_field_sets-fields : goal.invariant-some_field_sets-fields
-invariant-some_field_sets-fields l = record {
-  took : Took (commas_by field_set_tokens) (spans_by field_set_span) (SomeOk is_field_set) l.fn.self l.self l.fields;
-  same : Led (field_set ++ want.more_fields ∷ []) (want.more_fields ∷ []) l.fn.self l.self;
+abbrev pub invariant-field_sets-fields : goal.invariant-field_sets-fields
+invariant-field_sets-fields l = record {
+  took : TookAll (joined_by (λ own. field_set_tokens own ++ mark sign.Comma)) (all_by (λ own. field_set_span own >> token)) (AllOk is_field_set) l.fn.self l.self l.fields;
+  same : Led (field_set ++ want.more_fields ∷ want.mark sign.CloseBrace ∷ []) (field_set ++ want.more_fields ∷ want.mark sign.CloseBrace ∷ []) l.fn.self l.self;
 }
 
 abbrev pub invariant-arms-arms : goal.invariant-arms-arms
 invariant-arms-arms l = record {
-  took : Took (elses_by expr_arm_tokens) (spans_by expr_arm_span) (SomeOk is_expr_arm) l.fn.self l.self l.arms;
-  same : Led (want.word key.If ∷ choice_rest) (want.word key.Else ∷ want.else_rest ∷ []) l.fn.self l.self;
+  took : TookAll (joined_by (λ arm. expr_arm_tokens arm ++ word key.Else)) (all_by (λ arm. expr_arm_span arm >> token)) (AllOk is_expr_arm) l.fn.self l.self l.arms;
+  same : Led (want.word key.If ∷ choice_rest) (want.word key.If ∷ choice_rest) l.fn.self l.self;
 }
 
 abbrev pub decreases-expr : goal.decreases-expr
@@ -126,10 +127,10 @@ abbrev pub decreases-new_record : goal.decreases-new_record
 decreases-new_record l = 24 * length l.self.now.1 + 2
 
 abbrev pub decreases-field_sets : goal.decreases-field_sets
-decreases-field_sets l = 24 * length l.self.now.1 + 1
+decreases-field_sets l = 24 * length l.self.now.1 + 23
 
-abbrev pub decreases-some_field_sets : goal.decreases-some_field_sets
-decreases-some_field_sets l = 24 * length l.self.now.1 + 23
+abbrev pub decreases-for_in : goal.decreases-for_in
+decreases-for_in l = 24 * length l.self.now.1
 
 abbrev pub decreases-field_set : goal.decreases-field_set
 decreases-field_set l = 24 * length l.self.now.1 + 22
@@ -152,8 +153,8 @@ decreases-arms l = 24 * length l.self.now.1 + 2
 abbrev pub decreases-arm : goal.decreases-arm
 decreases-arm l = 24 * length l.self.now.1 + 1
 
-abbrev pub decreases-in_braces : goal.decreases-in_braces
-decreases-in_braces l = 24 * length l.self.now.1 + 1
+abbrev pub decreases-between : goal.decreases-between
+decreases-between l = 24 * length l.self.now.1
 
 abbrev pub decreases-or_tails-tails : goal.decreases-or_tails-tails
 decreases-or_tails-tails l = length l.self.1
@@ -173,8 +174,8 @@ decreases-suffixes-suffixes l = length l.self.1
 abbrev pub decreases-exprs-exprs : goal.decreases-exprs-exprs
 decreases-exprs-exprs l = length l.self.1
 
-abbrev pub decreases-some_field_sets-fields : goal.decreases-some_field_sets-fields
-decreases-some_field_sets-fields l = length l.self.1
+abbrev pub decreases-field_sets-fields : goal.decreases-field_sets-fields
+decreases-field_sets-fields l = length l.self.1
 
 abbrev pub decreases-arms-arms : goal.decreases-arms-arms
 decreases-arms-arms l = length l.self.1
