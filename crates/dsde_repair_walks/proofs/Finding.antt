@@ -151,6 +151,10 @@ written wiring links kids place none =
     ap (λ (z : Wiring-F WiredKid Wiring). roll-Wiring (record z { kids = kids })) (out-roll-Wiring (record (out-Wiring wiring) { links = links }))
     ∙ ap (λ own. changed own (renewed links kids) wiring) (sym (no-items place none))
 
+-- other links leave the components as they are
+pub same-kids : (wiring : Wiring) (links : List Link) → (out-Wiring (roll-Wiring (record (out-Wiring wiring) { links = links }))).kids ≡ (out-Wiring wiring).kids
+same-kids wiring links = ap (λ (z : Wiring-F WiredKid Wiring). z.kids) (out-roll-Wiring (record (out-Wiring wiring) { links = links }))
+
 -- a network with a component that changed
 pub set-there : (f : Wiring → Wiring) (place rest : List Name) (name : Name) → place ≡ name ∷ rest → (wiring : Wiring) (index : ℕ) → IsAt name (out-Wiring wiring).kids index → (kid after : WiredKid) → slice_get (out-Wiring wiring).kids index ≡ Some kid →
     after ≡ kid_with (changed rest f) kid → roll-Wiring (record (out-Wiring wiring) { kids = slice_set (out-Wiring wiring).kids index after }) ≡ changed place f wiring

@@ -9,7 +9,6 @@ pub mod given;
 mod laws;
 mod place;
 mod table;
-mod taking;
 mod walk;
 mod way;
 
@@ -20,8 +19,7 @@ pub use laws::{
     a_change_leaves_the_others, a_change_touches_few, a_change_touches_these, routes_are_gathered,
     rows_are_counted, rows_are_routes, rows_follow_a_change,
 };
-pub use place::renew;
+pub use place::{renew, take_out};
 pub use table::{insert_all, remove_all};
-pub use taking::take_out;
 pub use walk::{leaf_at, net_ways, ways_of_end, ways_of_kid};
 pub use way::{Way, one_way};
