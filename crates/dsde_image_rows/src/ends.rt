@@ -1,12 +1,13 @@
 //! Why no tree is restored.
 
-ghost use Rattle.std.specs.Prelude.{◌≡◌, IfOk};
+ghost use Rattle.std.specs.Prelude.{◌≡◌};
 ghost use Rattle.dsde_image.specs.Image.{IsLocation};
 ghost use Rattle.dsde_image_rows.specs.Walk.{left_over};
 ghost use Rattle.dsde_image_rows.specs.Walks.{Misses, IsLeftOver};
 
+use crate::given::sim_telling::copy_path;
 use dsde_image::{Location, Version};
-use dsde_values::{Memory, Path, ReadPath, Seq, read_path};
+use dsde_values::{Memory, Path, ReadPath, read_path};
 use std::alloc::Global;
 
 /// Why no tree was restored.
@@ -25,17 +26,6 @@ impl From<Memory> for RestoreEnd {
     fn from(_: Memory) -> RestoreEnd {
         RestoreEnd::Memory
     }
-}
-
-/// A path equal to this one.
-fn copy_path(alloc: Global, path: &Path) -> Result<Path, Memory>
-    ensures { IfOk result (λ copy. copy ≡ path.now) }
-{
-    let mut names = Seq::new(alloc);
-    for name in path.names.as_slice() {
-        names.push(name.copy(alloc)?)?;
-    }
-    Ok(Path { names })
 }
 
 /// The rows do not fit at this path.

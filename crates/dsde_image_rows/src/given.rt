@@ -2,7 +2,7 @@
 
 /// Of `dsde_sim_telling`.
 pub mod sim_telling {
-    pub use dsde_sim_starting::given::sim_telling::tell_outs;
+    pub use dsde_sim_starting::given::sim_telling::{copy_path, tell_outs};
 }
 
 /// Of `dsde_sound_expressions`.

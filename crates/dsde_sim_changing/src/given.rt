@@ -34,7 +34,9 @@ pub mod sim_starting {
 
 /// Of `dsde_sim_telling`.
 pub mod sim_telling {
-    pub use dsde_sim_starting::given::sim_telling::{at, below, boss_of, tell_drop, tell_gets};
+    pub use dsde_sim_starting::given::sim_telling::{
+        at, below, boss_of, copy_path, tell_drop, tell_gets,
+    };
 }
 
 /// Of `dsde_sound_structures`.

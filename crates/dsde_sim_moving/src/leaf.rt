@@ -10,12 +10,11 @@ ghost use Rattle.dsde_sim_changing.specs.given.system.Fitting.{FitsInputs, FitsL
 ghost use Rattle.dsde_sim_tree.specs.Move.{take_move, move_leaf_at};
 ghost use Rattle.dsde_sim_changing.specs.given.sim_starting.Fitting.{FitsAtomic, FitsGot};
 
-use crate::paths::copy_path;
 use dsde_language::ModelId;
 use dsde_sim_changing::given::atomic::leaf_moved;
 use dsde_sim_changing::given::program::Program;
 use dsde_sim_changing::given::sim_starting::is_due;
-use dsde_sim_changing::given::sim_telling::{at, boss_of, tell_gets};
+use dsde_sim_changing::given::sim_telling::{at, boss_of, copy_path, tell_gets};
 use dsde_sim_tree::given::formalism::{Inputs, Leaf, MoveKind};
 use dsde_sim_tree::{Event, TurnEnd};
 use dsde_values::{Memory, Path, Seq, Values, copy_values};

@@ -7,14 +7,13 @@ mod boxes;
 pub mod given;
 mod leaf;
 mod net;
-mod paths;
 mod walk;
 
 pub use boxes::{boxes_in, sources_in};
 pub use dsde_sim_changing::given::sim_gathering::ins_of;
 pub use dsde_sim_changing::given::sim_starting::{by_port, output, start};
+pub use dsde_sim_changing::given::sim_telling::copy_path;
 pub use dsde_sim_changing::{next_time, parts};
 pub use leaf::{kind_of, take_move};
 pub use net::boss_moves;
-pub use paths::copy_path;
 pub use walk::move_sim;

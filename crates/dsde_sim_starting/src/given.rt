@@ -35,7 +35,7 @@ pub mod sim_gathering {
 
 /// Of `dsde_sim_telling`.
 pub mod sim_telling {
-    pub use dsde_sim_telling::{at, below, boss_of, tell_drop, tell_gets, tell_outs};
+    pub use dsde_sim_telling::{at, below, boss_of, copy_path, tell_drop, tell_gets, tell_outs};
 }
 
 /// Of `dsde_sound_structures`.

@@ -4,5 +4,5 @@
 mod paths;
 mod tell;
 
-pub use paths::{at, below, boss_of};
+pub use paths::{at, below, boss_of, copy_path};
 pub use tell::{tell_drop, tell_gets, tell_leaf, tell_net, tell_outs};

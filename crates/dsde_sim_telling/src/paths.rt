@@ -10,7 +10,7 @@ use dsde_values::{Memory, Name, Path, Seq, Stem};
 use std::alloc::Global;
 
 /// A path equal to this one.
-pub(crate) fn copy_path(alloc: Global, path: &Path) -> Result<Path, Memory>
+pub fn copy_path(alloc: Global, path: &Path) -> Result<Path, Memory>
     ensures { IfOk result (λ copy. copy ≡ path.now) }
 {
     let mut names = Seq::new(alloc);
