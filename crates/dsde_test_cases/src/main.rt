@@ -2,7 +2,8 @@
 //!
 //! The words after the program's name are names of files of cases, or of models that two engines run. It
 //! writes a line for each case and each model, which says `ok` or what differs, and then what `report`
-//! writes for some statuses by themselves.
+//! writes for some statuses by themselves. Of a file whose name ends in `.txt` it writes what single calls
+//! answer to its lines.
 #![tactic(auto)]
 
 mod compare;
@@ -15,16 +16,33 @@ use crate::compare::differences;
 use crate::run::run;
 use crate::statuses::show_statuses;
 use anyhow::{Context, Result, anyhow};
+use dsde_test_calls::answers;
 use dsde_test_data::{Value, check_names, items_at, number_at, read_cases, text_at, word_at};
 use std::alloc::Global;
-use std::env;
 use std::rt::Files;
+use std::{env, fs};
 
 fn main(rt: HostRuntime) -> Result<()> {
     for name in env::args(&rt)?.skip(1) {
-        run_file(&rt, &name).context(format_args!("{name}"))?;
+        take_file(&rt, &name).context(format_args!("{name}"))?;
     }
     show_statuses(&rt)
+}
+
+/// Runs the cases of a file, or gives its lines to single calls.
+fn take_file(rt: &(impl Files + Print + AllocGlobal), name: &str) -> Result<()> {
+    if name.ends_with(".txt") {
+        show_answers(rt, name)
+    } else {
+        run_file(rt, name)
+    }
+}
+
+/// Writes what single calls answer to the lines of a file.
+fn show_answers(rt: &(impl Files + Print + AllocGlobal), name: &str) -> Result<()> {
+    let file = fs::read_to_string(rt, name)?;
+    let answers = answers(rt.alloc(), file.as_str()).map_err(|_memory| anyhow!("memory ran out"))?;
+    Ok(print!(rt; "{answers}")?)
 }
 
 /// Runs the cases of a file, and writes a line for each.

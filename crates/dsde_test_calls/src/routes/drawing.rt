@@ -1,9 +1,7 @@
 //! Lines that are drawn.
 
-use dsde_lists::Memory;
 use rand_core::utils::NextWord;
 use rand_pcg::Lcg64Xsh32;
-use std::alloc::Global;
 
 /// One of the words between bars; the whole, where there are none.
 fn one<'w>(dice: &mut Lcg64Xsh32, words: &'w str) -> &'w str {
@@ -12,11 +10,11 @@ fn one<'w>(dice: &mut Lcg64Xsh32, words: &'w str) -> &'w str {
     words.split('|').nth(index).unwrap_or("")
 }
 
-/// The lines of a pattern, with one of the words for each `/a|b|c/`.
-pub fn drawn(alloc: Global, dice: &mut Lcg64Xsh32, pattern: &str) -> Result<String, Memory> {
-    let mut lines = String::new(alloc);
+/// Appends the lines of a pattern, with one of the words for each `/a|b|c/`; whether there was memory for them.
+pub(crate) fn draw(dice: &mut Lcg64Xsh32, pattern: &str, lines: &mut String) -> bool {
+    let mut held = true;
     for part in pattern.split('/') {
-        lines.push_str(one(dice, part))?;
+        held &= lines.push_str(one(dice, part)).is_ok();
     }
-    Ok(lines)
+    held
 }

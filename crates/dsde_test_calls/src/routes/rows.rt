@@ -1,6 +1,6 @@
 //! Rows: as lines, and how those of two tables differ.
 
-use crate::parts::handle_of;
+use crate::routes::parts::handle_of;
 use dsde_base::Steps;
 use dsde_lists::Memory;
 use dsde_routes_table::RouteTable;
@@ -22,7 +22,7 @@ fn take_out<L: Ledger>(table: &mut RouteTable, rows: &[Row], changes: &mut Steps
 
 /// Takes the rows of one table out of another, those of sources up to a birth. How many rows only the one
 /// has, and how many the other, which are left.
-pub fn compare<L: Ledger>(
+pub(crate) fn compare<L: Ledger>(
     one: &RouteTable,
     other: &mut RouteTable,
     last: u64,
@@ -39,17 +39,13 @@ pub fn compare<L: Ledger>(
     (own, others)
 }
 
-/// A line as it stands.
-pub fn show_line(lines: &mut String, line: &str) -> Result<(), Memory> {
-    Ok(writeln!(lines, "{line}")?)
-}
-
-/// A line for each of some rows.
-pub fn show_all(lines: &mut String, rows: &[Row]) -> Result<(), AllocError> {
+/// A line for each of some rows; whether there was memory for them.
+pub(crate) fn show_all(lines: &mut String, rows: &[Row]) -> bool {
+    let mut held = true;
     for row in rows {
-        show(lines, row)?;
+        held &= show(lines, row).is_ok();
     }
-    Ok(())
+    held
 }
 
 /// The source and the target of a row by birth and port, its rank, and its translations.
@@ -78,24 +74,22 @@ fn show_chain(lines: &mut String, chain: &[Via]) -> Result<(), AllocError> {
     lines.push_str("\n")
 }
 
-/// Takes a row out of a table and puts it in, twice each; writes what the table answers.
-pub fn turn<L: Ledger>(
+/// Takes a row out of a table and puts it in, twice each; what the table answers.
+pub(crate) fn turn<L: Ledger>(
     alloc: Global,
     table: &mut RouteTable,
     row: &Row,
     changes: &mut Steps<L>,
-    lines: &mut String,
-) -> Result<(), Memory> {
+) -> &'static str {
     let gone = table.remove_row(row, changes);
     let again = table.remove_row(row, changes);
-    let fresh = put_copy(alloc, table, row, changes)?;
-    let twice = put_copy(alloc, table, row, changes)?;
-    let answer = if gone && !again && fresh && !twice {
+    let fresh = put_copy(alloc, table, row, changes);
+    let twice = put_copy(alloc, table, row, changes);
+    if gone && !again && matches!(fresh, Ok(true)) && matches!(twice, Ok(false)) {
         "out true, again false; in true, again false"
     } else {
         "out or in, or again, is not answered so"
-    };
-    show_line(lines, answer)
+    }
 }
 
 /// Puts a row equal to this one into a table; whether it was not there.
@@ -105,13 +99,18 @@ fn put_copy<L: Ledger>(
     row: &Row,
     changes: &mut Steps<L>,
 ) -> Result<bool, Memory> {
-    let copy = Row {
-        source: row.source,
-        source_port: row.source_port,
-        target: row.target,
-        target_port: row.target_port,
-        rank: row.rank.copy(alloc)?,
-        chain: row.chain.copy(alloc)?,
-    };
-    table.insert_row(copy, changes)
+    match (row.rank.copy(alloc), row.chain.copy(alloc)) {
+        (Ok(rank), Ok(chain)) => table.insert_row(
+            Row {
+                source: row.source,
+                source_port: row.source_port,
+                target: row.target,
+                target_port: row.target_port,
+                rank,
+                chain,
+            },
+            changes,
+        ),
+        _ => Err(Memory),
+    }
 }

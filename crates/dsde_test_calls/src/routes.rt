@@ -14,7 +14,6 @@
 //! changes.
 //!
 //! What is made of a script is not dropped: the program ends soon.
-#![tactic(auto)]
 
 ghost use Rattle.std.specs.Prelude.{◌≡◌, ◌<◌};
 
@@ -23,7 +22,7 @@ mod parts;
 mod rows;
 mod script;
 
-use crate::script::Script;
+use crate::routes::script::Script;
 use dsde_base::Steps;
 use dsde_lists::Memory;
 use std::alloc::Global;
@@ -32,7 +31,7 @@ use std::mem;
 use std::sync::ledger::{Blank, Ledger};
 
 /// Appends what comes of the lines of a script, and of what is drawn behind them.
-pub fn append_all(alloc: Global, answers: &mut String, file: &str) -> Result<(), Memory> {
+pub(crate) fn append_all(alloc: Global, answers: &mut String, file: &str) -> Result<(), Memory> {
     let file = String::from_str(alloc, file)?;
     append_told::<Brand>(alloc, answers, &file, Blank::new(1))
 }
@@ -50,7 +49,8 @@ fn append_told<L: Ledger>(
 {
     let mut changes = Steps::<L>::new(blank);
     let mut script = Script::new(alloc);
-    let told = script.take_file(alloc, file.as_str(), &mut changes, answers);
+    script.take_file(alloc, file.as_str(), &mut changes, answers);
+    let lost = script.lost;
     mem::forget(script);
-    told
+    if lost { Err(Memory) } else { Ok(()) }
 }
