@@ -16,6 +16,6 @@ mod wired;
 pub use fits::fits_change;
 pub use handles::{add_beneath, add_handles};
 pub use repairing::repair;
-pub use rows::{inside_rows, net_rows};
+pub use rows::net_rows;
 pub use ways::{passing_ways, past_ways};
 pub use wired::net_at;

@@ -10,24 +10,26 @@ ghost use Rattle.dsde_routes_wiring.specs.declared.wiring.WiredKid.{WiredKid};
 ghost use Rattle.dsde_routes_wiring.specs.declared.wiring.Wiring.{Wiring};
 ghost use Rattle.dsde_routes_wiring.specs.declared.wiring.WiredKid.TheViews.{out-Wiring};
 ghost use Rattle.dsde_routes_wiring.specs.Routes.{row_of, routes};
-ghost use Rattle.dsde_routes_wiring.specs.Places.{bared, changed, going, inside, kids_at, nets_at, renewed, staying};
+ghost use Rattle.dsde_routes_wiring.specs.Places.{changed, going, inside, kids_at, nets_at, renewed};
 ghost use Rattle.dsde_routes_wiring.specs.Touched.{handles_of, handles_of_kid, is_touched};
 ghost use Rattle.dsde_routes_wiring.specs.Flatten.{flatten};
 ghost use Rattle.dsde_repair_walks.specs.Found.{InOrder, name_of};
 ghost use Rattle.dsde_repair_walks.specs.Places.{IsBelowWired};
-ghost use Rattle.dsde_repair.specs.Change.{LeadsThere, kids_after, wiring_after};
+ghost use Rattle.dsde_repair.specs.Change.{LeadsThere, kids_after, rows_in, rows_out, wiring_after};
 
 use crate::order::in_order;
-use crate::parts::{exchange, part};
-use crate::rows::inside_rows;
-use crate::through::passing_rows;
+use crate::parts::part;
+use crate::rows::add_inside;
+use crate::through::add_through;
 use dsde_base::Steps;
 use dsde_lists::Memory;
 use dsde_repair_walks::given::routes_table::RouteTable;
-use dsde_repair_walks::{renew, take_out};
+use dsde_repair_walks::{insert_all, remove_all, renew, take_out};
+use dsde_routes_wiring::given::structure::Link;
 use dsde_routes_wiring::{Links, Row, WiredKid, Wiring};
 use dsde_values::{Name, Seq};
 use std::alloc::Global;
+use std::mem;
 use std::sync::ledger::Ledger;
 
 /// Changes the network at a place of a wiring, and the table of the wiring's rows with it: these
@@ -39,8 +41,8 @@ pub fn repair<L: Ledger>(
     wiring: &mut Wiring,
     place: &[Name],
     gone: &[Name],
-    fresh: Seq<WiredKid>,
-    links: Links,
+    mut fresh: Seq<WiredKid>,
+    mut links: Links,
     changes: &mut Steps<L>,
 ) -> Result<(), Memory>
     requires table { table.old ≡ flatten wiring.old }
@@ -59,55 +61,78 @@ pub fn repair<L: Ledger>(
     ensures ticks { OnOk result ((net : Wiring) → nets_at place.now wiring.old ≡ net ∷ [] →
         changes.new ≡ changes.old + count (is_touched (out-Wiring net).me (handles_of wiring.new)) (routes wiring.old) + count (is_touched (out-Wiring net).me (handles_of wiring.old)) (routes wiring.new)) }
 {
-    let passing = passing_rows(alloc, wiring, place)?;
-    let moved = exchange_kids(alloc, wiring, place, gone, fresh, links)?;
-    let passing_then = passing_rows(alloc, wiring, place)?;
-    let coming = moved.coming;
-    exchange(
-        table,
-        passing.as_slice(),
-        moved.going.as_slice(),
-        coming,
-        passing_then,
-        changes,
-    )
+    let mut old = room_for(alloc, place, wiring.links.as_slice());
+    let mut new = room_for(alloc, place, links.as_slice());
+    change(
+        alloc, wiring, place, gone, &mut fresh, &mut links, &mut old, &mut new,
+    )?;
+    remove_all(table, old.as_slice(), changes);
+    insert_all(table, new, changes)
 }
 
-/// The rows inside the components that go, and inside those that come.
-#[derive(Drop)]
-struct Moved {
-    going: Seq<Row>,
-    coming: Seq<Row>,
+/// No rows, with room for those of a network at the root, if there is memory: there mostly each link is a
+/// row, and the list would be moved again and again as it grows.
+fn room_for(alloc: Global, place: &[Name], links: &[Link]) -> Seq<Row>
+    ensures { result ≡ [] }
+{
+    if place.is_empty() {
+        Seq::with_room(alloc, links.len()).unwrap_or(Seq::new(alloc))
+    } else {
+        Seq::new(alloc)
+    }
 }
 
-/// The components that stay, and the rows inside those that go.
-#[derive(Drop)]
-struct Taken {
-    staying: Seq<WiredKid>,
-    going: Seq<Row>,
-}
-
-/// Takes the components at a place out, and parts them.
-fn take_parted(
+/// Changes the network at a place of a wiring, and adds the rows that the change takes out of the wiring's
+/// table to the old ones, and those that it puts in to the new ones. The fresh components and the links are
+/// taken out of what is handed in, so that after an error there is one place where they are dropped.
+fn change(
     alloc: Global,
     wiring: &mut Wiring,
     place: &[Name],
     gone: &[Name],
-) -> Result<Taken, Memory>
+    fresh: &mut Seq<WiredKid>,
+    links: &mut Links,
+    old: &mut Seq<Row>,
+    new: &mut Seq<Row>,
+) -> Result<(), Memory>
     requires there { LeadsThere place.now wiring.old }
     requires wired { AreWired wiring.old }
     requires gone { AreInOrder gone.now }
-    ensures going { IfOk result (λ taken. taken.going ≡ map row_of (inside (going gone.now (kids_at place.now wiring.old)))) }
-    ensures staying { IfOk result (λ taken. taken.staying ≡ staying gone.now (kids_at place.now wiring.old)) }
-    ensures wiring { OnOk result (wiring.new ≡ changed place.now bared wiring.old) }
+    requires names { IsDistinct is_same_name (map name_of (kids_after place.now gone.now fresh.old wiring.old)) }
+    requires below { AllByRecursion IsBelowWired fresh.old }
+    requires links { AllByRecursion LeadsInside links.old }
+    ensures wiring { OnOk result ((kids : List WiredKid) × IsPermutation (kids_after place.now gone.now fresh.old wiring.old) kids × InOrder kids × (wiring.new ≡ wiring_after place.now kids links.old wiring.old)) }
+    ensures old { OnOk result (old.new ≡ old.old ++ rows_out place.now gone.now wiring.old) }
+    ensures new { OnOk result (new.new ≡ new.old ++ rows_in place.now fresh.old wiring.new) }
+{
+    add_through(alloc, wiring, true, place, old)?;
+    add_inside(alloc, fresh.as_slice(), new)?;
+    change_kids(alloc, wiring, place, gone, fresh, links, old)?;
+    add_through(alloc, wiring, true, place, new)
+}
+
+/// Changes the network at a place of a wiring, and adds the rows inside the components that go.
+fn change_kids(
+    alloc: Global,
+    wiring: &mut Wiring,
+    place: &[Name],
+    gone: &[Name],
+    fresh: &mut Seq<WiredKid>,
+    links: &mut Links,
+    rows: &mut Seq<Row>,
+) -> Result<(), Memory>
+    requires there { LeadsThere place.now wiring.old }
+    requires wired { AreWired wiring.old }
+    requires gone { AreInOrder gone.now }
+    requires names { IsDistinct is_same_name (map name_of (kids_after place.now gone.now fresh.old wiring.old)) }
+    ensures wiring { OnOk result ((kids : List WiredKid) × IsPermutation (kids_after place.now gone.now fresh.old wiring.old) kids × InOrder kids × (wiring.new ≡ wiring_after place.now kids links.old wiring.old)) }
+    ensures rows { OnOk result (rows.new ≡ rows.old ++ map row_of (inside (going gone.now (kids_at place.now wiring.old)))) }
 {
     let kids = take_out(alloc, wiring, place)?;
-    let parted = part(alloc, kids, gone)?;
-    let going = inside_rows(alloc, parted.going.as_slice())?;
-    Ok(Taken {
-        staying: parted.staying,
-        going,
-    })
+    let staying = part(alloc, kids, gone, rows)?;
+    let fresh = mem::replace(fresh, Seq::new(alloc));
+    let links = mem::replace(links, Links::new(alloc));
+    put_in_order(alloc, wiring, place, staying, fresh, links)
 }
 
 /// Gives the network at a place the components that stay and the fresh ones, in the order of their names,
@@ -126,48 +151,4 @@ fn put_in_order(
 {
     let kids = in_order(alloc, staying, fresh)?;
     renew(alloc, wiring, place, links, kids)
-}
-
-/// Changes the network at a place of a wiring, and gives the rows inside the components that go.
-fn change_kids(
-    alloc: Global,
-    wiring: &mut Wiring,
-    place: &[Name],
-    gone: &[Name],
-    fresh: Seq<WiredKid>,
-    links: Links,
-) -> Result<Seq<Row>, Memory>
-    requires there { LeadsThere place.now wiring.old }
-    requires wired { AreWired wiring.old }
-    requires gone { AreInOrder gone.now }
-    requires names { IsDistinct is_same_name (map name_of (kids_after place.now gone.now fresh wiring.old)) }
-    ensures wiring { OnOk result ((kids : List WiredKid) × IsPermutation (kids_after place.now gone.now fresh wiring.old) kids × InOrder kids × (wiring.new ≡ wiring_after place.now kids links wiring.old)) }
-    ensures going { IfOk result (λ rows. rows ≡ map row_of (inside (going gone.now (kids_at place.now wiring.old)))) }
-{
-    let taken = take_parted(alloc, wiring, place, gone)?;
-    put_in_order(alloc, wiring, place, taken.staying, fresh, links)?;
-    Ok(taken.going)
-}
-
-/// Changes the network at a place of a wiring.
-fn exchange_kids(
-    alloc: Global,
-    wiring: &mut Wiring,
-    place: &[Name],
-    gone: &[Name],
-    fresh: Seq<WiredKid>,
-    links: Links,
-) -> Result<Moved, Memory>
-    requires there { LeadsThere place.now wiring.old }
-    requires wired { AreWired wiring.old }
-    requires gone { AreInOrder gone.now }
-    requires names { IsDistinct is_same_name (map name_of (kids_after place.now gone.now fresh wiring.old)) }
-    requires below { AllByRecursion IsBelowWired fresh }
-    ensures wiring { OnOk result ((kids : List WiredKid) × IsPermutation (kids_after place.now gone.now fresh wiring.old) kids × InOrder kids × (wiring.new ≡ wiring_after place.now kids links wiring.old)) }
-    ensures going { IfOk result (λ moved. moved.going ≡ map row_of (inside (going gone.now (kids_at place.now wiring.old)))) }
-    ensures coming { IfOk result (λ moved. moved.coming ≡ map row_of (inside fresh)) }
-{
-    let coming = inside_rows(alloc, fresh.as_slice())?;
-    let going = change_kids(alloc, wiring, place, gone, fresh, links)?;
-    Ok(Moved { going, coming })
 }

@@ -127,7 +127,11 @@ pub fn net_rows(alloc: Global, net: &Wiring, whole: bool, rows: &mut Seq<Row>) -
 
 /// Adds the rows inside components.
 #[cycle(adding)]
-fn add_inside(alloc: Global, kids: &[WiredKid], rows: &mut Seq<Row>) -> Result<(), Memory>
+pub(crate) fn add_inside(
+    alloc: Global,
+    kids: &[WiredKid],
+    rows: &mut Seq<Row>,
+) -> Result<(), Memory>
     requires { AllByRecursion IsBelowWired kids.now }
     ensures { OnOk result (rows.new ≡ rows.old ++ map row_of (inside kids.now)) }
 {
@@ -139,7 +143,7 @@ fn add_inside(alloc: Global, kids: &[WiredKid], rows: &mut Seq<Row>) -> Result<(
 
 /// Adds the rows inside one.
 #[cycle(adding)]
-fn add_kid(alloc: Global, kid: &WiredKid, rows: &mut Seq<Row>) -> Result<(), Memory>
+pub(crate) fn add_kid(alloc: Global, kid: &WiredKid, rows: &mut Seq<Row>) -> Result<(), Memory>
     requires { IsBelowWired kid.now }
     ensures { OnOk result (rows.new ≡ rows.old ++ map row_of (inner_of_kid kid.now).1.routes) }
 {
@@ -147,14 +151,4 @@ fn add_kid(alloc: Global, kid: &WiredKid, rows: &mut Seq<Row>) -> Result<(), Mem
         None => Ok(()),
         Some(below) => net_rows(alloc, below.get(), false, rows),
     }
-}
-
-/// The rows inside components.
-pub fn inside_rows(alloc: Global, kids: &[WiredKid]) -> Result<Seq<Row>, Memory>
-    requires { AllByRecursion IsBelowWired kids.now }
-    ensures { IfOk result (λ rows. rows ≡ map row_of (inside kids.now)) }
-{
-    let mut rows = Seq::new(alloc);
-    add_inside(alloc, kids, &mut rows)?;
-    Ok(rows)
 }

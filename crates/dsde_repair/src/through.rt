@@ -123,9 +123,9 @@ fn into_all(
     Ok(())
 }
 
-/// Adds the rows that pass a place.
+/// Adds the rows of the routes that use a link of the network at a place.
 #[cycle(through)]
-fn add_through(
+pub(crate) fn add_through(
     alloc: Global,
     net: &Wiring,
     whole: bool,
@@ -164,21 +164,4 @@ fn add_beneath(
             Some(below) => add_through(alloc, below.get(), false, rest, rows),
         },
     }
-}
-
-/// The rows of the routes that use a link of the network at a place.
-pub fn passing_rows(alloc: Global, wiring: &Wiring, place: &[Name]) -> Result<Seq<Row>, Memory>
-    requires { AreWired wiring.now }
-    ensures { IfOk result (λ rows. rows ≡ map row_of (through (own (out-Wiring wiring.now).me) place.now wiring.now)) }
-{
-    // At the root mostly each link is a row: room for them once, or the list is moved again and again as it
-    // grows.
-    let room = if place.is_empty() {
-        wiring.links.as_slice().len()
-    } else {
-        0
-    };
-    let mut rows = Seq::with_room(alloc, room)?;
-    add_through(alloc, wiring, true, place, &mut rows)?;
-    Ok(rows)
 }

@@ -51,22 +51,30 @@ fn behind_link(alloc: Global, link: &Link, chain: &Chain) -> Result<Chain, Memor
     Ok(vias)
 }
 
+/// Adds the links of a way to a place and of a way on from there to a row.
+fn join(alloc: Global, before: &Way, after: &Way, row: &mut Row) -> Result<(), Memory>
+    ensures { OnOk result (row.new ≡ record row.old { rank = (row.old.rank ++ after.now.rank) ++ before.now.rank; chain = (row.old.chain ++ before.now.chain) ++ after.now.chain }) }
+{
+    row.rank.append(after.rank.as_slice())?;
+    row.rank.append(before.rank.as_slice())?;
+    row.chain.append(alloc, before.chain.as_slice())?;
+    row.chain.append(alloc, after.chain.as_slice())
+}
+
 /// The row of a way to a place and a way on from there.
 fn row(alloc: Global, before: &Way, after: &Way) -> Result<Row, Memory>
     ensures { IfOk result (λ own. own ≡ met_row before.now after.now) }
 {
-    let mut rank = after.rank.copy(alloc)?;
-    rank.append(before.rank.as_slice())?;
-    let mut chain = before.chain.copy(alloc)?;
-    chain.append(alloc, after.chain.as_slice())?;
-    Ok(Row {
+    let mut row = Row {
         source: before.handle,
         source_port: before.port,
         target: after.handle,
         target_port: after.port,
-        rank,
-        chain,
-    })
+        rank: Rank::new(alloc),
+        chain: Chain::new(alloc),
+    };
+    join(alloc, before, after, &mut row)?;
+    Ok(row)
 }
 
 fn meet(alloc: Global, before: &Way, afters: &[Way], rows: &mut Seq<Row>) -> Result<(), Memory>
