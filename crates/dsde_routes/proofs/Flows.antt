@@ -23,8 +23,8 @@ use Rattle.dsde_routes_wiring.specs.Opened.{kids_of, below_of, flow-opens, flow_
 use Rattle.dsde_routes.specs.declared.sent.Sent.{Sent}
 use Rattle.dsde_routes.specs.Passing.{ways_in, at_port, carry, passing, ways_of, ways_out, found, from_parts, rows_by}
 use Rattle.dsde_routes.specs.Sents.{added}
-use Rattle.dsde_routes.specs.Passing.{comes_to}
-use Rattle.dsde_routes.specs.Putting.{put_all, rows_beneath, rows_to_kid, rows_to_kids, out_passing}
+use Rattle.dsde_routes.specs.declared.comes.Comes.{Comes}
+use Rattle.dsde_routes.specs.Putting.{comes_to, put_all, rows_beneath, rows_to_kid, rows_to_kids, out_passing, ways_to}
 use Rattle.dsde_routes_wiring.specs.Sets.{Rows, row_cmp, row_cmp-total, row_cmp-same}
 use Rattle.std.specs.FinSet as set
 use Rattle.std.specs.List.{flat_map, list_any}
@@ -150,27 +150,27 @@ kid-rows links sources kid =
     ap (λ (own : KidFlow). flat_map rows_at (own.sites links sources)) (flow_kid-opens kid)
     ∙ kid_step-rows (out-WiredKid kid).name (out-WiredKid kid).handle links sources (below_of kid)
 
-kids-rows : (links : List Link) (sources : Sources) (comes : List (Name × List Passing)) → ((name : Name) → comes_to comes name ≡ passing (from_part sources) 0 links (part.Kid name)) → (kids : List WiredKid) →
+kids-rows : (links : List Link) (sources : Sources) (comes : Comes) → ((name : Name) → comes_to comes name ≡ passing (from_part sources) 0 links (part.Kid name)) → (kids : List WiredKid) →
     flat_map rows_at (flat_map (λ (kid : KidFlow). kid.sites links sources) (map flow_of_kid kids)) ≡ rows_to_kids comes kids
 kids-rows links sources comes come [] = refl
 kids-rows links sources comes come (kid ∷ kids) =
     flat_map-append rows_at ((flow_of_kid kid).sites links sources) (flat_map (λ (kid : KidFlow). kid.sites links sources) (map flow_of_kid kids))
     ∙ (λ i. (kid-rows links sources kid ∙ ap (rows_to_kid kid) (sym (come (out-WiredKid kid).name))) i ++ kids-rows links sources comes come kids i)
 
+-- the ways to a part, by what is found
+pub ways-found : (net : Wiring) (got : Ways) (sents : List (Name × Sent)) → Sends sents (map flow_of_kid (kids_of net)) → (part : Part) → passing (from_parts got (out-Wiring net).boss sents) 0 (out-Wiring net).links part ≡ ways_to net got part
+ways-found net got sents sends part = ap (λ (from : Part → Ways). passing from 0 (out-Wiring net).links part) (λ i own. sym (same-from got (out-Wiring net).boss sents (map flow_of_kid (kids_of net)) sends own) i)
+
 -- the rows beneath a network
-pub net-rows : (net : Wiring) (got : Ways) (sents : List (Name × Sent)) (comes : List (Name × List Passing)) (list : List Passing) → Sends sents (map flow_of_kid (kids_of net)) →
-    ((name : Name) → comes_to comes name ≡ passing (from_parts got (out-Wiring net).boss sents) 0 (out-Wiring net).links (part.Kid name)) →
-    list ≡ passing (from_parts got (out-Wiring net).boss sents) 0 (out-Wiring net).links part.Boss →
-    rows_to_kids comes (kids_of net) ++ rows_by (out-Wiring net).boss list ≡ rows_beneath (flow net) got
-net-rows net got sents comes list sends come is =
+pub net-rows : (net : Wiring) (got : Ways) (comes : Comes) → comes.boss ≡ ways_to net got part.Boss → ((name : Name) → comes_to comes name ≡ ways_to net got (part.Kid name)) →
+    rows_to_kids comes (kids_of net) ++ rows_by (out-Wiring net).boss comes.boss ≡ rows_beneath (flow net) got
+net-rows net got comes is come =
     let boss = (out-Wiring net).boss in
     let links = (out-Wiring net).links in
     let kids = map flow_of_kid (kids_of net) in
     let sources : Sources = sources_of boss kids got in
-    let same : (part : Part) → passing (from_parts got boss sents) 0 links part ≡ passing (from_part sources) 0 links part =
-    λ part. ap (λ (from : Part → Ways). passing from 0 links part) (λ i own. sym (same-from got boss sents kids sends own) i) in
-    (λ i. sym (kids-rows links sources comes (λ name. come name ∙ same (part.Kid name)) (kids_of net)) i
-    ++ (ap (rows_by boss) (is ∙ same part.Boss) ∙ sym (rows-passing boss part.Boss sources 0 links) ∙ sym (append-nil (rows_into boss part.Boss sources 0 links))) i)
+    (λ i. sym (kids-rows links sources comes come (kids_of net)) i
+    ++ (ap (rows_by boss) is ∙ sym (rows-passing boss part.Boss sources 0 links) ∙ sym (append-nil (rows_into boss part.Boss sources 0 links))) i)
     ∙ sym (flat_map-append rows_at (flat_map (λ (kid : KidFlow). kid.sites links sources) kids) (record { part = boss; end = part.Boss; links = links; sources = sources } ∷ []))
     ∙ ap (λ (own : NetFlow). rows_beneath own got) (sym (flow-opens net))
 
@@ -209,11 +209,11 @@ put-empty list =
     or-false false = refl
 
 -- the whole
-pub whole : (net : Wiring) (list : List Passing) → list ≡ out_passing net → put_all (put_all set.empty (rows_beneath (flow net) (begin (out-Wiring net).me))) (rows_by (out-Wiring net).me list) ≡ flatten net
-whole net list is =
+pub whole : (net : Wiring) → put_all (put_all set.empty (rows_beneath (flow net) (begin (out-Wiring net).me))) (rows_by (out-Wiring net).me (out_passing net)) ≡ flatten net
+whole net =
     let me : (out-Wiring net).me ≡ (flow net).out.part = ap (λ (own : NetFlow). own.out.part) (sym (flow-opens net)) in
     let end : (flow net).out.end ≡ part.Net = ap (λ (own : NetFlow). own.out.end) (flow-opens net) in
-    (λ i. put_all (put_all set.empty (rows_beneath (flow net) (begin (me i)))) (rows_by (me i) (is i)))
+    (λ i. put_all (put_all set.empty (rows_beneath (flow net) (begin (me i)))) (rows_by (me i) (out_passing net)))
     ∙ sym (put-append set.empty (rows_beneath (flow net) (begin (flow net).out.part)) (rows_by (flow net).out.part (out_passing net)))
     ∙ ap (put_all set.empty) (
     ap (λ (own : List Row). rows_beneath (flow net) (begin (flow net).out.part) ++ own)
@@ -229,7 +229,7 @@ pub rows-more : (target : Handle) (table : Rows) (list : List Passing) (index : 
 rows-more target table list index own within is =
     ap (λ (rest : List Passing). put_all table (rows_by target rest)) (drop_more list index own within ∙ ap (λ (p : Passing). p ∷ drop (index + 1) list) (sym is))
 
-pub kids-more : (comes : List (Name × List Passing)) (table : Rows) (kids : List WiredKid) (index : ℕ) (kid : WiredKid) → index < length kids → kid ≡ get_or kids index kid →
+pub kids-more : (comes : Comes) (table : Rows) (kids : List WiredKid) (index : ℕ) (kid : WiredKid) → index < length kids → kid ≡ get_or kids index kid →
     put_all table (rows_to_kids comes (drop index kids)) ≡ put_all (put_all table (rows_to_kid kid (comes_to comes (out-WiredKid kid).name))) (rows_to_kids comes (drop (index + 1) kids))
 kids-more comes table kids index kid within is =
     ap (λ (rest : List WiredKid). put_all table (rows_to_kids comes rest)) (drop_more kids index kid within ∙ ap (λ (own : WiredKid). own ∷ drop (index + 1) kids) (sym is))
@@ -259,5 +259,5 @@ ticked table row new is_new before after first len is fresh ticks known =
 pub rows-none : (target : Handle) (table whole : Rows) (list : List Passing) (index : ℕ) → length list ≤ index → put_all table (rows_by target (drop index list)) ≡ whole → table ≡ whole
 rows-none target table whole list index past is = ap (λ (rest : List Passing). put_all table (rows_by target rest)) (sym (drop_all index list past)) ∙ is
 
-pub kids-done : (comes : List (Name × List Passing)) (table whole : Rows) (kids : List WiredKid) (index : ℕ) → length kids ≤ index → put_all table (rows_to_kids comes (drop index kids)) ≡ whole → table ≡ whole
+pub kids-done : (comes : Comes) (table whole : Rows) (kids : List WiredKid) (index : ℕ) → length kids ≤ index → put_all table (rows_to_kids comes (drop index kids)) ≡ whole → table ≡ whole
 kids-done comes table whole kids index past is = ap (λ (rest : List WiredKid). put_all table (rows_to_kids comes rest)) (sym (drop_all index kids past)) ∙ is

@@ -1,6 +1,6 @@
 -- What is found by names.
-use Rattle.std.specs.Option.{option_copied}
-use Rattle.std.proofs.Common.{Bor, is_some, rules, ◌≡◌, Bool, true, false, cond, List, [], ◌∷◌, ◌++◌, refl, sym, ap, ◌∙◌, Option, Some, None, Less, Equal, Greater, Ordering}
+use Rattle.std.proofs.Common.{rules, ◌≡◌, unwrap_or, Bool, true, false, cond, List, [], ◌∷◌, ◌++◌, refl, sym, ap, ◌∙◌, Option, Some, None, Less, Equal, Greater, Ordering}
+use Rattle.std.specs.BTreeMap.{BTreeMap, get}
 use Rattle.std.specs.Map.{lookup}
 use Rattle.std.specs.Ordering.{is_eq}
 use Rattle.std.specs.Cmp.{IsTotalOrder}
@@ -10,7 +10,7 @@ use Rattle.dsde_values.specs.Path.{name_cmp}
 use Rattle.dsde_routes_wiring.specs.given.structure.Gather.{is_same_name}
 use Rattle.dsde_routes.specs.declared.sent.Sent.{Sent}
 use Rattle.dsde_routes_wiring.specs.declared.row.Passing.{Passing}
-use Rattle.dsde_routes.specs.Passing.{found, is_name, in_list, comes_to}
+use Rattle.dsde_routes.specs.Passing.{found, is_name}
 use Rattle.std.proofs.lemmas.List.{append-nil}
 use Rattle.dsde_routes.specs.Sents.{added}
 
@@ -31,47 +31,26 @@ module _ {X : Type 0} where
       by Equal is = refl
       by Greater is = absurd (cc)
 
-pub add-new : (name : Name) (sent : Sent) (kids : List (Name × Sent)) (other : Name) → found kids name ≡ None → cond (is_same_name name other) (Some sent) (found kids other) ≡ added name sent kids other
-add-new name sent kids other none = by (is_same_name name other) refl (found kids other) refl
+-- the first that is sent under a name stays
+pub add-first : (key name other : Name) (sent kept : Sent) (old new : List (Name × Sent)) → key ≡ name → kept ≡ unwrap_or (found old key) sent → found new other ≡ cond (is_same_name key other) (Some kept) (found old other)
+    → (entries : List (Name × Sent)) → entries ≡ new → found entries other ≡ added name sent old other
+add-first key name other sent kept old new here is put entries same =
+    ap (λ own. found own other) same ∙ put ∙ by (is_same_name key other) refl (found old other) refl ∙ ap (λ own. added own sent old other) here
   where
-    by : (b : Bool) → is_same_name name other ≡ b → (o : Option Sent) → found kids other ≡ o → cond b (Some sent) o ≡ (elim o [ Some own ↦ Some own | None ↦ cond b (Some sent) None ])
-    by true is None found = refl
-    by true is (Some own) found = absurd (let wrong : None ≡ Some own = sym none ∙ lookup-tied name other is kids ∙ found in cc)
-    by false is None found = refl
-    by false is (Some own) found = refl
-
-pub add-known : (name : Name) (sent own : Sent) (kids : List (Name × Sent)) (other : Name) → found kids name ≡ Some own → found kids other ≡ added name sent kids other
-add-known name sent own kids other known = by (is_same_name name other) refl (found kids other) refl
-  where
-    by : (b : Bool) → is_same_name name other ≡ b → (o : Option Sent) → found kids other ≡ o → o ≡ (elim o [ Some own ↦ Some own | None ↦ cond b (Some sent) None ])
-    by true is None found = absurd (let wrong : Some own ≡ None = sym known ∙ lookup-tied name other is kids ∙ found in cc)
-    by true is (Some one) found = refl
-    by false is None found = refl
-    by false is (Some one) found = refl
-
-pub none-from : {X : Type 0} (o : Option (Bor X)) → is_some o ≡ false → option_copied o ≡ None
-none-from None is = refl
-none-from (Some x) is = absurd (cc)
-
-pub some-from : {X : Type 0} (o : Option (Bor X)) → is_some o ≡ true → (x : X) × (option_copied o ≡ Some x)
-some-from None is = absurd (cc)
-some-from (Some x) is = (x.now, refl)
-
--- what comes to a name, where another was written
-pub comes-written : (found : Option (List Passing)) (b : Bool) (new : List Passing) (old : Option (List Passing)) → found ≡ cond b (Some new) old → in_list found ≡ cond b new (in_list old)
-comes-written found true new old is = ap in_list is
-comes-written found false new old is = ap in_list is
-
-pub comes-left : (found : Option (List Passing)) (b : Bool) (old : Option (List Passing)) → found ≡ cond b None old → in_list found ≡ cond b [] (in_list old)
-comes-left found true old is = ap in_list is
-comes-left found false old is = ap in_list is
+    by : (b : Bool) → is_same_name key other ≡ b → (o : Option Sent) → found old other ≡ o → cond b (Some kept) o ≡ (elim o [ Some own ↦ Some own | None ↦ cond b (Some sent) None ])
+    by true tied None none = ap Some (is ∙ ap (λ o. unwrap_or o sent) (lookup-tied key other tied old ∙ none))
+    by true tied (Some own) some = ap Some (is ∙ ap (λ o. unwrap_or o sent) (lookup-tied key other tied old ∙ some))
+    by false tied None none = refl
+    by false tied (Some own) some = refl
 
 -- more comes to one name
-pub more-to : (name other : Name) (old mid new : List (Name × List Passing)) (more : List Passing) →
-    comes_to mid other ≡ cond (is_same_name name other) [] (comes_to old other) → comes_to new other ≡ cond (is_same_name name other) (comes_to old name ++ more) (comes_to mid other) →
-    comes_to new other ≡ comes_to old other ++ cond (is_same_name name other) more []
-more-to name other old mid new more left put = by (is_same_name name other) refl left put
+pub more-to : (key name other : Name) (old new : BTreeMap Name (List Passing)) (list whole more : List Passing) → key ≡ name → list ≡ unwrap_or (get name_cmp old key) [] → whole ≡ list ++ more →
+    get name_cmp new other ≡ cond (is_same_name key other) (Some whole) (get name_cmp old other) → (entries : List (Name × List Passing)) → entries ≡ new.entries →
+    unwrap_or (lookup (is_name other) entries) [] ≡ unwrap_or (get name_cmp old other) [] ++ cond (is_same_name name other) more []
+more-to key name other old new list whole more here had is put entries same =
+    ap (λ own. unwrap_or (lookup (is_name other) own) []) same
+    ∙ by (is_same_name key other) refl put ∙ ap (λ own. unwrap_or (get name_cmp old other) [] ++ cond (is_same_name own other) more []) here
   where
-    by : (b : Bool) → is_same_name name other ≡ b → comes_to mid other ≡ cond b [] (comes_to old other) → comes_to new other ≡ cond b (comes_to old name ++ more) (comes_to mid other) → comes_to new other ≡ comes_to old other ++ cond b more []
-    by true is left put = put ∙ ap (λ (o : Option (List Passing)). in_list o ++ more) (lookup-tied name other is old)
-    by false is left put = put ∙ left ∙ sym (append-nil (comes_to old other))
+    by : (b : Bool) → is_same_name key other ≡ b → get name_cmp new other ≡ cond b (Some whole) (get name_cmp old other) → unwrap_or (get name_cmp new other) [] ≡ unwrap_or (get name_cmp old other) [] ++ cond b more []
+    by true tied put = ap (λ own. unwrap_or own []) put ∙ is ∙ ap (λ own. own ++ more) (had ∙ ap (λ own. unwrap_or own []) (lookup-tied key other tied old.entries))
+    by false tied put = ap (λ own. unwrap_or own []) put ∙ sym (append-nil (unwrap_or (get name_cmp old other) []))

@@ -1,5 +1,5 @@
 -- The ways at a port are those of its numbers.
-use Rattle.std.proofs.Common.{◌≡◌, ℕ, zero, suc, ◌+◌, ◌<◌, ◌≤◌, Bool, true, false, List, [], ◌∷◌, ◌++◌, map, get_or, length, slice_get, refl, sym, ap, ◌∙◌, append_assoc, length-append, arith, Option, Some, None, Result, Ok, Err, OnOk}
+use Rattle.std.proofs.Common.{◌≡◌, ℕ, zero, suc, ◌+◌, ◌<◌, ◌≤◌, Bool, true, false, List, [], ◌∷◌, ◌++◌, map, get_or, length, slice_get, refl, sym, ap, ◌∙◌, append_assoc, length-append, arith, Option, Some, None, Result, Ok, Err, OnOk, IfOk}
 use Rattle.std.specs.Prelude.{◌==◌, filter, if◌then◌else◌}
 use Rattle.std.specs.List.{flat_map, enumerate_from}
 use Rattle.dsde_routes_wiring.specs.declared.row.Way.{Way}
@@ -58,3 +58,7 @@ way-some list number passing lt is = ap way_of (one-item list number passing lt 
 pub ok-map : {X E : Type 0} (result : Result X E) (P Q : Type 0) → (P → Q) → OnOk result P → OnOk result Q
 ok-map (Ok value) P Q gives holds = gives holds
 ok-map (Err end) P Q gives holds = tt
+
+pub ok-if : {X E : Type 0} (result : Result X E) (P Q : X → Type 0) → ((value : X) → P value → Q value) → IfOk result P → IfOk result Q
+ok-if (Ok value) P Q gives holds = gives value holds
+ok-if (Err end) P Q gives holds = tt

@@ -64,11 +64,3 @@ from_parts come boss kids (part.Kid name) = ways_out (found kids name)
 
 abbrev pub rows_by : Handle → List Passing → List Row
 rows_by target list = map (λ passing. row_of target passing.port passing.way) list
-
--- what comes to a component
-abbrev pub in_list : Option (List Passing) → List Passing
-in_list None = []
-in_list (Some list) = list
-
-abbrev pub comes_to : List (Name × List Passing) → Name → List Passing
-comes_to kids name = in_list (lookup (is_name name) kids)

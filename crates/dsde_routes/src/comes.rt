@@ -1,43 +1,37 @@
-//! What comes to the components of a network.
+//! What comes to the parts of a network.
 
-ghost use Rattle.std.specs.Prelude.{◌≡◌, [], ◌++◌, OnOk, if◌then◌else◌};
+ghost use Rattle.std.specs.Prelude.{◌≡◌, [], ◌++◌, IfOk, OnOk, if◌then◌else◌};
 ghost use Rattle.dsde_values.specs.declared.name.Name.{Name};
-ghost use Rattle.dsde_routes_wiring.specs.given.structure.Gather.{is_same_name};
-ghost use Rattle.dsde_routes.specs.Passing.{comes_to};
+ghost use Rattle.dsde_routes_wiring.specs.given.structure.Gather.{is_part};
+ghost use Rattle.dsde_routes_wiring.specs.given.structure.plan_Part_TheVariants as part;
+ghost use Rattle.dsde_routes.specs.Passing.{carry, come_of, from_parts, passing};
+ghost use Rattle.dsde_routes.specs.Putting.{comes_to, ways_to};
 
+use crate::carry::{Come, carry};
+use crate::sending::sents;
+use crate::sent::Sents;
+use dsde_bank::Handle;
 use dsde_lists::Memory;
-use dsde_routes_wiring::Passing;
+use dsde_routes_wiring::given::structure::{Link, Part};
+use dsde_routes_wiring::{Passing, Wiring};
 use dsde_values::{Name, Seq};
 use std::alloc::Global;
 use std::collections::BTreeMap;
-use std::marker::Model;
 
-/// The ways that come to the components of a network, by their names.
+/// The ways that come to the executive of a network, and to its components, by their names.
 #[derive(Drop)]
 pub struct Comes {
+    pub boss: Seq<Passing>,
     kids: BTreeMap<Name, Seq<Passing>>,
 }
 
-impl Model for Comes {
-    ghost use Rattle.std.specs.Prelude.{List};
-    ghost use Rattle.std.specs.Coded.{coded_list, coded×};
-    ghost use Rattle.dsde_values.specs.declared.name.Name.{Name};
-    ghost use Rattle.dsde_values.specs.contracts.name.Name as name;
-    ghost use Rattle.dsde_routes_wiring.specs.declared.row.Passing.{Passing};
-    ghost use Rattle.dsde_routes_wiring.specs.contracts.row.Passing as passing;
-
-    ghost Value = { List (Name × List Passing) };
-
-    ghost coded = { coded_list (coded× (name.the_row.coded) (coded_list (passing.the_row.coded))) };
-
-    ghost view = { λ comes. comes.kids.entries };
-}
-
 impl Comes {
-    pub fn new(alloc: Global) -> Comes
-        ensures { result ≡ [] }
+    fn new(alloc: Global) -> Comes
+        ensures boss { result.boss ≡ [] }
+        ensures kids { (name : Name) → comes_to result name ≡ [] }
     {
         Comes {
+            boss: Seq::new(alloc),
             kids: BTreeMap::new(alloc),
         }
     }
@@ -52,21 +46,56 @@ impl Comes {
         }
     }
 
-    /// Takes what came to the component of this name out, so that more can be added.
-    pub fn take(&mut self, alloc: Global, name: &Name) -> Seq<Passing>
-        ensures taken { result ≡ comes_to self.old name.now }
-        ensures left { (other : Name) → comes_to self.new other ≡ (if is_same_name name.now other then [] else comes_to self.old other) }
+    /// Adds the ways over the link of this number, if it leads to the executive or to a component.
+    fn add(
+        &mut self,
+        alloc: Global,
+        number: usize,
+        link: &Link,
+        come: Come<'_>,
+        boss: Handle,
+        kids: &Sents,
+    ) -> Result<(), Memory>
+        ensures boss { OnOk result (self.new.boss ≡ self.old.boss ++ (if is_part link.now.to.part part.Boss then carry (from_parts (come_of come.entry) boss kids.now) number link.now else [])) }
+        ensures kids { OnOk result ((name : Name) → comes_to self.new name ≡ comes_to self.old name ++ (if is_part link.now.to.part (part.Kid name) then carry (from_parts (come_of come.entry) boss kids.now) number link.now else [])) }
     {
-        self.kids.remove(name).unwrap_or(Seq::new(alloc))
-    }
-
-    /// Puts what comes to the component of this name in, where nothing came to it.
-    pub fn put(&mut self, alloc: Global, name: &Name, list: Seq<Passing>) -> Result<(), Memory>
-        ensures { OnOk result ((other : Name) → comes_to self.new other ≡ (if is_same_name name.now other then list else comes_to self.old other)) }
-    {
-        match self.kids.insert(name.copy(alloc)?, list) {
-            Ok(_) => Ok(()),
-            Err(_) => Err(Memory),
+        match &link.to.part {
+            Part::Net => Ok(()),
+            Part::Boss => carry(alloc, number, link, come, boss, kids, &mut self.boss),
+            Part::Kid(name) => {
+                let list = self
+                    .kids
+                    .entry(name.copy(alloc)?)?
+                    .or_insert(Seq::new(alloc));
+                carry(alloc, number, link, come, boss, kids, list)
+            }
         }
     }
+}
+
+/// The ways that links carry to the executive and to the components of a network.
+fn carried(
+    alloc: Global,
+    links: &[Link],
+    come: Come<'_>,
+    boss: Handle,
+    kids: &Sents,
+) -> Result<Comes, Memory>
+    ensures boss { IfOk result (λ comes. comes.boss ≡ passing (from_parts (come_of come.entry) boss kids.now) 0 links.now part.Boss) }
+    ensures kids { IfOk result (λ comes. (name : Name) → comes_to comes name ≡ passing (from_parts (come_of come.entry) boss kids.now) 0 links.now (part.Kid name)) }
+{
+    let mut comes = Comes::new(alloc);
+    for (number, link) in links.iter().enumerate() {
+        comes.add(alloc, number, link, come, boss, kids)?;
+    }
+    Ok(comes)
+}
+
+/// The ways that come to the executive and to the components of a network, where these come to it.
+pub fn comes_in(alloc: Global, net: &Wiring, come: Come<'_>) -> Result<Comes, Memory>
+    ensures boss { IfOk result (λ comes. comes.boss ≡ ways_to net.now (come_of come.entry) part.Boss) }
+    ensures kids { IfOk result (λ comes. (name : Name) → comes_to comes name ≡ ways_to net.now (come_of come.entry) (part.Kid name)) }
+{
+    let kids = sents(alloc, net.kids.as_slice())?;
+    carried(alloc, net.links.as_slice(), come, net.boss, &kids)
 }

@@ -50,13 +50,8 @@ impl Ports {
     fn add(&mut self, alloc: Global, port: u32, number: usize) -> Result<(), Memory>
         ensures { OnOk result ((other : ℕ) → numbers_of self.new other ≡ numbers_of self.old other ++ (if port == other then number ∷ [] else [])) }
     {
-        let mut numbers = match self.numbers.remove(&port) {
-            Some(numbers) => numbers,
-            None => Seq::new(alloc),
-        };
-        numbers.push(number)?;
-        self.numbers.insert(port, numbers)?;
-        Ok(())
+        let numbers = self.numbers.entry(port)?.or_insert(Seq::new(alloc));
+        numbers.push(number)
     }
 }
 

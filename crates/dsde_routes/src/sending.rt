@@ -54,8 +54,7 @@ pub fn outs(alloc: Global, net: &Wiring) -> Result<Seq<Passing>, Memory>
     ensures ports { IfOk result (λ list. (port : ℕ) → ways_in list port ≡ ways_at (flow net.now).out port) }
 {
     let kids = sents(alloc, net.kids.as_slice())?;
-    let list = to_net(alloc, net.links.as_slice(), net.boss, &kids)?;
-    Ok(list)
+    to_net(alloc, net.links.as_slice(), net.boss, &kids)
 }
 
 /// What the components of a network send.

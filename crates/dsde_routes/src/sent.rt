@@ -62,9 +62,7 @@ impl Sents {
     pub fn add(&mut self, alloc: Global, name: &Name, sent: Sent) -> Result<(), Memory>
         ensures { OnOk result ((other : Name) → found self.new other ≡ added name.now sent self.old other) }
     {
-        if self.kids.get(name).is_none() {
-            self.kids.insert(name.copy(alloc)?, sent)?;
-        }
+        self.kids.entry(name.copy(alloc)?)?.or_insert(sent);
         Ok(())
     }
 }

@@ -1,6 +1,6 @@
 //! Ways that go on over links.
 
-ghost use Rattle.std.specs.Prelude.{◌≡◌, ◌++◌, ◌∷◌, [], map, IfOk, OnOk};
+ghost use Rattle.std.specs.Prelude.{◌≡◌, ◌++◌, ◌∷◌, [], map, option_to_list, IfOk, OnOk};
 ghost use Rattle.dsde_routes_wiring.specs.Ways.{begin, onward};
 ghost use Rattle.dsde_routes.specs.Passing.{at_port, ways_in};
 ghost use Rattle.dsde_routes.specs.Ports.{numbers_at, way_at};
@@ -12,18 +12,35 @@ use dsde_routes_wiring::{Chain, Passing, Rank, Way};
 use dsde_values::Seq;
 use std::alloc::Global;
 
+/// A way that has no links yet.
+fn bare_way(alloc: Global, source: Handle, port: u32) -> Way
+    ensures { result ∷ [] ≡ begin source port }
+{
+    Way {
+        source,
+        port,
+        rank: Rank::new(alloc),
+        chain: Chain::new(alloc),
+    }
+}
+
+/// Adds a link, and behind it the links of a way that goes on over it.
+fn lead_on(alloc: Global, number: usize, link: &Link, way: &Way, on: &mut Way) -> Result<(), Memory>
+    ensures { OnOk result (on.new ≡ record on.old { rank = (on.old.rank ++ number ∷ []) ++ way.now.rank; chain = (on.old.chain ++ way.now.chain) ++ option_to_list link.now.via }) }
+{
+    on.rank.push(number)?;
+    on.rank.append(way.rank.as_slice())?;
+    on.chain.append(alloc, way.chain.as_slice())?;
+    on.chain.append_link(alloc, link)
+}
+
 /// A way that goes on over the link of this number.
-pub fn go_on(alloc: Global, number: usize, link: &Link, way: &Way) -> Result<Way, Memory>
+fn go_on(alloc: Global, number: usize, link: &Link, way: &Way) -> Result<Way, Memory>
     ensures { IfOk result (λ on. on ≡ onward number link.now way.now) }
 {
-    let mut chain = way.chain.copy(alloc)?;
-    chain.append_link(alloc, link)?;
-    Ok(Way {
-        source: way.source,
-        port: way.port,
-        rank: way.rank.behind(alloc, number)?,
-        chain,
-    })
+    let mut on = bare_way(alloc, way.source, way.port);
+    lead_on(alloc, number, link, way, &mut on)?;
+    Ok(on)
 }
 
 /// Adds the way that goes on from this one over a link.
@@ -52,12 +69,7 @@ pub fn begin_over(
 ) -> Result<(), Memory>
     ensures { OnOk result (ways.new ≡ ways.old ++ map (λ way. at_port link.now.to.port (onward number link.now way)) (begin source link.now.from.port)) }
 {
-    let first = Way {
-        source,
-        port: link.from.port,
-        rank: Rank::new(alloc),
-        chain: Chain::new(alloc),
-    };
+    let first = bare_way(alloc, source, link.from.port);
     let done = push_on(alloc, number, link, &first, ways);
     drop(first);
     done
@@ -96,16 +108,4 @@ pub fn go_over(
         go_numbered(alloc, number, link, come, *own, ways)?;
     }
     Ok(())
-}
-
-/// A way equal to this one.
-pub fn copy_way(alloc: Global, way: &Way) -> Result<Way, Memory>
-    ensures { IfOk result (λ copy. copy ≡ way.now) }
-{
-    Ok(Way {
-        source: way.source,
-        port: way.port,
-        rank: way.rank.copy(alloc)?,
-        chain: way.chain.copy(alloc)?,
-    })
 }

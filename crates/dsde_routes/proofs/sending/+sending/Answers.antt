@@ -8,19 +8,24 @@ use Rattle.dsde_routes_wiring.specs.Flatten.{flow_of_kid}
 use Rattle.dsde_routes.specs.Passing.{from_parts, passing}
 use Rattle.dsde_routes.specs.Sending.{Sends}
 use Rattle.dsde_routes.proofs.Flows.{outs-are, outs-list, one-more, kid-name, kid-more, kid-none}
+use Rattle.dsde_routes.proofs.Numbered.{ok-if}
 use Rattle.dsde_routes.proofs.sending.+sending.Goals as goal
 
 pub outs-returns-clause-list : goal.outs-returns-clause-list
 outs-returns-clause-list t c =
-    outs-list c.args.net.now c.in_ok-kids.kids c.in_ok-list.list
+    ok-if c.to_net.result _ _
+    (λ list is. outs-list c.args.net.now c.in_ok-kids.kids list
     (subst (λ (kids : List WiredKid). Sends c.in_ok-kids.kids (map flow_of_kid kids)) c.as_slice.ensures c.in_ok-kids.ensures)
-    (c.in_ok-list.ensures ∙ ap (λ (links : List Link). passing (from_parts nowhere (out-Wiring c.args.net.now).boss c.in_ok-kids.kids) 0 links part.Net) c.as_slice-2.ensures)
+    (is ∙ ap (λ (links : List Link). passing (from_parts nowhere (out-Wiring c.args.net.now).boss c.in_ok-kids.kids) 0 links part.Net) c.as_slice-2.ensures))
+    c.to_net.ensures
 
 pub outs-returns-clause-ports : goal.outs-returns-clause-ports
 outs-returns-clause-ports t c =
-    outs-are c.args.net.now c.in_ok-kids.kids c.in_ok-list.list
+    ok-if c.to_net.result _ _
+    (λ list is. outs-are c.args.net.now c.in_ok-kids.kids list
     (subst (λ (kids : List WiredKid). Sends c.in_ok-kids.kids (map flow_of_kid kids)) c.as_slice.ensures c.in_ok-kids.ensures)
-    (c.in_ok-list.ensures ∙ ap (λ (links : List Link). passing (from_parts nowhere (out-Wiring c.args.net.now).boss c.in_ok-kids.kids) 0 links part.Net) c.as_slice-2.ensures)
+    (is ∙ ap (λ (links : List Link). passing (from_parts nowhere (out-Wiring c.args.net.now).boss c.in_ok-kids.kids) 0 links part.Net) c.as_slice-2.ensures))
+    c.to_net.ensures
 
 pub sents-loop-kid-preserved : goal.sents-loop-kid-preserved
 sents-loop-kid-preserved t c =
