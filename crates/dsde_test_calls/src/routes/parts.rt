@@ -1,10 +1,11 @@
 //! What words of a line tell.
 
+use crate::names::name_of;
 use dsde_bank::Handle;
 use dsde_language::ViaId;
-use dsde_lists::{Memory, Stem};
+use dsde_lists::Memory;
 use dsde_structure::{End, Link, Part, Via};
-use dsde_values::Name;
+use dsde_values::{Name, Seq};
 use std::alloc::Global;
 
 /// The word of this number of a line.
@@ -24,14 +25,16 @@ pub(crate) fn handle_of(birth: u64) -> Handle {
     }
 }
 
-/// The name that a word spells: a stem, and behind a point an index, if there is one.
-pub(crate) fn named(alloc: Global, word: &str) -> Result<Name, Memory> {
-    let (stem, index) = word.split_once('.').unwrap_or((word, ""));
-    let index = index.parse::<u64>().ok();
-    match Stem::from_slice(alloc, stem.as_bytes()) {
-        Ok(stem) => Ok(Name { stem, index }),
-        Err(memory) => Err(memory),
+/// Adds the names that words spell; whether there was memory for them.
+pub(crate) fn add_names(alloc: Global, words: &str, names: &mut Seq<Name>) -> bool {
+    let mut held = true;
+    for word in words.split_whitespace() {
+        match name_of(alloc, word) {
+            Ok(name) => held &= names.push(name).is_ok(),
+            Err(_) => held = false,
+        }
     }
+    held
 }
 
 /// The part that a word names: `net`, `exec` or a component.
@@ -39,7 +42,7 @@ fn part(alloc: Global, word: &str) -> Result<Part, Memory> {
     match word {
         "net" => Ok(Part::Net),
         "exec" => Ok(Part::Boss),
-        _ => match named(alloc, word) {
+        _ => match name_of(alloc, word) {
             Ok(name) => Ok(Part::Kid(name)),
             Err(memory) => Err(memory),
         },

@@ -3,8 +3,9 @@
 ghost use Rattle.std.specs.Prelude.{◌≡◌, OnOk};
 ghost use Rattle.dsde_routes_wiring.specs.Flatten.{flatten};
 
+use crate::names::name_of;
 use crate::routes::drawing::draw;
-use crate::routes::parts::{handle_of, link, named, number, word};
+use crate::routes::parts::{add_names, handle_of, link, number, word};
 use crate::routes::rows::{compare, show_all, turn};
 use dsde_bank::Handle;
 use dsde_base::Steps;
@@ -30,7 +31,7 @@ pub(crate) struct Script {
     links: Seq<Link>,
     place: Seq<Name>,
     gone: Seq<Name>,
-    fresh: Wiring,
+    fresh: Told,
     wiring: Wiring,
     table: RouteTable,
     before: RouteTable,
@@ -38,6 +39,13 @@ pub(crate) struct Script {
     fitting: u64,
     wrong: u64,
     pub(crate) lost: bool,
+}
+
+/// The components and the links that lines have told of a network.
+#[derive(Drop)]
+struct Told {
+    kids: Seq<WiredKid>,
+    links: Links,
 }
 
 /// A network without components and links.
@@ -57,7 +65,10 @@ impl Script {
             links: Seq::new(alloc),
             place: Seq::new(alloc),
             gone: Seq::new(alloc),
-            fresh: empty(alloc),
+            fresh: Told {
+                kids: Seq::new(alloc),
+                links: Links::new(alloc),
+            },
             wiring: empty(alloc),
             table: RouteTable::new(alloc),
             before: RouteTable::new(alloc),
@@ -117,7 +128,7 @@ impl Script {
         }
     }
 
-    /// Takes a line, or writes it as it stands, if it tells nothing.
+    /// Takes a line.
     fn take<L: Ledger>(
         &mut self,
         alloc: Global,
@@ -133,6 +144,20 @@ impl Script {
             "workers" => self.workers(alloc, words),
             "at" => self.at(alloc, words),
             "gone" => self.go(alloc, words),
+            _ => self.act(alloc, line, changes, lines),
+        }
+    }
+
+    /// Takes a line that has something done with what was told, or writes it as it stands, if it has not.
+    fn act<L: Ledger>(
+        &mut self,
+        alloc: Global,
+        line: &str,
+        changes: &mut Steps<L>,
+        lines: &mut String,
+    ) {
+        let (order, words) = line.split_once(' ').unwrap_or((line, ""));
+        match order {
             "root" => self.root(alloc, changes),
             "change" => self.change(alloc, words, changes, lines),
             "rows" => self.rows(alloc, lines),
@@ -180,7 +205,7 @@ impl Script {
     /// its port is 0.
     fn worker(&mut self, alloc: Global, index: u64) {
         let birth = index.saturating_mul(2).saturating_add(1000);
-        match format!(in alloc; "w.{index} {birth} net 0") {
+        match format!(in alloc; "w[{index}] {birth} net 0") {
             Ok(words) => {
                 self.leaf(alloc, words.as_str());
                 self.add_link(alloc, words.as_str());
@@ -190,7 +215,7 @@ impl Script {
     }
 
     fn add_kid(&mut self, alloc: Global, word: &str, handle: Handle, below: Option<Boxed<Wiring>>) {
-        match named(alloc, word) {
+        match name_of(alloc, word) {
             Ok(name) => {
                 let kid = WiredKid {
                     name,
@@ -206,22 +231,14 @@ impl Script {
         }
     }
 
-    /// A network round the last components, with the links that were told since the one before.
-    fn net(
-        &mut self,
-        alloc: Global,
-        me: Handle,
-        boss: Handle,
-        count: u64,
-    ) -> Result<Wiring, Memory> {
+    /// So many of the last components, and the links that were told since this was last asked for.
+    fn told(&mut self, alloc: Global, count: u64) -> Result<Told, Memory> {
         let links = Links::of(alloc, mem::replace(&mut self.links, Seq::new(alloc)))?;
         let first = self.kids.len().saturating_sub(count as usize);
         match self.kids.split_off(first) {
-            Ok(kids) => Ok(Wiring {
-                me,
-                boss,
-                links,
+            Ok(kids) => Ok(Told {
                 kids: Seq::from_vec(kids),
+                links,
             }),
             Err(_) => {
                 drop(links);
@@ -234,21 +251,30 @@ impl Script {
     fn network(&mut self, alloc: Global, words: &str) {
         let me = self.handle(words, 1);
         let boss = self.handle(words, 2);
-        match self.boxed_net(alloc, me, boss, number(words, 3)) {
+        match self.net(alloc, me, boss, number(words, 3)) {
             Ok(below) => self.add_kid(alloc, word(words, 0), me, Some(below)),
             Err(_) => self.lost = true,
         }
     }
 
-    fn boxed_net(
+    /// A network round the last components.
+    fn net(
         &mut self,
         alloc: Global,
         me: Handle,
         boss: Handle,
         count: u64,
     ) -> Result<Boxed<Wiring>, Memory> {
-        let net = self.net(alloc, me, boss, count)?;
-        Boxed::new(alloc, net)
+        let Told { kids, links } = self.told(alloc, count)?;
+        Boxed::new(
+            alloc,
+            Wiring {
+                me,
+                boss,
+                links,
+                kids,
+            },
+        )
     }
 
     /// `root`: the last network is the whole.
@@ -276,22 +302,12 @@ impl Script {
     fn at(&mut self, alloc: Global, words: &str) {
         self.gone.truncate(0);
         self.place.truncate(0);
-        for word in words.split_whitespace() {
-            match named(alloc, word) {
-                Ok(name) => self.lost |= self.place.push(name).is_err(),
-                Err(_) => self.lost = true,
-            }
-        }
+        self.lost |= !add_names(alloc, words, &mut self.place);
     }
 
     /// `gone NAME..`: the components of these names go.
     fn go(&mut self, alloc: Global, words: &str) {
-        for word in words.split_whitespace() {
-            match named(alloc, word) {
-                Ok(name) => self.lost |= self.gone.push(name).is_err(),
-                Err(_) => self.lost = true,
-            }
-        }
+        self.lost |= !add_names(alloc, words, &mut self.gone);
     }
 
     /// `change COUNT`: the network at the place loses what goes, gets the last components, and the links
@@ -303,7 +319,7 @@ impl Script {
         changes: &mut Steps<L>,
         lines: &mut String,
     ) {
-        match self.net(alloc, handle_of(0), handle_of(0), number(words, 0)) {
+        match self.told(alloc, number(words, 0)) {
             Ok(fresh) => drop(mem::replace(&mut self.fresh, fresh)),
             Err(_) => self.lost = true,
         }
@@ -314,38 +330,22 @@ impl Script {
         }
     }
 
-    /// Makes the change of the wiring and its table, which is built anew before, if it fits; whether it does.
+    /// Builds the table anew, and makes the change that was told, if it fits; whether it does.
     fn repaired<L: Ledger>(
         &mut self,
         alloc: Global,
         changes: &mut Steps<L>,
     ) -> Result<bool, Memory> {
         self.build(alloc, changes)?;
-        if !fits_change(
-            alloc,
-            &self.wiring,
-            self.place.as_slice(),
-            self.gone.as_slice(),
-            self.fresh.kids.as_slice(),
-            self.fresh.links.as_slice(),
-        )? {
-            return Ok(false);
-        }
-        let kids = mem::replace(&mut self.fresh.kids, Seq::new(alloc));
-        let links = mem::replace(&mut self.fresh.links, Links::new(alloc));
-        match repair(
+        repair_fitting(
             alloc,
             &mut self.table,
             &mut self.wiring,
             self.place.as_slice(),
             self.gone.as_slice(),
-            kids,
-            links,
+            &mut self.fresh,
             changes,
-        ) {
-            Ok(()) => Ok(true),
-            Err(memory) => Err(memory),
-        }
+        )
     }
 
     /// Tells how many rows went and came, and in how many the table that was repaired differs from one that
@@ -390,5 +390,30 @@ impl Script {
             let answer = turn(alloc, &mut self.table, row, changes);
             self.show(answer, lines);
         }
+    }
+}
+
+/// Makes a change of a wiring and its table, with the components and the links that come, if it fits; whether it
+/// does.
+fn repair_fitting<L: Ledger>(
+    alloc: Global,
+    table: &mut RouteTable,
+    wiring: &mut Wiring,
+    place: &[Name],
+    gone: &[Name],
+    fresh: &mut Told,
+    changes: &mut Steps<L>,
+) -> Result<bool, Memory>
+    requires { table.old ≡ flatten wiring.old }
+{
+    let kids = fresh.kids.as_slice();
+    if !fits_change(alloc, wiring, place, gone, kids, fresh.links.as_slice())? {
+        return Ok(false);
+    }
+    let kids = mem::replace(&mut fresh.kids, Seq::new(alloc));
+    let links = mem::replace(&mut fresh.links, Links::new(alloc));
+    match repair(alloc, table, wiring, place, gone, kids, links, changes) {
+        Ok(()) => Ok(true),
+        Err(memory) => Err(memory),
     }
 }
