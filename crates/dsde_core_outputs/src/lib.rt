@@ -18,7 +18,7 @@ mod turn;
 pub use called_laws::{called_fit, called_live, called_move, due_are_called, root_is_sent};
 pub use due::due_movers;
 pub use network::net_movers;
-pub use order::{few, in_path_order};
+pub use order::{have_few_ports, in_path_order};
 pub use root_laws::{
     full_inboxes_call, outlets_fill_inboxes, outputs_come_of_asking, roots_are_networks,
 };

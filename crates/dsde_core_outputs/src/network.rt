@@ -27,7 +27,7 @@ ghost use Rattle.dsde_core_outputs.specs.Rows.{HasRows};
 ghost use Rattle.dsde_core_outputs.specs.Rooting.{outs_of, taken_by, AreReady, AreSent, FillInboxes};
 
 use crate::{
-    due_movers, few, full_inboxes_call, in_path_order, outlets_fill_inboxes,
+    due_movers, full_inboxes_call, have_few_ports, in_path_order, outlets_fill_inboxes,
     outputs_come_of_asking, roots_are_networks, take_gets, told_movers,
 };
 use dsde_base::Steps;
@@ -229,7 +229,7 @@ fn all_called<L: Ledger>(
     let called = due_movers(alloc, program, &flat.grove, due, &mut left, looks)?;
     let told = told_movers(alloc, program, &flat.grove, left, time, looks)?;
     let movers = in_path_order(called, told)?;
-    few(movers.as_slice())?;
+    have_few_ports(movers.as_slice())?;
     Ok(movers)
 }
 

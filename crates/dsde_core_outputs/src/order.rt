@@ -9,7 +9,7 @@ use dsde_sim_working::given::check_tables::narrow;
 use dsde_values::{Memory, Seq, compare_paths};
 
 /// No mover gets values at more ports than 32 bits count, or `Memory`.
-pub fn few(movers: &[Mover]) -> Result<(), Memory>
+pub fn have_few_ports(movers: &[Mover]) -> Result<(), Memory>
     ensures { IfOk result (λ all. AllByRecursion IsFew movers.now) }
 {
     for mover in movers {
