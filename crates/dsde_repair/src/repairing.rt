@@ -41,8 +41,8 @@ pub fn repair<L: Ledger>(
     wiring: &mut Wiring,
     place: &[Name],
     gone: &[Name],
-    mut fresh: Seq<WiredKid>,
-    mut links: Links,
+    fresh: Seq<WiredKid>,
+    links: Links,
     changes: &mut Steps<L>,
 ) -> Result<(), Memory>
     requires table { table.old ≡ flatten wiring.old }
@@ -63,9 +63,7 @@ pub fn repair<L: Ledger>(
 {
     let mut old = room_for(alloc, place, wiring.links.as_slice());
     let mut new = room_for(alloc, place, links.as_slice());
-    change(
-        alloc, wiring, place, gone, &mut fresh, &mut links, &mut old, &mut new,
-    )?;
+    change(alloc, wiring, place, gone, fresh, links, &mut old, &mut new)?;
     remove_all(table, old.as_slice(), changes);
     insert_all(table, new, changes)
 }
@@ -83,9 +81,33 @@ fn room_for(alloc: Global, place: &[Name], links: &[Link]) -> Seq<Row>
 }
 
 /// Changes the network at a place of a wiring, and adds the rows that the change takes out of the wiring's
-/// table to the old ones, and those that it puts in to the new ones. The fresh components and the links are
-/// taken out of what is handed in, so that after an error there is one place where they are dropped.
+/// table to the old ones, and those that it puts in to the new ones.
 fn change(
+    alloc: Global,
+    wiring: &mut Wiring,
+    place: &[Name],
+    gone: &[Name],
+    mut fresh: Seq<WiredKid>,
+    mut links: Links,
+    old: &mut Seq<Row>,
+    new: &mut Seq<Row>,
+) -> Result<(), Memory>
+    requires there { LeadsThere place.now wiring.old }
+    requires wired { AreWired wiring.old }
+    requires gone { AreInOrder gone.now }
+    requires names { IsDistinct is_same_name (map name_of (kids_after place.now gone.now fresh wiring.old)) }
+    requires below { AllByRecursion IsBelowWired fresh }
+    requires links { AllByRecursion LeadsInside links }
+    ensures wiring { OnOk result ((kids : List WiredKid) × IsPermutation (kids_after place.now gone.now fresh wiring.old) kids × InOrder kids × (wiring.new ≡ wiring_after place.now kids links wiring.old)) }
+    ensures old { OnOk result (old.new ≡ old.old ++ rows_out place.now gone.now wiring.old) }
+    ensures new { OnOk result (new.new ≡ new.old ++ rows_in place.now fresh wiring.new) }
+{
+    change_to(alloc, wiring, place, gone, &mut fresh, &mut links, old, new)
+}
+
+/// The same with fresh components and links that are taken out of what is handed in: whatever becomes of the
+/// change, what is left of them is dropped in one place.
+fn change_to(
     alloc: Global,
     wiring: &mut Wiring,
     place: &[Name],

@@ -8,7 +8,7 @@ use Rattle.dsde_routes_wiring.specs.Routes.{own, row_of}
 use Rattle.dsde_routes_wiring.specs.Wired.{AreWired}
 use Rattle.dsde_repair_walks.specs.Places.{IsBelowWired}
 use Rattle.dsde_repair.proofs.Changing.{ok-const, ok-map, after-wired}
-use Rattle.dsde_repair.proofs.repairing.change.Goals as goal
+use Rattle.dsde_repair.proofs.repairing.change_to.Goals as goal
 
 pub add_inside-requires : goal.add_inside-requires
 add_inside-requires c = subst (AllByRecursion IsBelowWired) (sym c.as_slice.ensures) c.requires.below
