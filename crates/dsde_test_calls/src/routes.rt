@@ -3,11 +3,11 @@
 //! one that is built anew.
 //!
 //! `leaf NAME BIRTH`, `link FROM PORT TO PORT [TRANSLATION]` and `network NAME BIRTH BIRTH COUNT` put a
-//! wiring together from the inside out, `workers COUNT` many components with a link each to the
-//! network's out port, and `root` takes the last network for the whole. `rows` writes its rows, `count`
-//! their number, `twice BIRTH` what a table answers where the first row from there is taken out twice and
-//! put in twice. `at NAME..`, `gone NAME..`, components and links, and then `change COUNT` change the
-//! network at a place, whose fresh components are the last ones. Other lines are written as they stand.
+//! wiring together from the inside out, and `root` takes the last network for the whole. `rows` writes its
+//! rows, `count` their number, `twice BIRTH` what a table answers where the first row from there is taken
+//! out twice and put in twice. `at NAME..`, `gone NAME..`, components and links, and then `change COUNT`
+//! change the network at a place, whose fresh components are the last ones. Other lines are written as
+//! they stand.
 //!
 //! The last line is `draw COUNT`. Behind it stands a pattern of a wiring and of two changes of it, in which
 //! `/a|b|c/` stands for one of the words, drawn anew each time; its lines are taken until there are so many

@@ -6,7 +6,7 @@ use dsde_lists::Memory;
 use dsde_routes_table::RouteTable;
 use dsde_routes_wiring::Row;
 use dsde_structure::Via;
-use std::alloc::{AllocError, Global};
+use std::alloc::Global;
 use std::sync::ledger::Ledger;
 
 /// Takes rows out of a table; how many of them it did not have.
@@ -43,35 +43,37 @@ pub(crate) fn compare<L: Ledger>(
 pub(crate) fn show_all(lines: &mut String, rows: &[Row]) -> bool {
     let mut held = true;
     for row in rows {
-        held &= show(lines, row).is_ok();
+        held &= show(lines, row);
     }
     held
 }
 
 /// The source and the target of a row by birth and port, its rank, and its translations.
-fn show(lines: &mut String, row: &Row) -> Result<(), AllocError> {
+fn show(lines: &mut String, row: &Row) -> bool {
     let source = row.source.birth;
     let out = row.source_port;
     let target = row.target.birth;
     let port = row.target_port;
-    write!(lines, "{source} {out} to {target} {port} rank")?;
-    show_rank(lines, row.rank.as_slice())?;
-    show_chain(lines, row.chain.as_slice())
+    let ends = write!(lines, "{source} {out} to {target} {port} rank").is_ok();
+    let rank = show_rank(lines, row.rank.as_slice());
+    ends & rank & show_chain(lines, row.chain.as_slice())
 }
 
-fn show_rank(lines: &mut String, rank: &[usize]) -> Result<(), AllocError> {
+fn show_rank(lines: &mut String, rank: &[usize]) -> bool {
+    let mut held = true;
     for number in rank {
-        write!(lines, " {number}")?;
+        held &= write!(lines, " {number}").is_ok();
     }
-    lines.push_str(" chain")
+    held & lines.push_str(" chain").is_ok()
 }
 
-fn show_chain(lines: &mut String, chain: &[Via]) -> Result<(), AllocError> {
+fn show_chain(lines: &mut String, chain: &[Via]) -> bool {
+    let mut held = true;
     for via in chain {
         let id = via.id.0;
-        write!(lines, " {id}")?;
+        held &= write!(lines, " {id}").is_ok();
     }
-    lines.push_str("\n")
+    held & lines.push_str("\n").is_ok()
 }
 
 /// Takes a row out of a table and puts it in, twice each; what the table answers.

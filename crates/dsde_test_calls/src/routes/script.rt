@@ -93,11 +93,9 @@ impl Script {
         let count = number(pattern, 0);
         let fitting = self.fitting;
         let wrong = self.wrong;
-        self.lost |= writeln!(
-            lines,
-            "drawn {count}, fitting {fitting}, {wrong} rows wrong"
-        )
-        .is_err();
+        self.tell(count, " drawn, ", lines);
+        self.tell(fitting, " fitting, ", lines);
+        self.tell(wrong, " rows wrong\n", lines);
     }
 
     /// Takes lines.
@@ -128,7 +126,7 @@ impl Script {
         }
     }
 
-    /// Takes a line.
+    /// Takes a line, or writes it as it stands, if it tells nothing.
     fn take<L: Ledger>(
         &mut self,
         alloc: Global,
@@ -141,23 +139,8 @@ impl Script {
             "leaf" => self.leaf(alloc, words),
             "link" => self.add_link(alloc, words),
             "network" => self.network(alloc, words),
-            "workers" => self.workers(alloc, words),
             "at" => self.at(alloc, words),
             "gone" => self.go(alloc, words),
-            _ => self.act(alloc, line, changes, lines),
-        }
-    }
-
-    /// Takes a line that has something done with what was told, or writes it as it stands, if it has not.
-    fn act<L: Ledger>(
-        &mut self,
-        alloc: Global,
-        line: &str,
-        changes: &mut Steps<L>,
-        lines: &mut String,
-    ) {
-        let (order, words) = line.split_once(' ').unwrap_or((line, ""));
-        match order {
             "root" => self.root(alloc, changes),
             "change" => self.change(alloc, words, changes, lines),
             "rows" => self.rows(alloc, lines),
@@ -165,6 +148,11 @@ impl Script {
             "twice" => self.twice(alloc, words, changes, lines),
             _ => self.show(line, lines),
         }
+    }
+
+    /// Writes a number, and the words behind it.
+    fn tell(&mut self, number: u64, words: &str, lines: &mut String) {
+        self.lost |= write!(lines, "{number}{words}").is_err();
     }
 
     fn show(&mut self, line: &str, lines: &mut String) {
@@ -190,26 +178,6 @@ impl Script {
     fn add_link(&mut self, alloc: Global, words: &str) {
         match link(alloc, words) {
             Ok(own) => self.lost |= self.links.push(own).is_err(),
-            Err(_) => self.lost = true,
-        }
-    }
-
-    /// `workers COUNT`: so many components, and the link of each to the network's out port.
-    fn workers(&mut self, alloc: Global, words: &str) {
-        for index in 0..number(words, 0) {
-            self.worker(alloc, index);
-        }
-    }
-
-    /// Component `w` of a number, and its link, both in one line: its birth is even, so that the number of
-    /// its port is 0.
-    fn worker(&mut self, alloc: Global, index: u64) {
-        let birth = index.saturating_mul(2).saturating_add(1000);
-        match format!(in alloc; "w[{index}] {birth} net 0") {
-            Ok(words) => {
-                self.leaf(alloc, words.as_str());
-                self.add_link(alloc, words.as_str());
-            }
             Err(_) => self.lost = true,
         }
     }
@@ -337,15 +305,31 @@ impl Script {
         changes: &mut Steps<L>,
     ) -> Result<bool, Memory> {
         self.build(alloc, changes)?;
-        repair_fitting(
+        if !fits_change(
+            alloc,
+            &self.wiring,
+            self.place.as_slice(),
+            self.gone.as_slice(),
+            self.fresh.kids.as_slice(),
+            self.fresh.links.as_slice(),
+        )? {
+            return Ok(false);
+        }
+        let kids = mem::replace(&mut self.fresh.kids, Seq::new(alloc));
+        let links = mem::replace(&mut self.fresh.links, Links::new(alloc));
+        match repair(
             alloc,
             &mut self.table,
             &mut self.wiring,
             self.place.as_slice(),
             self.gone.as_slice(),
-            &mut self.fresh,
+            kids,
+            links,
             changes,
-        )
+        ) {
+            Ok(()) => Ok(true),
+            Err(memory) => Err(memory),
+        }
     }
 
     /// Tells how many rows went and came, and in how many the table that was repaired differs from one that
@@ -357,7 +341,9 @@ impl Script {
         let wrong = lacking.saturating_add(more);
         self.fitting = self.fitting.saturating_add(1);
         self.wrong = self.wrong.saturating_add(wrong);
-        self.lost |= writeln!(lines, "{gone} rows gone, {fresh} new, {wrong} wrong").is_err();
+        self.tell(gone, " rows gone, ", lines);
+        self.tell(fresh, " new, ", lines);
+        self.tell(wrong, " wrong\n", lines);
     }
 
     /// `rows`: a line for each.
@@ -373,7 +359,7 @@ impl Script {
     /// `count`: how many rows there are.
     fn count<L: Ledger>(&mut self, alloc: Global, changes: &mut Steps<L>, lines: &mut String) {
         let (count, _) = compare(&self.table, &mut RouteTable::new(alloc), self.last, changes);
-        self.lost |= writeln!(lines, "{count} rows").is_err();
+        self.tell(count, " rows\n", lines);
     }
 
     /// `twice BIRTH`: the first row from port 0 of that source, taken out and put in, twice each.
@@ -390,30 +376,5 @@ impl Script {
             let answer = turn(alloc, &mut self.table, row, changes);
             self.show(answer, lines);
         }
-    }
-}
-
-/// Makes a change of a wiring and its table, with the components and the links that come, if it fits; whether it
-/// does.
-fn repair_fitting<L: Ledger>(
-    alloc: Global,
-    table: &mut RouteTable,
-    wiring: &mut Wiring,
-    place: &[Name],
-    gone: &[Name],
-    fresh: &mut Told,
-    changes: &mut Steps<L>,
-) -> Result<bool, Memory>
-    requires { table.old ≡ flatten wiring.old }
-{
-    let kids = fresh.kids.as_slice();
-    if !fits_change(alloc, wiring, place, gone, kids, fresh.links.as_slice())? {
-        return Ok(false);
-    }
-    let kids = mem::replace(&mut fresh.kids, Seq::new(alloc));
-    let links = mem::replace(&mut fresh.links, Links::new(alloc));
-    match repair(alloc, table, wiring, place, gone, kids, links, changes) {
-        Ok(()) => Ok(true),
-        Err(memory) => Err(memory),
     }
 }
